@@ -230,7 +230,7 @@ fn refuse_burial<S: Shelf, V: Disk>(
 ) -> OpAnswer
     requires refused { IsRefusedBurial world.old call refusal }
     ensures same { result ≡ refusal }
-    ensures stops { TellsRefusal (meaning S.contents S.tells S.may_leave S.fault_count V.tells V.may_leave V.fault_count) world.old refusal world.new }
+    ensures stops { TellsRefusal (meaning S.Shelf V.Disk) world.old refusal world.new }
 {
     match refusal {
         OpAnswer::Stopped(told) => {
@@ -386,7 +386,7 @@ fn stop<S: Shelf, V: Disk>(world: &mut SteadyWorld<S, V>, call: u32, told: Answe
     requires calling { IsCollectingCall world.old }
     requires undone { is_done told ≡ false }
     ensures same { result ≡ OpAnswer.Stopped told }
-    ensures stops { Stops (meaning S.contents S.tells S.may_leave S.fault_count V.tells V.may_leave V.fault_count) world.old told world.new }
+    ensures stops { Stops (meaning S.Shelf V.Disk) world.old told world.new }
 {
     let answer = world.end_collect(call, told);
     world.tell(OpAnswer::Stopped(answer))

@@ -41,8 +41,8 @@ impl<S: Shelf, V: Disk> SteadyWorld<S, V> {
         requires may { MayBegin self.old caller call key.now program.now }
         ensures full { IsErrOf result Answer.RecordFull ↔ IsFull self.old caller }
         ensures long { IsErrOf result Answer.RecordFull → 999000 < length self.old.marks }
-        ensures cause { IfErr result (λ told. BeginsBy (meaning S.contents S.tells S.may_leave S.fault_count V.tells V.may_leave V.fault_count) self.old caller key.now told self.new) }
-        ensures step { BeginsOrNot (meaning S.contents S.tells S.may_leave S.fault_count V.tells V.may_leave V.fault_count) self.old caller call key.now program.now result self.new }
+        ensures cause { IfErr result (λ told. BeginsBy (meaning S.Shelf V.Disk) self.old caller key.now told self.new) }
+        ensures step { BeginsOrNot (meaning S.Shelf V.Disk) self.old caller call key.now program.now result self.new }
     {
         self.world.begin(caller, call, key, program)
     }
@@ -51,8 +51,8 @@ impl<S: Shelf, V: Disk> SteadyWorld<S, V> {
     pub fn turn(&mut self, proposer: u8, verdict: Verdict) -> Result<(), AllocError>
         requires proposer { proposer ≤ self.old.last_proposer }
         requires waits { (queue_at self.old.flow (place_of self.old proposer)).messages ≢ [] }
-        ensures ok { OnOk result (Step (meaning S.contents S.tells S.may_leave S.fault_count V.tells V.may_leave V.fault_count) self.old (turn_of self.old proposer verdict) self.new) }
-        ensures err { OnErr result (Step (meaning S.contents S.tells S.may_leave S.fault_count V.tells V.may_leave V.fault_count) self.old (refusal_of self.old proposer) self.new) }
+        ensures ok { OnOk result (Step (meaning S.Shelf V.Disk) self.old (turn_of self.old proposer verdict) self.new) }
+        ensures err { OnErr result (Step (meaning S.Shelf V.Disk) self.old (refusal_of self.old proposer) self.new) }
     {
         self.world.turn(proposer, verdict)
     }
@@ -61,10 +61,10 @@ impl<S: Shelf, V: Disk> SteadyWorld<S, V> {
     pub fn propose(&mut self, proposer: u8) -> Result<(), Answer>
         requires known { proposer ≤ self.old.last_proposer }
         requires preparing { IsInPhase self.old proposer true }
-        ensures step { Step (meaning S.contents S.tells S.may_leave S.fault_count V.tells V.may_leave V.fault_count) self.old (Propose proposer) self.new }
+        ensures step { Step (meaning S.Shelf V.Disk) self.old (Propose proposer) self.new }
         ensures proposed { OnOk result (HasProposed self.new proposer) }
         ensures told { (caller : CallerView) → slice_get self.old.callers proposer ≡ Some caller → IfErr result (WasTold self.new proposer caller.number) }
-        ensures cause { IfErr result (λ told. PreparesBy (meaning S.contents S.tells S.may_leave S.fault_count V.tells V.may_leave V.fault_count) self.old proposer told self.new) }
+        ensures cause { IfErr result (λ told. PreparesBy (meaning S.Shelf V.Disk) self.old proposer told self.new) }
         ensures above { S.tells → V.tells → IfErr result (TellsAbove self.old proposer) }
     {
         self.world.propose(proposer)
@@ -74,11 +74,11 @@ impl<S: Shelf, V: Disk> SteadyWorld<S, V> {
     pub fn count(&mut self, proposer: u8) -> Answer
         requires known { proposer ≤ self.old.last_proposer }
         requires counting { IsInPhase self.old proposer false }
-        ensures step { Step (meaning S.contents S.tells S.may_leave S.fault_count V.tells V.may_leave V.fault_count) self.old (Count proposer) self.new }
+        ensures step { Step (meaning S.Shelf V.Disk) self.old (Count proposer) self.new }
         ensures told { (caller : CallerView) → slice_get self.old.callers proposer ≡ Some caller → WasTold self.new proposer caller.number result }
         ensures cause { AcceptsBy self.old proposer result }
         ensures above { S.tells → V.tells → TellsAbove self.old proposer result }
-        ensures kept { S.tells → V.tells → (a : AnAcknowledgment) → Stands (Acked a) (reverse self.new.marks) → IsAboveFloors (reverse self.new.marks) a.key a.ballot → IsKept (meaning S.contents S.tells S.may_leave S.fault_count V.tells V.may_leave V.fault_count) self.new a }
+        ensures kept { S.tells → V.tells → (a : AnAcknowledgment) → Stands (Acked a) (reverse self.new.marks) → IsAboveFloors (reverse self.new.marks) a.key a.ballot → IsKept (meaning S.Shelf V.Disk) self.new a }
     {
         self.world.count(proposer)
     }
@@ -88,7 +88,7 @@ impl<S: Shelf, V: Disk> SteadyWorld<S, V> {
         requires known { caller ≤ self.old.last_proposer }
         requires told { WasTold self.old caller call answer }
         ensures same { result ≡ answer }
-        ensures step { Step (meaning S.contents S.tells S.may_leave S.fault_count V.tells V.may_leave V.fault_count) self.old (End caller answer) self.new }
+        ensures step { Step (meaning S.Shelf V.Disk) self.old (End caller answer) self.new }
     {
         self.world.end(caller, call, answer)
     }
@@ -96,11 +96,11 @@ impl<S: Shelf, V: Disk> SteadyWorld<S, V> {
     /// As [`World::stray`].
     pub fn stray(&mut self, index: usize) -> Result<AcceptorId, StrayFault>
         requires { index < length self.old.flow.late }
-        ensures ok { OnOk result (Step (meaning S.contents S.tells S.may_leave S.fault_count V.tells V.may_leave V.fault_count) self.old (Stray index) self.new) }
+        ensures ok { OnOk result (Step (meaning S.Shelf V.Disk) self.old (Stray index) self.new) }
         ensures peer { IfOk result (λ peer. IfSome (slice_get self.old.flow.late index) (λ late. peer ≡ (head_of late).1)) }
         ensures full { IsErrOf result StrayFault.RecordFull ↔ (length self.old.marks + seen_in_all self.old ≡ most_marks) }
         ensures unchanged { IsErrOf result StrayFault.RecordFull → self.new ≡ self.old }
-        ensures err { OnErr result (Step (meaning S.contents S.tells S.may_leave S.fault_count V.tells V.may_leave V.fault_count) self.old RefuseStray self.new) }
+        ensures err { OnErr result (Step (meaning S.Shelf V.Disk) self.old RefuseStray self.new) }
     {
         self.world.stray(index)
     }

@@ -25,7 +25,7 @@ impl<S: Shelf, V: Disk> SteadyWorld<S, V> {
         requires asked { MayCollectKey self.old key.now }
         requires may { MayBegin self.old 0 call key.now program.now }
         requires keeps { program.now ≡ keep_always }
-        ensures step { Step (meaning S.contents S.tells S.may_leave S.fault_count V.tells V.may_leave V.fault_count) self.old (BeginCollect key.now) self.new }
+        ensures step { Step (meaning S.Shelf V.Disk) self.old (BeginCollect key.now) self.new }
         ensures ok { OnOk result (HasCollected self.new call key.now) }
         ensures err { IfErr result (CollectsNot self.old self.new call key.now) }
         ensures long { IsErrOf result (OpAnswer.Stopped Answer.RecordFull) → 999000 < length self.old.marks }
@@ -37,9 +37,9 @@ impl<S: Shelf, V: Disk> SteadyWorld<S, V> {
     pub fn propose_tombstone(&mut self) -> Result<Reading, Answer>
         requires preparing { IsInPhase self.old 0 true }
         requires calling { IsCollectingCall self.old }
-        ensures empty { result ≡ Ok Reading.Empty → Step (meaning S.contents S.tells S.may_leave S.fault_count V.tells V.may_leave V.fault_count) self.old (Propose 0) self.new × HasProposed self.new 0 }
-        ensures held { (version : ℕ) → result ≡ Ok (Reading.Held version) → Step (meaning S.contents S.tells S.may_leave S.fault_count V.tells V.may_leave V.fault_count) self.old ReadHeld self.new }
-        ensures err { OnErr result (Step (meaning S.contents S.tells S.may_leave S.fault_count V.tells V.may_leave V.fault_count) self.old (Propose 0) self.new) }
+        ensures empty { result ≡ Ok Reading.Empty → Step (meaning S.Shelf V.Disk) self.old (Propose 0) self.new × HasProposed self.new 0 }
+        ensures held { (version : ℕ) → result ≡ Ok (Reading.Held version) → Step (meaning S.Shelf V.Disk) self.old ReadHeld self.new }
+        ensures err { OnErr result (Step (meaning S.Shelf V.Disk) self.old (Propose 0) self.new) }
         ensures reads { (version : ℕ) (desk : DeskView V) → IsAt self.old.desks 0 desk → ((result ≡ Ok (Reading.Held version)) ↔ FindsHeld desk version) }
         ensures told { (caller : CallerView) → IsAt self.old.callers 0 caller → IfErr result (WasTold self.new 0 caller.number) }
     {
@@ -50,7 +50,7 @@ impl<S: Shelf, V: Disk> SteadyWorld<S, V> {
     pub fn count_tombstone(&mut self) -> Answer
         requires counting { IsInPhase self.old 0 false }
         requires calling { IsCollectingCall self.old }
-        ensures step { CountsTombstone (meaning S.contents S.tells S.may_leave S.fault_count V.tells V.may_leave V.fault_count) self.old result self.new }
+        ensures step { CountsTombstone (meaning S.Shelf V.Disk) self.old result self.new }
         ensures told { (caller : CallerView) → IsAt self.old.callers 0 caller → WasTold self.new 0 caller.number result }
     {
         self.world.count_tombstone()
@@ -61,7 +61,7 @@ impl<S: Shelf, V: Disk> SteadyWorld<S, V> {
         requires told { WasTold self.old 0 call answer }
         requires calling { IsCollectingCall self.old }
         ensures same { result ≡ answer }
-        ensures step { Step (meaning S.contents S.tells S.may_leave S.fault_count V.tells V.may_leave V.fault_count) self.old (EndCollect answer) self.new }
+        ensures step { Step (meaning S.Shelf V.Disk) self.old (EndCollect answer) self.new }
     {
         self.world.end_collect(call, answer)
     }
@@ -70,7 +70,7 @@ impl<S: Shelf, V: Disk> SteadyWorld<S, V> {
     pub fn renew(&mut self, proposer: u8) -> Result<u64, OpAnswer>
         requires known { proposer ≤ self.old.last_proposer }
         requires due { IsDueStep self.old (RenewStep proposer) }
-        ensures step { Step (meaning S.contents S.tells S.may_leave S.fault_count V.tells V.may_leave V.fault_count) self.old (Renew proposer) self.new }
+        ensures step { Step (meaning S.Shelf V.Disk) self.old (Renew proposer) self.new }
         ensures ok { OnOk result (GoesOnCollecting self.old self.new) }
         ensures age { IfOk result (λ age. IsNextAge self.old proposer age) }
         ensures err { IfErr result (WasToldOrder self.new) }
@@ -81,9 +81,9 @@ impl<S: Shelf, V: Disk> SteadyWorld<S, V> {
     /// As [`World::floor`].
     pub fn floor(&mut self)
         requires { IsDueStep self.old FloorStep }
-        ensures step { Step (meaning S.contents S.tells S.may_leave S.fault_count V.tells V.may_leave V.fault_count) self.old MakeFloor self.new }
+        ensures step { Step (meaning S.Shelf V.Disk) self.old MakeFloor self.new }
         ensures goes_on { GoesOnCollecting self.old self.new }
-        ensures passed { S.tells → V.tells → AreFloorsPassed (meaning S.contents S.tells S.may_leave S.fault_count V.tells V.may_leave V.fault_count) self.new }
+        ensures passed { S.tells → V.tells → AreFloorsPassed (meaning S.Shelf V.Disk) self.new }
     {
         self.world.floor();
     }

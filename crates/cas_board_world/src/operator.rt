@@ -27,8 +27,8 @@ impl<S: Shelf, V: Disk> SteadyWorld<S, V> {
         ensures full { IsErrOf result Answer.RecordFull ↔ (length self.old.marks + reserved_in_all self.old ≡ 1000000) }
         ensures long { IsErrOf result Answer.RecordFull → 999000 < length self.old.marks }
         ensures cause { IfErr result (λ told. (told ≡ Answer.RecordFull) ⊎ (told ≡ Answer.NoMemory false)) }
-        ensures ok { OnOk result (Step (meaning S.contents S.tells S.may_leave S.fault_count V.tells V.may_leave V.fault_count) self.old (Orders asked.now) self.new) }
-        ensures err { OnErr result (Step (meaning S.contents S.tells S.may_leave S.fault_count V.tells V.may_leave V.fault_count) self.old RefuseOrder self.new) }
+        ensures ok { OnOk result (Step (meaning S.Shelf V.Disk) self.old (Orders asked.now) self.new) }
+        ensures err { OnErr result (Step (meaning S.Shelf V.Disk) self.old RefuseOrder self.new) }
     {
         self.world.order(asked)
     }
@@ -37,7 +37,7 @@ impl<S: Shelf, V: Disk> SteadyWorld<S, V> {
     pub fn tell(&mut self, answer: OpAnswer) -> OpAnswer
         requires { MayTell self.old answer }
         ensures same { result ≡ answer }
-        ensures step { Step (meaning S.contents S.tells S.may_leave S.fault_count V.tells V.may_leave V.fault_count) self.old (Tell answer) self.new }
+        ensures step { Step (meaning S.Shelf V.Disk) self.old (Tell answer) self.new }
         ensures floor { S.tells → V.tells → HasCollectedAll self.old answer → HasItsFloor answer (reverse self.old.marks) }
         ensures entered { HasFinished self.old answer → HaveEnteredIts self.old.last_proposer answer (reverse self.old.marks) }
     {
@@ -47,7 +47,7 @@ impl<S: Shelf, V: Disk> SteadyWorld<S, V> {
     /// As [`World::ask_all`].
     pub fn ask_all(&mut self, what: Exchange) -> Result<(), OpAnswer>
         requires { MayAskThis self.old what }
-        ensures step { Step (meaning S.contents S.tells S.may_leave S.fault_count V.tells V.may_leave V.fault_count) self.old (asking_of self.old what) self.new }
+        ensures step { Step (meaning S.Shelf V.Disk) self.old (asking_of self.old what) self.new }
         ensures ok { OnOk result (IsSome self.new.council.exchange) }
         ensures none { OnErr result (self.new.council.exchange ≡ None) }
         ensures err { IfErr result (WasToldOrder self.new) }
@@ -59,9 +59,9 @@ impl<S: Shelf, V: Disk> SteadyWorld<S, V> {
     /// As [`World::gather`], of a world that nobody stopped.
     pub fn gather(&mut self) -> Result<Gathered, OpAnswer>
         requires { MayGather self.old }
-        ensures steady { IsSteady (meaning S.contents S.tells S.may_leave S.fault_count V.tells V.may_leave V.fault_count) self.old }
-        ensures step { Step (meaning S.contents S.tells S.may_leave S.fault_count V.tells V.may_leave V.fault_count) self.old (gathering_of self.old) self.new }
-        ensures removed { S.tells → V.tells → AreRemovalsDone (meaning S.contents S.tells S.may_leave S.fault_count V.tells V.may_leave V.fault_count) self.old self.new }
+        ensures steady { IsSteady (meaning S.Shelf V.Disk) self.old }
+        ensures step { Step (meaning S.Shelf V.Disk) self.old (gathering_of self.old) self.new }
+        ensures removed { S.tells → V.tells → AreRemovalsDone (meaning S.Shelf V.Disk) self.old self.new }
         ensures ok { IfOk result (λ found. HasGathered self.old found self.new) }
         ensures less { result ≡ Ok Gathered.More → left_to_list self.new.council.plan < left_to_list self.old.council.plan }
         ensures err { IfErr result (WasToldOrder self.new) }
@@ -74,7 +74,7 @@ impl<S: Shelf, V: Disk> SteadyWorld<S, V> {
         requires { IsSome self.old.council.order }
         ensures key { IfOk result (λ key. key ≡ due_in self.old.council.plan) }
         ensures unchanged { OnOk result (self.new ≡ self.old) }
-        ensures step { OnErr result (Step (meaning S.contents S.tells S.may_leave S.fault_count V.tells V.may_leave V.fault_count) self.old RefuseKey self.new) }
+        ensures step { OnErr result (Step (meaning S.Shelf V.Disk) self.old RefuseKey self.new) }
         ensures told { IfErr result (WasToldOrder self.new) }
     {
         self.world.due_key()
@@ -83,7 +83,7 @@ impl<S: Shelf, V: Disk> SteadyWorld<S, V> {
     /// As [`World::open_plan`].
     pub fn open_plan(&mut self, kind: PlanKind, id: AcceptorId) -> Result<(), OpAnswer>
         requires { MayOpenPlan self.old (asked_to kind id) }
-        ensures step { Step (meaning S.contents S.tells S.may_leave S.fault_count V.tells V.may_leave V.fault_count) self.old OpensPlan self.new }
+        ensures step { Step (meaning S.Shelf V.Disk) self.old OpensPlan self.new }
         ensures ok { OnOk result (IsUnderWay self.new (asked_to kind id)) }
         ensures err { IfErr result (WasToldOrder self.new) }
     {
@@ -93,7 +93,7 @@ impl<S: Shelf, V: Disk> SteadyWorld<S, V> {
     /// As [`World::enter_era`].
     pub fn enter_era(&mut self, proposer: u8) -> Result<(), OpAnswer>
         requires { MayEnter self.old proposer }
-        ensures step { Step (meaning S.contents S.tells S.may_leave S.fault_count V.tells V.may_leave V.fault_count) self.old (EntersNext proposer) self.new }
+        ensures step { Step (meaning S.Shelf V.Disk) self.old (EntersNext proposer) self.new }
         ensures ok { OnOk result ((order : OrderView) → self.old.council.order ≡ Some order → IsUnderWay self.new order.asked) }
         ensures err { IfErr result (WasToldOrder self.new) }
     {

@@ -28,13 +28,13 @@ impl<S: Shelf, V: Disk> Model for SteadyWorld<S, V> {
 
     ghost view = { λ w. w.world };
 
-    ghost invariant = { λ w. IsSteady (meaning S.contents S.tells S.may_leave S.fault_count V.tells V.may_leave V.fault_count) w.world };
+    ghost invariant = { λ w. IsSteady (meaning S.Shelf V.Disk) w.world };
 }
 
 impl<S: Shelf, V: Disk> SteadyWorld<S, V> {
     /// A world in which nothing has happened, and the members and the proposers are up.
     pub fn over(world: World<S, V>) -> SteadyWorld<S, V>
-        requires opening { (members : List ℕ) × IsOpening (meaning S.contents S.tells S.may_leave S.fault_count V.tells V.may_leave V.fault_count) members world × AreMembersUp members world.acceptors }
+        requires opening { (members : List ℕ) × IsOpening (meaning S.Shelf V.Disk) members world × AreMembersUp members world.acceptors }
         requires places { HasPlaces world }
         requires desks { AreDesksUp world.desks }
         ensures { result ≡ world }
@@ -45,7 +45,7 @@ impl<S: Shelf, V: Disk> SteadyWorld<S, V> {
     /// The world. Each mark in it that blames somebody blames one that has failed, and what it tells of the operator's calls is so.
     pub fn into_world(self) -> World<S, V>
         ensures same { result ≡ self }
-        ensures blamed { IsBlamed (meaning S.contents S.tells S.may_leave S.fault_count V.tells V.may_leave V.fault_count) self }
+        ensures blamed { IsBlamed (meaning S.Shelf V.Disk) self }
         ensures tellings { S.tells → V.tells → AreTellingsSo (suc self.last_proposer) (reverse self.marks) }
     {
         let SteadyWorld { world } = self;

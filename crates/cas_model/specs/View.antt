@@ -7,6 +7,8 @@ use Rattle.cas_quorum.specs.declared.era.Era.{Era}
 use Rattle.cas_quorum.specs.Era.{majority_era}
 use Rattle.cas_slot.specs.Contents.{Contents}
 use Rattle.cas_slot.specs.Shelf.{Left}
+use Rattle.cas_slot.specs.declared.shelf.Shelf.{Ghosts as ShelfKind}
+use Rattle.cas_disk.specs.declared.disk.Disk.{Ghosts as DiskKind}
 use Rattle.cas_acceptor.specs.Acceptor.{AcceptorView}
 use Rattle.cas_proposer.specs.Desk.{DeskView}
 use Rattle.cas_flow.specs.Flow.{FlowView}
@@ -114,8 +116,11 @@ abbrev pub IsAt : {A : Type 0} → List A → ℕ → A → Type 0
 IsAt all place x = slice_get all place ≡ Some x
 
 -- what shelves and disks of these kinds mean
-abbrev pub meaning : {S V : Type 0} → (S → Contents) → Type 0 → (S → Left → Type 0) → (S → ℕ) → Type 0 → (V → List ℕ → Type 0) → (V → ℕ) → Meaning S V
-meaning contents shelves_tell shelf_may_leave shelf_faults disks_tell disk_may_leave disk_faults = record {
-  shelves = record { contents = contents; tells = shelves_tell; may_leave = shelf_may_leave; faults = shelf_faults };
-  disks = record { tells = disks_tell; may_leave = disk_may_leave; faults = disk_faults };
-}
+abbrev pub shelf_meaning : {S : Type 0} → ShelfKind S → ShelfMeaning S
+shelf_meaning S = record { contents = S.contents; tells = S.tells; may_leave = S.may_leave; faults = S.fault_count }
+
+abbrev pub disk_meaning : {V : Type 0} → DiskKind V → DiskMeaning V
+disk_meaning V = record { tells = V.tells; may_leave = V.may_leave; faults = V.fault_count }
+
+abbrev pub meaning : {S V : Type 0} → ShelfKind S → DiskKind V → Meaning S V
+meaning S V = record { shelves = shelf_meaning S; disks = disk_meaning V }

@@ -11,7 +11,7 @@ use Rattle.cas_record.specs.declared.mark.Mark.TheVariants.{Harmed, Proposed, En
 use Rattle.cas_record.specs.Places.{Stands}
 use Rattle.cas_record.specs.Logs.Witness.{key_a, at}
 use Rattle.cas_model.specs.Step.{History}
-use Rattle.cas_model.specs.View.{Meaning, View, meaning}
+use Rattle.cas_model.specs.View.{Meaning, View}
 
 -- a shelf that holds these contents; a crash leaves them, or the others; and how often it failed
 pub record ToyShelf : Type 0 where
@@ -25,7 +25,15 @@ pub record ToyDisk : Type 0 where
 
 -- what they mean; they tell all that they keep
 abbrev pub toys : Meaning ToyShelf ToyDisk
-toys = meaning (λ shelf. shelf.contents) ⊤ (λ shelf left. (left ≡ Ok shelf.contents) ⊎ (left ≡ Ok shelf.others)) (λ shelf. shelf.faults) ⊤ (λ disk image. KeptOn disk.kept image) (λ disk. 0)
+toys = record {
+  shelves = record {
+    contents = λ shelf. shelf.contents;
+    tells = ⊤;
+    may_leave = λ shelf left. (left ≡ Ok shelf.contents) ⊎ (left ≡ Ok shelf.others);
+    faults = λ shelf. shelf.faults;
+  };
+  disks = record { tells = ⊤; may_leave = λ disk image. KeptOn disk.kept image; faults = λ disk. 0 };
+}
 
 -- A history: an acceptor goes down within the first call of proposer 1, which is answered Done at the ballot 1.1, for a change that adds
 -- 5; the next one is proposed at 2.1, which had ridden along; and proposer 2 crashes within a call.

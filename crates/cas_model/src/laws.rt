@@ -14,79 +14,79 @@ use cas_vault::Vault;
 /// A cluster that has just opened is remembered: there is a log of all that happened in it that tells what each of its parties keeps
 /// and knows, and what the frames under way bear.
 pub fn openings_are_remembered<S: Shelf, V: Disk>()
-    ensures { OpeningsAreRemembered (meaning S.contents S.tells S.may_leave S.fault_count V.tells V.may_leave V.fault_count) }
+    ensures { OpeningsAreRemembered (meaning S.Shelf V.Disk) }
 {}
 
 /// And so is one that has just opened on what stood before: with floors that its members hold, at ballots below all that its proposers
 /// may draw, and with acceptors that were used before and are never to join.
 pub fn openings_on_are_remembered<S: Shelf, V: Disk>()
-    ensures { OpeningsOnAreRemembered (meaning S.contents S.tells S.may_leave S.fault_count V.tells V.may_leave V.fault_count) }
+    ensures { OpeningsOnAreRemembered (meaning S.Shelf V.Disk) }
 {}
 
 /// Whatever is called on a cluster that is remembered, it is remembered then: a call begins by a draw or by a promise that rode along, a
 /// frame has its turn with any verdict or strays in late, a round proposes, is counted or ends short, a call ends, acceptors and
 /// proposers stop within whatever they write and are up again, and memory is found nowhere.
 pub fn steps_are_remembered<S: Shelf, V: Disk>()
-    ensures { StepsAreRemembered (meaning S.contents S.tells S.may_leave S.fault_count V.tells V.may_leave V.fault_count) }
+    ensures { StepsAreRemembered (meaning S.Shelf V.Disk) }
 {}
 
 /// Whatever was called on a cluster since it opened, its record is legal: each register has one history, each change that was answered
 /// Done stands in it once, after all that was settled when its call began, an unsettled one at most once, and a refused one never.
 pub fn histories_are_legal<S: Shelf, V: Disk>()
-    ensures { HistoriesAreLegal (meaning S.contents S.tells S.may_leave S.fault_count V.tells V.may_leave V.fault_count) }
+    ensures { HistoriesAreLegal (meaning S.Shelf V.Disk) }
 {}
 
 /// What is acknowledged stands on the shelves of those that confirmed it, who are an accept quorum, whatever a crash now leaves of each,
 /// until a floor is made at or above it.
 pub fn what_is_done_is_kept<S: Shelf, V: Disk>()
-    ensures { WhatIsDoneIsKept (meaning S.contents S.tells S.may_leave S.fault_count V.tells V.may_leave V.fault_count) }
+    ensures { WhatIsDoneIsKept (meaning S.Shelf V.Disk) }
 {}
 
 /// All proposers are past each floor: none draws a ballot at or below it, whatever a crash now leaves of its vault, and the promise that one
 /// holds of the key and the round that it has open for the key are above it.
 pub fn floors_are_passed<S: Shelf, V: Disk>()
-    ensures { FloorsArePassed (meaning S.contents S.tells S.may_leave S.fault_count V.tells V.may_leave V.fault_count) }
+    ensures { FloorsArePassed (meaning S.Shelf V.Disk) }
 {}
 
 /// An acceptor that is up, and a member of an era in which a proposer works, accepted nothing of a key below a floor of it, whatever a crash
 /// now leaves of its shelf: it has no state of the key, or one at or above the floor.
 pub fn members_are_clear<S: Shelf, V: Disk>()
-    ensures { MembersAreClear (meaning S.contents S.tells S.may_leave S.fault_count V.tells V.may_leave V.fault_count) }
+    ensures { MembersAreClear (meaning S.Shelf V.Disk) }
 {}
 
 /// What is under way to such a member for the key, at a ballot at or below a floor of it, is too old for the member: its age is below the
 /// least age that the member asks its proposer for, whatever a crash now leaves of its shelf.
 pub fn requests_are_aged<S: Shelf, V: Disk>()
-    ensures { RequestsAreAged (meaning S.contents S.tells S.may_leave S.fault_count V.tells V.may_leave V.fault_count) }
+    ensures { RequestsAreAged (meaning S.Shelf V.Disk) }
 {}
 
 /// Where what the members told brings a collection to its end, each removed its slot of the key or kept it, and so many did the one and the
 /// other; and none that is up has seen anything of the key but above the tombstone, whatever a crash now leaves of its shelf.
 pub fn removals_are_done<S: Shelf, V: Disk>()
-    ensures { RemovalsAreDone (meaning S.contents S.tells S.may_leave S.fault_count V.tells V.may_leave V.fault_count) }
+    ensures { RemovalsAreDone (meaning S.Shelf V.Disk) }
 {}
 
 /// Where a collection is at its end and the operator is told so, its tombstone is a floor of the key, with the empty state.
 pub fn collected_keys_have_floors<S: Shelf, V: Disk>()
-    ensures { CollectedHaveFloors (meaning S.contents S.tells S.may_leave S.fault_count V.tells V.may_leave V.fault_count) }
+    ensures { CollectedHaveFloors (meaning S.Shelf V.Disk) }
 {}
 
 /// A cluster that has just opened, with a place for each party, is safe, whatever its shelves and disks tell: each mark that may still
 /// be made is reserved, there is room for the reply to each request that waits, and each frame that waits is to or from a member that
 /// the open round of its proposer asks.
 pub fn openings_are_safe<S: Shelf, V: Disk>()
-    ensures { OpeningsAreSafe (meaning S.contents S.tells S.may_leave S.fault_count V.tells V.may_leave V.fault_count) }
+    ensures { OpeningsAreSafe (meaning S.Shelf V.Disk) }
 {}
 
 /// And so is one that has just opened on what stood before.
 pub fn openings_on_are_safe<S: Shelf, V: Disk>()
-    ensures { OpeningsOnAreSafe (meaning S.contents S.tells S.may_leave S.fault_count V.tells V.may_leave V.fault_count) }
+    ensures { OpeningsOnAreSafe (meaning S.Shelf V.Disk) }
 {}
 
 /// Whatever is called on a cluster that is safe, it is safe then. So no call finds the record full but where it begins, nor a late
 /// frame but before it is let in.
 pub fn steps_are_safe<S: Shelf, V: Disk>()
-    ensures { StepsAreSafe (meaning S.contents S.tells S.may_leave S.fault_count V.tells V.may_leave V.fault_count) }
+    ensures { StepsAreSafe (meaning S.Shelf V.Disk) }
 {}
 
 /// All that is reserved for the calls, the operator's call, the exchange and the collection of a cluster that is safe is less than 1,000

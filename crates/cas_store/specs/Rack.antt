@@ -2,6 +2,7 @@
 use Rattle.std.specs.Prelude.{◌≡◌, ◌≢◌, ℕ, ◌+◌, ◌<◌, ◌≤◌, List, [], length}
 use Rattle.cas_base.specs.Faults.{Rose}
 use Rattle.cas_disk.specs.Disk.{Keeps}
+use Rattle.cas_disk.specs.declared.disk.Disk.{Ghosts as DiskKind}
 use Rattle.cas_model.specs.View.{IsAt}
 use Rattle.cas_store.specs.declared.rack.Rack.{Rack}
 use Rattle.cas_store.specs.declared.rack.RackFault.{RackFault}
@@ -15,8 +16,8 @@ pub record RackMeaning (D : Type 0) : Type 1 where
   pub may_leave : D → List ℕ → Type 0
   pub faults : D → ℕ
 
-abbrev pub rack_meaning : {D : Type 0} → Type 0 → (D → List ℕ) → (D → List ℕ → Type 0) → (D → ℕ) → RackMeaning D
-rack_meaning tells seen may_leave faults = record { tells = tells; seen = seen; may_leave = may_leave; faults = faults }
+abbrev pub rack_meaning : {D : Type 0} → DiskKind D → RackMeaning D
+rack_meaning D = record { tells = D.tells; seen = D.seen; may_leave = D.may_leave; faults = D.fault_count }
 
 -- ---- one disk
 -- it was asked for its length: its content stayed, and its count of faults did not fall

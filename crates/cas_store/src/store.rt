@@ -5,12 +5,11 @@ ghost use Rattle.cas_acceptor.specs.Acceptor.{AcceptorView};
 ghost use Rattle.cas_ballot.specs.Members.{has_member};
 ghost use Rattle.cas_model.specs.SafeLaws.{HasPlaces};
 ghost use Rattle.cas_model.specs.Step.{IsOpening};
-ghost use Rattle.cas_model.specs.View.{IsAt, meaning};
+ghost use Rattle.cas_model.specs.View.{IsAt, meaning, disk_meaning};
 ghost use Rattle.cas_disk_shelf.specs.Shelf.{disk_of};
 ghost use Rattle.cas_disk_shelf.specs.declared.shelf.DiskShelf.{DiskShelf};
 ghost use Rattle.cas_record.specs.Legal.{IsLegal};
 ghost use Rattle.cas_world.specs.Openings.Opening.{members_to, disks_of, AreDesksBelow};
-ghost use Rattle.cas_world_calls.specs.Proposing.{disks as disks_like};
 ghost use Rattle.cas_store.specs.Kept.{AreKept};
 ghost use Rattle.cas_store.specs.Store.{acceptor_disks, AreReached, StaysClosed};
 
@@ -54,12 +53,12 @@ impl<D: Disk> Store<D> {
         requires proposers { config.proposers ≤ 16 }
         requires acceptors { vec_len rack.acceptors ≡ 64 }
         requires vaults { vec_len rack.vaults ≡ 17 }
-        ensures opening { IfOk result (λ store. IsOpening (meaning ⟦<DiskShelf<D> as Shelf>⟧.contents ⟦<DiskShelf<D> as Shelf>⟧.tells ⟦<DiskShelf<D> as Shelf>⟧.may_leave ⟦<DiskShelf<D> as Shelf>⟧.fault_count D.tells D.may_leave D.fault_count) (members_to config.acceptors) store.world) }
+        ensures opening { IfOk result (λ store. IsOpening (meaning ⟦<DiskShelf<D> as Shelf>⟧ D.Disk) (members_to config.acceptors) store.world) }
         ensures places { IfOk result (λ store. HasPlaces store.world) }
         ensures up { IfOk result (λ store. (id : ℕ) (acceptor : AcceptorView (DiskShelf D)) → IsAt store.world.acceptors id acceptor → has_member (members_to config.acceptors) id ≡ true → acceptor.down ≡ false) }
         ensures last_proposer { IfOk result (λ store. store.world.last_proposer ≡ config.proposers) }
         ensures acceptors { IfOk result (λ store. AreReached D.fault_count 1 (config.acceptors + 1) rack.acceptors.items (acceptor_disks store.world.acceptors)) }
-        ensures vaults { IfOk result (λ store. AreDesksBelow (disks_like D.tells D.may_leave D.fault_count) D.fault_count rack.vaults.items (config.proposers + 1) store.world.desks) }
+        ensures vaults { IfOk result (λ store. AreDesksBelow (disk_meaning D.Disk) D.fault_count rack.vaults.items (config.proposers + 1) store.world.desks) }
         ensures fault { IfErr result (λ back. StaysClosed D.fault_count config.acceptors config.proposers rack.acceptors.items rack.vaults.items back.0 back.1.acceptors.items back.1.vaults.items) }
         ensures back { IfErr result (λ back. (vec_len back.1.acceptors ≡ 64) × (vec_len back.1.vaults ≡ 17)) }
     {

@@ -2,6 +2,7 @@ pub mod Beginning
 pub mod Begins
 pub mod Callers
 pub mod Counts
+pub mod Disks
 pub mod Ends
 pub mod Proposes
 pub mod Reserving

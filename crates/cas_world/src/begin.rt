@@ -5,13 +5,12 @@ ghost use Rattle.cas_ballot.specs.Ballot.{FitsBallot};
 ghost use Rattle.cas_cache.specs.Entries.{promise_at};
 ghost use Rattle.cas_model.specs.Calls.Step.{Sends, prepares_to, round_marks, IsFull};
 ghost use Rattle.cas_model_causes.specs.Calls.Told.{BeginsBy};
-ghost use Rattle.cas_model.specs.View.{meaning};
+ghost use Rattle.cas_model.specs.View.{meaning, disk_meaning};
 ghost use Rattle.cas_protocol.specs.Protocol.{is_done};
 ghost use Rattle.cas_world.specs.Calls.Beginning.{opening_of, refused, entered, entry_marks, settled, settled_marks, OpensRound, FailsToOpen, reserved_beside, MayBegin, BeginsOrNot, Heeds, HeedsLoss};
 ghost use Rattle.cas_world_calls.specs.Council.{council_view};
 ghost use Rattle.cas_world_calls.specs.Call.{reserved_of};
 ghost use Rattle.cas_world_calls.specs.declared.call.Caller.{Caller as ACaller};
-ghost use Rattle.cas_world_calls.specs.Proposing.{disks};
 
 use crate::proposing::propose_on;
 use crate::world::World;
@@ -60,8 +59,8 @@ impl<S: Shelf, V: Disk> World<S, V> {
         requires may { MayBegin self.old caller call key.now program.now }
         ensures full { IsErrOf result Answer.RecordFull ↔ IsFull self.old caller }
         ensures long { IsErrOf result Answer.RecordFull → 999000 < length self.old.marks }
-        ensures cause { IfErr result (λ told. BeginsBy (meaning S.contents S.tells S.may_leave S.fault_count V.tells V.may_leave V.fault_count) self.old caller key.now told self.new) }
-        ensures step { BeginsOrNot (meaning S.contents S.tells S.may_leave S.fault_count V.tells V.may_leave V.fault_count) self.old caller call key.now program.now result self.new }
+        ensures cause { IfErr result (λ told. BeginsBy (meaning S.Shelf V.Disk) self.old caller key.now told self.new) }
+        ensures step { BeginsOrNot (meaning S.Shelf V.Disk) self.old caller call key.now program.now result self.new }
     {
         let alloc = *self.acceptors.allocator();
         let place = usize::from(caller);
@@ -299,8 +298,8 @@ fn open_round<V: Disk>(
     requires caller { author.caller ≤ 16 }
     requires queue { author.caller < length flow.old.own }
     requires promise { IfSome (promise_at key.now desk.old.cache) (λ ready. FitsBallot ready.ballot) }
-    ensures opens { IfOk result (OpensRound (disks V.tells V.may_leave V.fault_count) era.now key.now program.now author desk.old desk.new flow.old flow.new) }
-    ensures refused { IfErr result (FailsToOpen (disks V.tells V.may_leave V.fault_count) key.now desk.old desk.new) }
+    ensures opens { IfOk result (OpensRound (disk_meaning V.Disk) era.now key.now program.now author desk.old desk.new flow.old flow.new) }
+    ensures refused { IfErr result (FailsToOpen (disk_meaning V.Disk) key.now desk.old desk.new) }
     ensures not_sent { OnErr result (flow.new ≡ flow.old) }
 {
     if desk.is_down() {

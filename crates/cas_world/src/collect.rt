@@ -82,7 +82,7 @@ impl<S: Shelf, V: Disk> World<S, V> {
         requires asked { MayCollectKey self.old key.now }
         requires may { MayBegin self.old 0 call key.now program.now }
         requires keeps { program.now ≡ keep_always }
-        ensures step { Step (meaning S.contents S.tells S.may_leave S.fault_count V.tells V.may_leave V.fault_count) self.old (BeginCollect key.now) self.new }
+        ensures step { Step (meaning S.Shelf V.Disk) self.old (BeginCollect key.now) self.new }
         ensures ok { OnOk result (HasCollected self.new call key.now) }
         ensures err { IfErr result (CollectsNot self.old self.new call key.now) }
         ensures long { IsErrOf result (OpAnswer.Stopped Answer.RecordFull) → 999000 < length self.old.marks }
@@ -140,9 +140,9 @@ impl<S: Shelf, V: Disk> World<S, V> {
     pub fn propose_tombstone(&mut self) -> Result<Reading, Answer>
         requires preparing { IsInPhase self.old 0 true }
         requires calling { IsCollectingCall self.old }
-        ensures empty { result ≡ Ok Reading.Empty → Step (meaning S.contents S.tells S.may_leave S.fault_count V.tells V.may_leave V.fault_count) self.old (Propose 0) self.new × HasProposed self.new 0 }
-        ensures held { (version : ℕ) → result ≡ Ok (Reading.Held version) → Step (meaning S.contents S.tells S.may_leave S.fault_count V.tells V.may_leave V.fault_count) self.old ReadHeld self.new }
-        ensures err { OnErr result (Step (meaning S.contents S.tells S.may_leave S.fault_count V.tells V.may_leave V.fault_count) self.old (Propose 0) self.new) }
+        ensures empty { result ≡ Ok Reading.Empty → Step (meaning S.Shelf V.Disk) self.old (Propose 0) self.new × HasProposed self.new 0 }
+        ensures held { (version : ℕ) → result ≡ Ok (Reading.Held version) → Step (meaning S.Shelf V.Disk) self.old ReadHeld self.new }
+        ensures err { OnErr result (Step (meaning S.Shelf V.Disk) self.old (Propose 0) self.new) }
         ensures reads { (version : ℕ) (desk : DeskView V) → IsAt self.old.desks 0 desk → ((result ≡ Ok (Reading.Held version)) ↔ FindsHeld desk version) }
         ensures told { (caller : CallerView) → IsAt self.old.callers 0 caller → IfErr result (WasTold self.new 0 caller.number) }
     {
@@ -161,7 +161,7 @@ impl<S: Shelf, V: Disk> World<S, V> {
         requires preparing { IsInPhase self.old 0 true }
         requires calling { IsCollectingCall self.old }
         requires finds { (desk : DeskView V) → IsAt self.old.desks 0 desk → FindsHeld desk version }
-        ensures { Step (meaning S.contents S.tells S.may_leave S.fault_count V.tells V.may_leave V.fault_count) self.old ReadHeld self.new }
+        ensures { Step (meaning S.Shelf V.Disk) self.old ReadHeld self.new }
     {
         self.desks[0].end(None);
         self.callers[0].leave();
@@ -173,7 +173,7 @@ impl<S: Shelf, V: Disk> World<S, V> {
     pub fn count_tombstone(&mut self) -> Answer
         requires counting { IsInPhase self.old 0 false }
         requires calling { IsCollectingCall self.old }
-        ensures step { CountsTombstone (meaning S.contents S.tells S.may_leave S.fault_count V.tells V.may_leave V.fault_count) self.old result self.new }
+        ensures step { CountsTombstone (meaning S.Shelf V.Disk) self.old result self.new }
         ensures told { (caller : CallerView) → IsAt self.old.callers 0 caller → WasTold self.new 0 caller.number result }
     {
         if cause_by(self.desks[0].verdict()).is_some() {
@@ -193,7 +193,7 @@ impl<S: Shelf, V: Disk> World<S, V> {
         requires told { WasTold self.old 0 call answer }
         requires calling { IsCollectingCall self.old }
         ensures same { result ≡ answer }
-        ensures step { Step (meaning S.contents S.tells S.may_leave S.fault_count V.tells V.may_leave V.fault_count) self.old (EndCollect answer) self.new }
+        ensures step { Step (meaning S.Shelf V.Disk) self.old (EndCollect answer) self.new }
     {
         if self.council.collection.is_none() {
             unreachable!();

@@ -18,7 +18,7 @@ impl<S: Shelf, V: Disk> World<S, V> {
     /// The step of the collection that is due asks all members, under the ballot of its tombstone.
     pub(crate) fn ask_collect(&mut self) -> Result<(), OpAnswer>
         requires { MayAskCollected self.old AgesStep ⊎ MayAskCollected self.old RemoveStep }
-        ensures step { Step (meaning S.contents S.tells S.may_leave S.fault_count V.tells V.may_leave V.fault_count) self.old AskCollect self.new }
+        ensures step { Step (meaning S.Shelf V.Disk) self.old AskCollect self.new }
         ensures ok { OnOk result (IsSome self.new.council.exchange) }
         ensures none { OnErr result (self.new.council.exchange ≡ None) }
         ensures err { IfErr result (WasToldOrder self.new) }
@@ -57,7 +57,7 @@ impl<S: Shelf, V: Disk> World<S, V> {
     /// The round of the collection is over: it goes on where all who accept acknowledged its tombstone.
     pub(crate) fn gather_round(&mut self) -> Result<Gathered, OpAnswer>
         requires { MayGatherRound self.old }
-        ensures step { Step (meaning S.contents S.tells S.may_leave S.fault_count V.tells V.may_leave V.fault_count) self.old GatherRound self.new }
+        ensures step { Step (meaning S.Shelf V.Disk) self.old GatherRound self.new }
         ensures ok { IfOk result (λ found. HasGathered self.old found self.new) }
         ensures err { IfErr result (WasToldOrder self.new) }
     {
@@ -67,8 +67,8 @@ impl<S: Shelf, V: Disk> World<S, V> {
     /// The exchange that is open is one of the collection, and is over: it goes on where all members confirmed what they were asked.
     pub(crate) fn gather_collection(&mut self) -> Result<Gathered, OpAnswer>
         requires { MayGatherCollected self.old }
-        ensures step { Step (meaning S.contents S.tells S.may_leave S.fault_count V.tells V.may_leave V.fault_count) self.old GatherCollect self.new }
-        ensures removed { S.tells → V.tells → AreRemovalsDone (meaning S.contents S.tells S.may_leave S.fault_count V.tells V.may_leave V.fault_count) self.old self.new }
+        ensures step { Step (meaning S.Shelf V.Disk) self.old GatherCollect self.new }
+        ensures removed { S.tells → V.tells → AreRemovalsDone (meaning S.Shelf V.Disk) self.old self.new }
         ensures ok { IfOk result (λ found. HasGathered self.old found self.new) }
         ensures err { IfErr result (WasToldOrder self.new) }
     {

@@ -3,7 +3,7 @@
 ghost use Rattle.std.specs.Prelude.{◌≡◌, ◌≤◌, Some, None, IsSome};
 ghost use Rattle.cas_model.specs.Step.{Step, End};
 ghost use Rattle.cas_model.specs.Calls.Desks.{EndsRound};
-ghost use Rattle.cas_model.specs.View.{meaning};
+ghost use Rattle.cas_model.specs.View.{meaning, disk_meaning};
 ghost use Rattle.cas_world.specs.World.{WasTold};
 ghost use Rattle.cas_proposer.specs.declared.round.Round.{Round};
 
@@ -24,7 +24,7 @@ impl<S: Shelf, V: Disk> World<S, V> {
         requires known { caller ≤ self.old.last_proposer }
         requires told { WasTold self.old caller call answer }
         ensures same { result ≡ answer }
-        ensures step { Step (meaning S.contents S.tells S.may_leave S.fault_count V.tells V.may_leave V.fault_count) self.old (End caller answer) self.new }
+        ensures step { Step (meaning S.Shelf V.Disk) self.old (End caller answer) self.new }
     {
         let place = usize::from(caller);
         close(&mut self.desks[place]);
@@ -44,7 +44,7 @@ impl<S: Shelf, V: Disk> World<S, V> {
 /// Closes the round of the desk, if one is open.
 fn close<V: Disk>(desk: &mut Desk<V>)
     ensures idle { desk.old.round ≡ None → desk.new ≡ desk.old }
-    ensures ends { (round : Round) → desk.old.round ≡ Some round → EndsRound (record { tells = V.tells; may_leave = V.may_leave; faults = V.fault_count }) desk.old desk.new round None }
+    ensures ends { (round : Round) → desk.old.round ≡ Some round → EndsRound (disk_meaning V.Disk) desk.old desk.new round None }
 {
     if desk.round().is_some() {
         desk.end(None);

@@ -8,7 +8,7 @@ ghost use Rattle.cas_flow.specs.declared.message.Message.TheVariants as message;
 ghost use Rattle.cas_model.specs.Council.{exchange_place};
 ghost use Rattle.cas_model.specs.Step.{Step, Order as Orders, RefuseOrder, Tell, AskAll, TurnExchange, RefuseTurnExchange, Gather};
 ghost use Rattle.cas_model.specs.Frames.Step.{FindsNoRoom};
-ghost use Rattle.cas_model.specs.View.{meaning, reserved_in_all};
+ghost use Rattle.cas_model.specs.View.{meaning, reserved_in_all, disk_meaning};
 ghost use Rattle.cas_ballot.specs.Ballot.{FitsBallot};
 ghost use Rattle.cas_model.specs.Calls.Step.{Sends};
 ghost use Rattle.cas_model.specs.Exchanges.Step.{new_exchange, questions_to, told_marks, HasTag};
@@ -18,7 +18,6 @@ ghost use Rattle.cas_model.specs.Collection.Laws.{HasItsFloor};
 ghost use Rattle.cas_model.specs.SafeLaws.{HaveEnteredIts};
 ghost use Rattle.cas_world.specs.Collection.Collect.{AreRemovalsDone};
 ghost use Rattle.cas_world.specs.Eras.Plans.{HasCollectedAll, HasFinished, MayTell};
-ghost use Rattle.cas_world_calls.specs.Proposing.{disks};
 
 use crate::serve::{Served, serve};
 use crate::turn::{first, peer_of};
@@ -65,8 +64,8 @@ impl<S: Shelf, V: Disk> World<S, V> {
         ensures full { IsErrOf result Answer.RecordFull ↔ (length self.old.marks + reserved_in_all self.old ≡ 1000000) }
         ensures long { IsErrOf result Answer.RecordFull → 999000 < length self.old.marks }
         ensures cause { IfErr result (λ told. (told ≡ Answer.RecordFull) ⊎ (told ≡ Answer.NoMemory false)) }
-        ensures ok { OnOk result (Step (meaning S.contents S.tells S.may_leave S.fault_count V.tells V.may_leave V.fault_count) self.old (Orders asked.now) self.new) }
-        ensures err { OnErr result (Step (meaning S.contents S.tells S.may_leave S.fault_count V.tells V.may_leave V.fault_count) self.old RefuseOrder self.new) }
+        ensures ok { OnOk result (Step (meaning S.Shelf V.Disk) self.old (Orders asked.now) self.new) }
+        ensures err { OnErr result (Step (meaning S.Shelf V.Disk) self.old RefuseOrder self.new) }
     {
         let reserved = reserved_in_all(&self.callers, &self.council);
         if self.record.marks().len() + reserved >= MOST_MARKS {
@@ -90,7 +89,7 @@ impl<S: Shelf, V: Disk> World<S, V> {
     pub fn tell(&mut self, answer: OpAnswer) -> OpAnswer
         requires { MayTell self.old answer }
         ensures same { result ≡ answer }
-        ensures step { Step (meaning S.contents S.tells S.may_leave S.fault_count V.tells V.may_leave V.fault_count) self.old (Tell answer) self.new }
+        ensures step { Step (meaning S.Shelf V.Disk) self.old (Tell answer) self.new }
         ensures floor { S.tells → V.tells → HasCollectedAll self.old answer → HasItsFloor answer (reverse self.old.marks) }
         ensures entered { HasFinished self.old answer → HaveEnteredIts self.old.last_proposer answer (reverse self.old.marks) }
     {
@@ -115,7 +114,7 @@ impl<S: Shelf, V: Disk> World<S, V> {
     /// after which proposer 0 is down.
     pub fn ask_all(&mut self, what: Exchange) -> Result<(), OpAnswer>
         requires { MayAskThis self.old what }
-        ensures step { Step (meaning S.contents S.tells S.may_leave S.fault_count V.tells V.may_leave V.fault_count) self.old (asking_of self.old what) self.new }
+        ensures step { Step (meaning S.Shelf V.Disk) self.old (asking_of self.old what) self.new }
         ensures ok { OnOk result (IsSome self.new.council.exchange) }
         ensures none { OnErr result (self.new.council.exchange ≡ None) }
         ensures err { IfErr result (WasToldOrder self.new) }
@@ -131,7 +130,7 @@ impl<S: Shelf, V: Disk> World<S, V> {
     /// Proposer 0 asks this of all members, or of those whose listing has not ended.
     fn ask_members(&mut self, what: Query) -> Result<(), OpAnswer>
         requires { MayAsk self.old (question_in self.old what) }
-        ensures step { Step (meaning S.contents S.tells S.may_leave S.fault_count V.tells V.may_leave V.fault_count) self.old (AskAll (question_in self.old what)) self.new }
+        ensures step { Step (meaning S.Shelf V.Disk) self.old (AskAll (question_in self.old what)) self.new }
         ensures ok { OnOk result (IsSome self.new.council.exchange) }
         ensures none { OnErr result (self.new.council.exchange ≡ None) }
         ensures err { IfErr result (WasToldOrder self.new) }
@@ -176,8 +175,8 @@ impl<S: Shelf, V: Disk> World<S, V> {
     /// and none that is up has seen anything of the key but above the tombstone, whatever a crash leaves of its shelf.
     pub fn gather(&mut self) -> Result<Gathered, OpAnswer>
         requires { MayGather self.old }
-        ensures step { Step (meaning S.contents S.tells S.may_leave S.fault_count V.tells V.may_leave V.fault_count) self.old (gathering_of self.old) self.new }
-        ensures removed { S.tells → V.tells → AreRemovalsDone (meaning S.contents S.tells S.may_leave S.fault_count V.tells V.may_leave V.fault_count) self.old self.new }
+        ensures step { Step (meaning S.Shelf V.Disk) self.old (gathering_of self.old) self.new }
+        ensures removed { S.tells → V.tells → AreRemovalsDone (meaning S.Shelf V.Disk) self.old self.new }
         ensures ok { IfOk result (λ found. HasGathered self.old found self.new) }
         ensures less { result ≡ Ok Gathered.More → left_to_list self.new.council.plan < left_to_list self.old.council.plan }
         ensures err { IfErr result (WasToldOrder self.new) }
@@ -194,7 +193,7 @@ impl<S: Shelf, V: Disk> World<S, V> {
     /// The exchange that is open is a probe or a listing, and is over.
     fn gather_members(&mut self) -> Result<Gathered, OpAnswer>
         requires may { MayGatherMembers self.old }
-        ensures step { Step (meaning S.contents S.tells S.may_leave S.fault_count V.tells V.may_leave V.fault_count) self.old Gather self.new }
+        ensures step { Step (meaning S.Shelf V.Disk) self.old Gather self.new }
         ensures ok { IfOk result (λ found. HasGathered self.old found self.new) }
         ensures less { result ≡ Ok Gathered.More → left_to_list self.new.council.plan < left_to_list self.old.council.plan }
         ensures err { IfErr result (WasToldOrder self.new) }
@@ -206,8 +205,8 @@ impl<S: Shelf, V: Disk> World<S, V> {
     pub(crate) fn turn_exchange(&mut self, verdict: Verdict) -> Result<(), AllocError>
         requires open { IsSome self.old.council.exchange }
         requires waits { (queue_at self.old.flow exchange_place).messages ≢ [] }
-        ensures ok { OnOk result (Step (meaning S.contents S.tells S.may_leave S.fault_count V.tells V.may_leave V.fault_count) self.old (TurnExchange verdict) self.new) }
-        ensures err { OnErr result (Step (meaning S.contents S.tells S.may_leave S.fault_count V.tells V.may_leave V.fault_count) self.old RefuseTurnExchange self.new) }
+        ensures ok { OnOk result (Step (meaning S.Shelf V.Disk) self.old (TurnExchange verdict) self.new) }
+        ensures err { OnErr result (Step (meaning S.Shelf V.Disk) self.old RefuseTurnExchange self.new) }
     {
         match self.flow.falls(EXCHANGE_PLACE, verdict) {
             Fall::Held => Ok(()),
@@ -230,7 +229,7 @@ impl<S: Shelf, V: Disk> World<S, V> {
         requires open { IsSome self.old.council.exchange }
         requires waits { (queue_at self.old.flow exchange_place).messages ≢ [] }
         requires gone { fall_of (queue_at self.old.flow exchange_place).again verdict ≡ Fall.Gone }
-        ensures { Step (meaning S.contents S.tells S.may_leave S.fault_count V.tells V.may_leave V.fault_count) self.old (TurnExchange verdict) self.new }
+        ensures { Step (meaning S.Shelf V.Disk) self.old (TurnExchange verdict) self.new }
     {
         let member = peer_of(&self.flow, EXCHANGE_PLACE);
         self.flow.take(EXCHANGE_PLACE, verdict);
@@ -242,8 +241,8 @@ impl<S: Shelf, V: Disk> World<S, V> {
         requires open { IsSome self.old.council.exchange }
         requires waits { (queue_at self.old.flow exchange_place).messages ≢ [] }
         requires handled { fall_of (queue_at self.old.flow exchange_place).again verdict ≡ Fall.Handle }
-        ensures ok { OnOk result (Step (meaning S.contents S.tells S.may_leave S.fault_count V.tells V.may_leave V.fault_count) self.old (TurnExchange verdict) self.new) }
-        ensures err { OnErr result (FindsNoRoom (meaning S.contents S.tells S.may_leave S.fault_count V.tells V.may_leave V.fault_count) self.old self.new) }
+        ensures ok { OnOk result (Step (meaning S.Shelf V.Disk) self.old (TurnExchange verdict) self.new) }
+        ensures err { OnErr result (FindsNoRoom (meaning S.Shelf V.Disk) self.old self.new) }
     {
         let alloc = *self.acceptors.allocator();
         match first(alloc, &self.flow, EXCHANGE_PLACE, None)? {
@@ -262,8 +261,8 @@ impl<S: Shelf, V: Disk> World<S, V> {
         requires waits { IsAsked self.old request.now }
         requires handled { fall_of (queue_at self.old.flow exchange_place).again verdict ≡ Fall.Handle }
         requires sent { CanBeSent (message.Request request.now) }
-        ensures ok { OnOk result (Step (meaning S.contents S.tells S.may_leave S.fault_count V.tells V.may_leave V.fault_count) self.old (TurnExchange verdict) self.new) }
-        ensures err { OnErr result (FindsNoRoom (meaning S.contents S.tells S.may_leave S.fault_count V.tells V.may_leave V.fault_count) self.old self.new) }
+        ensures ok { OnOk result (Step (meaning S.Shelf V.Disk) self.old (TurnExchange verdict) self.new) }
+        ensures err { OnErr result (FindsNoRoom (meaning S.Shelf V.Disk) self.old self.new) }
     {
         let alloc = *self.acceptors.allocator();
         let served = serve(alloc, &mut self.acceptors, request)?;
@@ -325,10 +324,10 @@ fn open_exchange<V: Disk>(
     requires queue { exchange_place < length flow.old.own }
     requires few { length «record».old.marks + reserved ≤ 1000000 }
     requires tag { IfSome (option_copied goes_on) (λ listing. FitsBallot listing.tag) }
-    ensures ok { IfOk result (λ opened. Opens (disks V.tells V.may_leave V.fault_count) desk.old desk.new flow.old flow.new everyone (option_copied goes_on.entry) what (length «record».old.marks) opened) }
+    ensures ok { IfOk result (λ opened. Opens (disk_meaning V.Disk) desk.old desk.new flow.old flow.new everyone (option_copied goes_on.entry) what (length «record».old.marks) opened) }
     ensures room { OnOk result (reserved + length (asked_from everyone (option_copied goes_on.entry)) ≤ «record».new.room) }
     ensures fits { OnOk result (length «record».old.marks + reserved + length (asked_from everyone (option_copied goes_on.entry)) ≤ 1000000) }
-    ensures refused { IfErr result (FailsToAsk (disks V.tells V.may_leave V.fault_count) desk.old desk.new (option_copied goes_on.entry) (length «record».old.marks + reserved + length (asked_from everyone (option_copied goes_on.entry)))) }
+    ensures refused { IfErr result (FailsToAsk (disk_meaning V.Disk) desk.old desk.new (option_copied goes_on.entry) (length «record».old.marks + reserved + length (asked_from everyone (option_copied goes_on.entry)))) }
     ensures not_sent { OnErr result (flow.new ≡ flow.old) }
     ensures marks { «record».new.marks ≡ «record».old.marks }
     ensures grows { «record».old.room ≤ «record».new.room }
@@ -464,9 +463,9 @@ fn tag_for<V: Disk>(desk: &mut Desk<V>, goes_on: Option<&Listing>) -> Result<Bal
     requires idle { desk.old.round ≡ None }
     requires proposer { desk.old.id ≤ 16 }
     requires fits { IfSome (option_copied goes_on) (λ listing. FitsBallot listing.tag) }
-    ensures tag { IfOk result (λ tag. HasTag (disks V.tells V.may_leave V.fault_count) (option_copied goes_on.entry) desk.old desk.new tag × FitsBallot tag) }
+    ensures tag { IfOk result (λ tag. HasTag (disk_meaning V.Disk) (option_copied goes_on.entry) desk.old desk.new tag × FitsBallot tag) }
     ensures desk { OnOk result (desk.new ≡ record desk.old { vault = desk.new.vault }) }
-    ensures failed { IfErr result (FailsToTag (disks V.tells V.may_leave V.fault_count) (option_copied goes_on.entry) desk.old desk.new) }
+    ensures failed { IfErr result (FailsToTag (disk_meaning V.Disk) (option_copied goes_on.entry) desk.old desk.new) }
 {
     match goes_on {
         Some(listing) => Ok(listing.tag()),

@@ -2,10 +2,8 @@
 
 ghost use Rattle.std.specs.Prelude.{◌≡◌, ◌+◌, ◌<◌, ◌≤◌, [], ◌++◌, drop, reverse, replicate, vec_len, vec_capacity, IfOk, IfErr, OnOk};
 ghost use Rattle.cas_flow.specs.Flow.{empty_flow};
-ghost use Rattle.cas_model.specs.View.{meaning};
+ghost use Rattle.cas_model.specs.View.{meaning, disk_meaning, shelf_meaning};
 ghost use Rattle.cas_world.specs.Openings.Opening.{unbegun, members_to, unstarted, NoneStarted, shelves_of, disks_of, IsFaultOf, fault_of_shelf, AreStartedBelow, AMemberFails, IsDeskOver, AreDesksBelow, AVaultFails, AllStart, SomeDiskFails};
-ghost use Rattle.cas_world_calls.specs.Proposing.{disks as disks_like};
-ghost use Rattle.cas_world.specs.Frames.Serve.{shelves as shelves_like};
 
 use crate::fault::OpenFault;
 use crate::world::Config;
@@ -157,8 +155,8 @@ pub(crate) fn start<S: Shelf, V: Disk>(
     requires disks { config.proposers < vec_len disks.old }
     requires none { desks.old.items ≡ [] }
     requires room { config.proposers + 1 ≤ vec_capacity desks.old }
-    ensures ok { OnOk result (AllStart (meaning S.contents S.tells S.may_leave S.fault_count V.tells V.may_leave V.fault_count) S.fault_count V.fault_count config.acceptors config.proposers acceptors.old.items (reverse disks.old.items) acceptors.new.items desks.new.items (reverse disks.new.items)) }
-    ensures err { IfErr result (λ fault. SomeDiskFails (meaning S.contents S.tells S.may_leave S.fault_count V.tells V.may_leave V.fault_count) S.fault_count V.fault_count config.acceptors config.proposers acceptors.old.items (reverse disks.old.items) fault acceptors.new.items desks.new.items (reverse disks.new.items)) }
+    ensures ok { OnOk result (AllStart (meaning S.Shelf V.Disk) S.fault_count V.fault_count config.acceptors config.proposers acceptors.old.items (reverse disks.old.items) acceptors.new.items desks.new.items (reverse disks.new.items)) }
+    ensures err { IfErr result (λ fault. SomeDiskFails (meaning S.Shelf V.Disk) S.fault_count V.fault_count config.acceptors config.proposers acceptors.old.items (reverse disks.old.items) fault acceptors.new.items desks.new.items (reverse disks.new.items)) }
     ensures capacity { vec_capacity disks.new ≡ vec_capacity disks.old }
 {
     start_members(acceptors, config.acceptors)?;
@@ -170,8 +168,8 @@ fn start_members<S: Shelf>(acceptors: &mut Vec<Acceptor<S>>, count: u8) -> Resul
     requires few { count < vec_len acceptors.old }
     requires identities { vec_len acceptors.old ≤ 64 }
     requires fresh { NoneStarted acceptors.old.items }
-    ensures ok { OnOk result (AreStartedBelow (shelves_like S.contents S.tells S.may_leave S.fault_count) S.fault_count acceptors.old.items (count + 1) acceptors.new.items) }
-    ensures err { IfErr result (λ fault. AMemberFails (shelves_like S.contents S.tells S.may_leave S.fault_count) S.fault_count acceptors.old.items count fault acceptors.new.items) }
+    ensures ok { OnOk result (AreStartedBelow (shelf_meaning S.Shelf) S.fault_count acceptors.old.items (count + 1) acceptors.new.items) }
+    ensures err { IfErr result (λ fault. AMemberFails (shelf_meaning S.Shelf) S.fault_count acceptors.old.items count fault acceptors.new.items) }
 {
     for number in 1..=count {
         match acceptors[usize::from(number)].restart() {
@@ -203,9 +201,9 @@ fn start_desks<V: Disk>(
     requires disks { proposers < vec_len disks.old }
     requires none { desks.old.items ≡ [] }
     requires room { proposers + 1 ≤ vec_capacity desks.old }
-    ensures ok { OnOk result (AreDesksBelow (disks_like V.tells V.may_leave V.fault_count) V.fault_count (reverse disks.old.items) (proposers + 1) desks.new.items) }
+    ensures ok { OnOk result (AreDesksBelow (disk_meaning V.Disk) V.fault_count (reverse disks.old.items) (proposers + 1) desks.new.items) }
     ensures left { OnOk result (reverse disks.new.items ≡ drop (proposers + 1) (reverse disks.old.items)) }
-    ensures err { IfErr result (λ fault. AVaultFails (disks_like V.tells V.may_leave V.fault_count) V.fault_count (reverse disks.old.items) proposers fault desks.new.items (reverse disks.new.items)) }
+    ensures err { IfErr result (λ fault. AVaultFails (disk_meaning V.Disk) V.fault_count (reverse disks.old.items) proposers fault desks.new.items (reverse disks.new.items)) }
     ensures capacity { vec_capacity disks.new ≡ vec_capacity disks.old }
 {
     for number in 0..=proposers {
@@ -225,7 +223,7 @@ fn start_desks<V: Disk>(
 /// The desk of a proposer over a vault that is started. After an `Err` the disk comes back. `DiskFault` names it by its number, and
 /// comes only where its count of faults rose.
 fn start_desk<V: Disk>(alloc: Global, id: ProposerId, disk: V) -> Result<Desk<V>, (OpenFault, V)>
-    ensures desk { IfOk result (IsDeskOver (disks_like V.tells V.may_leave V.fault_count) V.fault_count id disk) }
+    ensures desk { IfOk result (IsDeskOver (disk_meaning V.Disk) V.fault_count id disk) }
     ensures fault { IfErr result (λ back. IsFaultOf (64 + id) (V.fault_count disk) (V.fault_count back.1) back.0) }
     ensures never_falls { IfErr result (λ back. V.fault_count disk ≤ V.fault_count back.1) }
 {

@@ -4,12 +4,10 @@ ghost use Rattle.std.specs.Prelude.{◌≡◌, ◌≤◌, slice_get};
 ghost use Rattle.cas_world.specs.Readers.{up_in};
 ghost use Rattle.cas_model.specs.Stops.Step.{CrashesDesk, broken_off_view};
 ghost use Rattle.cas_model.specs.Step.{Step, CrashAcceptor, RestartAcceptor, CrashProposer, RestartProposer};
-ghost use Rattle.cas_model.specs.View.{IsAt, meaning};
+ghost use Rattle.cas_model.specs.View.{IsAt, meaning, disk_meaning, shelf_meaning};
 ghost use Rattle.cas_acceptor.specs.Acceptor.{AcceptorView};
 ghost use Rattle.cas_proposer.specs.Desk.{DeskView};
-ghost use Rattle.cas_world_calls.specs.Proposing.{disks};
 ghost use Rattle.cas_world.specs.Stops.Restarting.{TellsOfAcceptor, TellsOfDesk};
-ghost use Rattle.cas_world.specs.Frames.Serve.{shelves};
 
 use crate::world::World;
 use cas_ballot::AcceptorId;
@@ -33,7 +31,7 @@ impl<S: Shelf, V: Disk> World<S, V> {
 
     /// The acceptor crashes.
     pub fn crash_acceptor(&mut self, id: AcceptorId)
-        ensures { Step (meaning S.contents S.tells S.may_leave S.fault_count V.tells V.may_leave V.fault_count) self.old (CrashAcceptor id) self.new }
+        ensures { Step (meaning S.Shelf V.Disk) self.old (CrashAcceptor id) self.new }
     {
         self.acceptors[usize::from(id.number())].crash();
     }
@@ -43,8 +41,8 @@ impl<S: Shelf, V: Disk> World<S, V> {
     /// [`ShelfFault::DiskFault`] comes only where the count of faults of its shelf rose, [`ShelfFault::Foreign`] only where a crash left
     /// bytes that are no shelf from that place on, and [`ShelfFault::Full`] never.
     pub fn restart_acceptor(&mut self, id: AcceptorId) -> Result<(), ShelfFault>
-        ensures step { Step (meaning S.contents S.tells S.may_leave S.fault_count V.tells V.may_leave V.fault_count) self.old (RestartAcceptor id) self.new }
-        ensures tells { (was now : AcceptorView S) → IsAt self.old.acceptors id was → IsAt self.new.acceptors id now → TellsOfAcceptor (shelves S.contents S.tells S.may_leave S.fault_count) was now result }
+        ensures step { Step (meaning S.Shelf V.Disk) self.old (RestartAcceptor id) self.new }
+        ensures tells { (was now : AcceptorView S) → IsAt self.old.acceptors id was → IsAt self.new.acceptors id now → TellsOfAcceptor (shelf_meaning S.Shelf) was now result }
     {
         self.acceptors[usize::from(id.number())].restart()
     }
@@ -53,7 +51,7 @@ impl<S: Shelf, V: Disk> World<S, V> {
     /// an exchange of proposer 0, which ends then with what it was told.
     pub fn crash_proposer(&mut self, proposer: u8)
         requires { proposer ≤ self.old.last_proposer }
-        ensures { Step (meaning S.contents S.tells S.may_leave S.fault_count V.tells V.may_leave V.fault_count) self.old (CrashProposer proposer) self.new }
+        ensures { Step (meaning S.Shelf V.Disk) self.old (CrashProposer proposer) self.new }
     {
         self.crash_desk(proposer);
         if proposer == 0 {
@@ -64,7 +62,7 @@ impl<S: Shelf, V: Disk> World<S, V> {
     /// The proposer's desk crashes, within a round or beside one.
     fn crash_desk(&mut self, proposer: u8)
         requires { proposer ≤ self.old.last_proposer }
-        ensures { CrashesDesk (meaning S.contents S.tells S.may_leave S.fault_count V.tells V.may_leave V.fault_count) self.old proposer self.new }
+        ensures { CrashesDesk (meaning S.Shelf V.Disk) self.old proposer self.new }
     {
         let place = usize::from(proposer);
         let closes = self.desks[place].round().is_some();
@@ -91,8 +89,8 @@ impl<S: Shelf, V: Disk> World<S, V> {
     /// crash left bytes that are no vault from that place on, and [`VaultError::Spent`] never.
     pub fn restart_proposer(&mut self, proposer: u8) -> Result<(), VaultError>
         requires { proposer ≤ self.old.last_proposer }
-        ensures step { Step (meaning S.contents S.tells S.may_leave S.fault_count V.tells V.may_leave V.fault_count) self.old (RestartProposer proposer) self.new }
-        ensures tells { (was now : DeskView V) → IsAt self.old.desks proposer was → IsAt self.new.desks proposer now → TellsOfDesk (disks V.tells V.may_leave V.fault_count) was now result }
+        ensures step { Step (meaning S.Shelf V.Disk) self.old (RestartProposer proposer) self.new }
+        ensures tells { (was now : DeskView V) → IsAt self.old.desks proposer was → IsAt self.new.desks proposer now → TellsOfDesk (disk_meaning V.Disk) was now result }
     {
         let desk = &mut self.desks[usize::from(proposer)];
         let was_down = desk.is_down();

@@ -9,14 +9,13 @@ ghost use Rattle.cas_model.specs.Step.{Step, RefuseKey, OpenPlan as OpensPlan, E
 ghost use Rattle.cas_model.specs.Calls.Desks.{EntersEra, FailsToEnter};
 ghost use Rattle.cas_model.specs.Exchanges.Step.{told_view};
 ghost use Rattle.cas_model.specs.Eras.Step.{FailsByFaults, Welcomes, used_with};
-ghost use Rattle.cas_model.specs.View.{meaning};
+ghost use Rattle.cas_model.specs.View.{meaning, disk_meaning};
 ghost use Rattle.cas_world_calls.specs.Answers.{is_plain, crash_answer, moved_answer};
 ghost use Rattle.cas_world_calls.specs.Call.{over};
 ghost use Rattle.cas_world_calls.specs.Council.{council_view, due_in};
 ghost use Rattle.cas_world.specs.Exchanges.Exchange.{WasToldOrder};
 ghost use Rattle.cas_world.specs.Eras.Moving.{Leaves, Stays, MarksMove, closed_with};
 ghost use Rattle.cas_world.specs.Eras.Plans.{asked_to, planned_by, IsFor, IsUnderWay, IsAtEnd, IsPartial, MayOpenPlan, MayEnter, step_of, rescanned_of, entrant_of};
-ghost use Rattle.cas_world_calls.specs.Proposing.{disks};
 
 use crate::world::World;
 use cas_ballot::{AcceptorId, Members};
@@ -131,7 +130,7 @@ impl<S: Shelf, V: Disk> World<S, V> {
         requires { IsSome self.old.council.order }
         ensures key { IfOk result (λ key. key ≡ due_in self.old.council.plan) }
         ensures unchanged { OnOk result (self.new ≡ self.old) }
-        ensures step { OnErr result (Step (meaning S.contents S.tells S.may_leave S.fault_count V.tells V.may_leave V.fault_count) self.old RefuseKey self.new) }
+        ensures step { OnErr result (Step (meaning S.Shelf V.Disk) self.old RefuseKey self.new) }
         ensures told { IfErr result (WasToldOrder self.new) }
     {
         let copied = match self.settle_key() {
@@ -152,7 +151,7 @@ impl<S: Shelf, V: Disk> World<S, V> {
     /// [`OpAnswer::Refused`] exactly where the membership does not admit it; [`Answer::NoMemory`]. After each of them no change has begun.
     pub fn open_plan(&mut self, kind: PlanKind, id: AcceptorId) -> Result<(), OpAnswer>
         requires { MayOpenPlan self.old (asked_to kind id) }
-        ensures step { Step (meaning S.contents S.tells S.may_leave S.fault_count V.tells V.may_leave V.fault_count) self.old OpensPlan self.new }
+        ensures step { Step (meaning S.Shelf V.Disk) self.old OpensPlan self.new }
         ensures ok { OnOk result (IsUnderWay self.new (asked_to kind id)) }
         ensures err { IfErr result (WasToldOrder self.new) }
     {
@@ -179,9 +178,9 @@ impl<S: Shelf, V: Disk> World<S, V> {
     /// The shelf of an acceptor that joins is started, or stays down by a fault; one that leaves goes on as it is. Answers who is a member
     /// then, beside those that were.
     fn welcome(&mut self, kind: PlanKind, id: AcceptorId) -> Result<Members, AllocError>
-        ensures welcomes { Welcomes (meaning S.contents S.tells S.may_leave S.fault_count V.tells V.may_leave V.fault_count) self.old (asked_to kind id) self.new }
+        ensures welcomes { Welcomes (meaning S.Shelf V.Disk) self.old (asked_to kind id) self.new }
         ensures used { IfOk result (λ used. used ≡ used_with (asked_to kind id) self.old.council.used) }
-        ensures faulted { OnOk result (FailsByFaults (meaning S.contents S.tells S.may_leave S.fault_count V.tells V.may_leave V.fault_count) self.old (asked_to kind id) self.new) }
+        ensures faulted { OnOk result (FailsByFaults (meaning S.Shelf V.Disk) self.old (asked_to kind id) self.new) }
     {
         let mut used = self.council.used;
         match kind {
@@ -207,7 +206,7 @@ impl<S: Shelf, V: Disk> World<S, V> {
     /// in this step, and then its open round is closed as by a crash; [`Answer::NoMemory`]. After each of them the step is still due.
     pub fn enter_era(&mut self, proposer: u8) -> Result<(), OpAnswer>
         requires { MayEnter self.old proposer }
-        ensures step { Step (meaning S.contents S.tells S.may_leave S.fault_count V.tells V.may_leave V.fault_count) self.old (EntersNext proposer) self.new }
+        ensures step { Step (meaning S.Shelf V.Disk) self.old (EntersNext proposer) self.new }
         ensures ok { OnOk result ((order : OrderView) → self.old.council.order ≡ Some order → IsUnderWay self.new order.asked) }
         ensures err { IfErr result (WasToldOrder self.new) }
     {
@@ -264,9 +263,9 @@ fn move_on<V: Disk>(
     requires up { desk.old.down ≡ false }
     requires proposer { proposer ≤ 16 }
     requires open { IsSome desk.old.round → IsSome caller.old.call }
-    ensures ok { OnOk result (Leaves (EntersEra (disks V.tells V.may_leave V.fault_count) next.now) (closed_with (λ proposed. moved_answer proposed next.now.number)) proposer desk.old desk.new caller.old caller.new flow.old flow.new) }
-    ensures fault { IsErrOf result VaultError.VaultFault → Leaves (FailsToEnter (disks V.tells V.may_leave V.fault_count) next.now) (closed_with crash_answer) proposer desk.old desk.new caller.old caller.new flow.old flow.new }
-    ensures no_memory { IsErrOf result VaultError.NoMemory → Stays (disks V.tells V.may_leave V.fault_count) desk.old desk.new caller.old caller.new flow.old flow.new }
+    ensures ok { OnOk result (Leaves (EntersEra (disk_meaning V.Disk) next.now) (closed_with (λ proposed. moved_answer proposed next.now.number)) proposer desk.old desk.new caller.old caller.new flow.old flow.new) }
+    ensures fault { IsErrOf result VaultError.VaultFault → Leaves (FailsToEnter (disk_meaning V.Disk) next.now) (closed_with crash_answer) proposer desk.old desk.new caller.old caller.new flow.old flow.new }
+    ensures no_memory { IsErrOf result VaultError.NoMemory → Stays (disk_meaning V.Disk) desk.old desk.new caller.old caller.new flow.old flow.new }
     ensures cause { IfErr result (λ error. (error ≡ VaultError.VaultFault) ⊎ (error ≡ VaultError.NoMemory)) }
 {
     let closes = has_round(desk);

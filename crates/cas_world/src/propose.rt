@@ -6,10 +6,10 @@ ghost use Rattle.cas_model_causes.specs.Calls.Told.{PreparesBy, AcceptsBy, Tells
 ghost use Rattle.cas_protocol.specs.Proposers.{state_read};
 ghost use Rattle.cas_model.specs.Calls.Step.{offered_by};
 ghost use Rattle.cas_model.specs.Step.{Step, Propose, Count};
-ghost use Rattle.cas_model.specs.View.{CallerView, meaning};
+ghost use Rattle.cas_model.specs.View.{CallerView, meaning, disk_meaning};
 ghost use Rattle.cas_model.specs.Laws.{IsKept};
 ghost use Rattle.cas_world.specs.Calls.Count.{MayCount, Counts};
-ghost use Rattle.cas_world_calls.specs.Proposing.{disks, FailsToPropose};
+ghost use Rattle.cas_world_calls.specs.Proposing.{FailsToPropose};
 ghost use Rattle.cas_world.specs.Calls.Reading.{MayPropose, Reads, Proposes, EndsShort, HasProposed};
 ghost use Rattle.cas_world.specs.World.{IsInPhase, WasTold};
 ghost use Rattle.cas_world_calls.specs.declared.call.OpenCall.{OpenCall};
@@ -50,10 +50,10 @@ impl<S: Shelf, V: Disk> World<S, V> {
     pub fn propose(&mut self, proposer: u8) -> Result<(), Answer>
         requires known { proposer ≤ self.old.last_proposer }
         requires preparing { IsInPhase self.old proposer true }
-        ensures step { Step (meaning S.contents S.tells S.may_leave S.fault_count V.tells V.may_leave V.fault_count) self.old (Propose proposer) self.new }
+        ensures step { Step (meaning S.Shelf V.Disk) self.old (Propose proposer) self.new }
         ensures proposed { OnOk result (HasProposed self.new proposer) }
         ensures told { (caller : CallerView) → slice_get self.old.callers proposer ≡ Some caller → IfErr result (WasTold self.new proposer caller.number) }
-        ensures cause { IfErr result (λ told. PreparesBy (meaning S.contents S.tells S.may_leave S.fault_count V.tells V.may_leave V.fault_count) self.old proposer told self.new) }
+        ensures cause { IfErr result (λ told. PreparesBy (meaning S.Shelf V.Disk) self.old proposer told self.new) }
         ensures above { S.tells → V.tells → IfErr result (TellsAbove self.old proposer) }
     {
         let alloc = *self.acceptors.allocator();
@@ -80,11 +80,11 @@ impl<S: Shelf, V: Disk> World<S, V> {
     pub fn count(&mut self, proposer: u8) -> Answer
         requires known { proposer ≤ self.old.last_proposer }
         requires counting { IsInPhase self.old proposer false }
-        ensures step { Step (meaning S.contents S.tells S.may_leave S.fault_count V.tells V.may_leave V.fault_count) self.old (Count proposer) self.new }
+        ensures step { Step (meaning S.Shelf V.Disk) self.old (Count proposer) self.new }
         ensures told { (caller : CallerView) → slice_get self.old.callers proposer ≡ Some caller → WasTold self.new proposer caller.number result }
         ensures cause { AcceptsBy self.old proposer result }
         ensures above { S.tells → V.tells → TellsAbove self.old proposer result }
-        ensures kept { S.tells → V.tells → (a : AnAcknowledgment) → Stands (Acked a) (reverse self.new.marks) → IsAboveFloors (reverse self.new.marks) a.key a.ballot → IsKept (meaning S.contents S.tells S.may_leave S.fault_count V.tells V.may_leave V.fault_count) self.new a }
+        ensures kept { S.tells → V.tells → (a : AnAcknowledgment) → Stands (Acked a) (reverse self.new.marks) → IsAboveFloors (reverse self.new.marks) a.key a.ballot → IsKept (meaning S.Shelf V.Disk) self.new a }
     {
         let place = usize::from(proposer);
         let desk = &mut self.desks[place];
@@ -121,8 +121,8 @@ fn end_prepare<V: Disk>(
     proposer: u8,
 ) -> Result<Proposing, Answer>
     requires { MayPropose desk.old caller.now flow.old proposer }
-    ensures proposes { (round : Round) → desk.old.round ≡ Some round → (call : OpenCall) → caller.now.call ≡ Some call → IfOk result (Proposes (disks V.tells V.may_leave V.fault_count) proposer caller.now.number round call desk.old desk.new flow.old flow.new) }
-    ensures ends { (round : Round) → desk.old.round ≡ Some round → IfErr result (EndsShort (disks V.tells V.may_leave V.fault_count) round desk.old desk.new) }
+    ensures proposes { (round : Round) → desk.old.round ≡ Some round → (call : OpenCall) → caller.now.call ≡ Some call → IfOk result (Proposes (disk_meaning V.Disk) proposer caller.now.number round call desk.old desk.new flow.old flow.new) }
+    ensures ends { (round : Round) → desk.old.round ≡ Some round → IfErr result (EndsShort (disk_meaning V.Disk) round desk.old desk.new) }
     ensures not_sent { OnErr result (flow.new ≡ flow.old) }
 {
     match refusal_by(desk.verdict()) {
@@ -144,8 +144,8 @@ fn propose_read<V: Disk>(
 ) -> Result<Proposing, Answer>
     requires may { MayPropose desk.old caller.now flow.old proposer }
     requires quorum { IsTrue (may_read desk.old.round) }
-    ensures proposes { (round : Round) → desk.old.round ≡ Some round → (call : OpenCall) → caller.now.call ≡ Some call → IfOk result (Proposes (disks V.tells V.may_leave V.fault_count) proposer caller.now.number round call desk.old desk.new flow.old flow.new) }
-    ensures refused { (round : Round) → desk.old.round ≡ Some round → IfErr result (FailsToPropose (disks V.tells V.may_leave V.fault_count) round.key desk.old desk.new) }
+    ensures proposes { (round : Round) → desk.old.round ≡ Some round → (call : OpenCall) → caller.now.call ≡ Some call → IfOk result (Proposes (disk_meaning V.Disk) proposer caller.now.number round call desk.old desk.new flow.old flow.new) }
+    ensures refused { (round : Round) → desk.old.round ≡ Some round → IfErr result (FailsToPropose (disk_meaning V.Disk) round.key desk.old desk.new) }
     ensures not_sent { OnErr result (flow.new ≡ flow.old) }
 {
     let Some(call) = &caller.call else {
@@ -211,7 +211,7 @@ pub(crate) fn acknowledge<V: Disk>(
 ) -> Answer
     requires { MayCount desk.old caller.old «record».old.room }
     ensures { (round : Round) → desk.old.round ≡ Some round → (call : OpenCall) → caller.old.call ≡ Some call → (outcome : Outcome) → call.proposed ≡ Some outcome
-        → Counts (record { tells = V.tells; may_leave = V.may_leave; faults = V.fault_count }) desk.old desk.new round caller.old caller.new call outcome «record».old «record».new result }
+        → Counts (disk_meaning V.Disk) desk.old desk.new round caller.old caller.new call outcome «record».old «record».new result }
 {
     let by = desk.confirmers();
     let (ballot, era, ride) = match desk.round() {

@@ -6,7 +6,8 @@ ghost use Rattle.cas_change.specs.Outcome.{outcome_of};
 ghost use Rattle.cas_model.specs.Calls.Step.{Sends, accepts_to};
 ghost use Rattle.cas_proposer.specs.Desk.{may_ride};
 ghost use Rattle.cas_proposer.specs.declared.round.Round.{Round};
-ghost use Rattle.cas_world_calls.specs.Proposing.{proposing_of, disks, RidesOn, ProposesOn, FailsToPropose};
+ghost use Rattle.cas_world_calls.specs.Proposing.{proposing_of, RidesOn, ProposesOn, FailsToPropose};
+ghost use Rattle.cas_model.specs.View.{disk_meaning};
 
 use cas_ballot::Ballot;
 use cas_cache::Ready;
@@ -42,8 +43,8 @@ pub(crate) fn propose_on<V: Disk>(
     requires queue { author.caller < length flow.old.own }
     requires ballot { FitsBallot ready.now.ballot }
     ensures made { IfOk result (λ proposing. proposing ≡ proposing_of author key.now era.now.number program.now ready.now) }
-    ensures sent { (round : Round) → desk.old.round ≡ Some round → OnOk result (ProposesOn (disks V.tells V.may_leave V.fault_count) round desk.old desk.new author.caller key.now era.now (outcome_of program.now ready.now.state).state ready.now.ballot flow.old flow.new) }
-    ensures refused { (round : Round) → desk.old.round ≡ Some round → IfErr result (FailsToPropose (disks V.tells V.may_leave V.fault_count) round.key desk.old desk.new) }
+    ensures sent { (round : Round) → desk.old.round ≡ Some round → OnOk result (ProposesOn (disk_meaning V.Disk) round desk.old desk.new author.caller key.now era.now (outcome_of program.now ready.now.state).state ready.now.ballot flow.old flow.new) }
+    ensures refused { (round : Round) → desk.old.round ≡ Some round → IfErr result (FailsToPropose (disk_meaning V.Disk) round.key desk.old desk.new) }
     ensures not_sent { OnErr result (flow.new ≡ flow.old) }
 {
     let ride = ride_on(desk)?;
@@ -63,8 +64,8 @@ fn ride_on<V: Disk>(desk: &mut Desk<V>) -> Result<Option<Ballot>, Answer>
     requires up { desk.old.down ≡ false }
     requires accepting { IsTrue (may_ride desk.old.round) }
     requires proposer { desk.old.id ≤ 16 }
-    ensures rides { (round : Round) → desk.old.round ≡ Some round → IfOk result (RidesOn (disks V.tells V.may_leave V.fault_count) round desk.old desk.new) }
-    ensures refused { (round : Round) → desk.old.round ≡ Some round → IfErr result (FailsToPropose (disks V.tells V.may_leave V.fault_count) round.key desk.old desk.new) }
+    ensures rides { (round : Round) → desk.old.round ≡ Some round → IfOk result (RidesOn (disk_meaning V.Disk) round desk.old desk.new) }
+    ensures refused { (round : Round) → desk.old.round ≡ Some round → IfErr result (FailsToPropose (disk_meaning V.Disk) round.key desk.old desk.new) }
 {
     match desk.ride() {
         Ok(ride) => Ok(ride),

@@ -6,10 +6,9 @@ ghost use Rattle.cas_collect.specs.declared.collect.CollectStep.TheVariants.{Ren
 ghost use Rattle.cas_vault.specs.Vault.{kept_of};
 ghost use Rattle.cas_model.specs.Step.{Step, Renew, MakeFloor};
 ghost use Rattle.cas_model.specs.Calls.Desks.{Renews, FailsToRenew, FindsNoAge};
-ghost use Rattle.cas_model.specs.View.{meaning};
+ghost use Rattle.cas_model.specs.View.{meaning, disk_meaning};
 ghost use Rattle.cas_world_calls.specs.Answers.{aged_answer, crash_answer};
 ghost use Rattle.cas_world_calls.specs.Council.{council_view};
-ghost use Rattle.cas_world_calls.specs.Proposing.{disks};
 ghost use Rattle.cas_world.specs.Collection.Collect.{IsDueStep, IsNextAge, GoesOnCollecting, MarksRenewal, AreFloorsPassed};
 ghost use Rattle.cas_world.specs.Exchanges.Exchange.{WasToldOrder};
 ghost use Rattle.cas_world.specs.Eras.Moving.{Leaves, closed_with};
@@ -38,7 +37,7 @@ impl<S: Shelf, V: Disk> World<S, V> {
     pub fn renew(&mut self, proposer: u8) -> Result<u64, OpAnswer>
         requires known { proposer ≤ self.old.last_proposer }
         requires due { IsDueStep self.old (RenewStep proposer) }
-        ensures step { Step (meaning S.contents S.tells S.may_leave S.fault_count V.tells V.may_leave V.fault_count) self.old (Renew proposer) self.new }
+        ensures step { Step (meaning S.Shelf V.Disk) self.old (Renew proposer) self.new }
         ensures ok { OnOk result (GoesOnCollecting self.old self.new) }
         ensures age { IfOk result (λ age. IsNextAge self.old proposer age) }
         ensures err { IfErr result (WasToldOrder self.new) }
@@ -73,9 +72,9 @@ impl<S: Shelf, V: Disk> World<S, V> {
     /// whatever a crash leaves of its shelf; and what is under way to such a member for the key, at or below the floor, is too old for it.
     pub fn floor(&mut self)
         requires { IsDueStep self.old FloorStep }
-        ensures step { Step (meaning S.contents S.tells S.may_leave S.fault_count V.tells V.may_leave V.fault_count) self.old MakeFloor self.new }
+        ensures step { Step (meaning S.Shelf V.Disk) self.old MakeFloor self.new }
         ensures goes_on { GoesOnCollecting self.old self.new }
-        ensures passed { S.tells → V.tells → AreFloorsPassed (meaning S.contents S.tells S.may_leave S.fault_count V.tells V.may_leave V.fault_count) self.new }
+        ensures passed { S.tells → V.tells → AreFloorsPassed (meaning S.Shelf V.Disk) self.new }
     {
         let ballot = match &self.council.collection {
             Some(collection) => collection.tomb(),
@@ -104,10 +103,10 @@ fn grow_older<V: Disk>(
     requires proposer { proposer ≤ 16 }
     requires tomb { FitsBallot tomb }
     requires open { IsSome desk.old.round → IsSome caller.old.call }
-    ensures ok { IfOk result (λ age. Leaves (Renews (disks V.tells V.may_leave V.fault_count) key.now tomb age) (closed_with (λ proposed. aged_answer proposed age)) proposer desk.old desk.new caller.old caller.new flow.old flow.new) }
-    ensures fault { IsErrOf result VaultError.VaultFault → Leaves (FailsToRenew (disks V.tells V.may_leave V.fault_count)) (closed_with crash_answer) proposer desk.old desk.new caller.old caller.new flow.old flow.new }
+    ensures ok { IfOk result (λ age. Leaves (Renews (disk_meaning V.Disk) key.now tomb age) (closed_with (λ proposed. aged_answer proposed age)) proposer desk.old desk.new caller.old caller.new flow.old flow.new) }
+    ensures fault { IsErrOf result VaultError.VaultFault → Leaves (FailsToRenew (disk_meaning V.Disk)) (closed_with crash_answer) proposer desk.old desk.new caller.old caller.new flow.old flow.new }
     ensures spent { IsErrOf result VaultError.Spent → ((kept_of desk.old.vault).age ≡ 2 ^ 48) × (desk.new ≡ desk.old) }
-    ensures no_memory { IsErrOf result VaultError.NoMemory → FindsNoAge (disks V.tells V.may_leave V.fault_count) tomb desk.old desk.new }
+    ensures no_memory { IsErrOf result VaultError.NoMemory → FindsNoAge (disk_meaning V.Disk) tomb desk.old desk.new }
     ensures stays { (IsErrOf result VaultError.VaultFault → ⊥) → IfErr result (λ error. (caller.new ≡ caller.old) × (flow.new ≡ flow.old)) }
     ensures cause { IfErr result (λ error. (error ≡ VaultError.VaultFault) ⊎ ((error ≡ VaultError.Spent) ⊎ (error ≡ VaultError.NoMemory))) }
 {

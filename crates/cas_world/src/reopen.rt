@@ -3,11 +3,10 @@
 
 ghost use Rattle.std.specs.Prelude.{◌≡◌, ◌+◌, ◌<◌, ◌≤◌, ◌^◌, ℕ, true, [], map, drop, reverse, vec_len, vec_capacity, IsTrue, IfOk, IfErr, OnOk};
 ghost use Rattle.cas_ballot.specs.Members.{has_member};
-ghost use Rattle.cas_world_calls.specs.Proposing.{disks as disks_like};
 ghost use Rattle.cas_vault.specs.Error.{HasVaultCause};
 ghost use Rattle.cas_vault.specs.Vault.{disk_of, Stands};
 ghost use Rattle.cas_model.specs.Openings.{mark_of};
-ghost use Rattle.cas_model.specs.View.{IsAt};
+ghost use Rattle.cas_model.specs.View.{IsAt, disk_meaning};
 ghost use Rattle.cas_world.specs.Openings.OpeningOn.{opening_of, greatest_counter, placed_as, placed, IsRefused, IsTakenUp, IsTakenUpOver, AreTakenUpBelow, AVaultIsNotTakenUp, IsFaultOfVault, fault_of_vault};
 
 use crate::fault::OpenFault;
@@ -105,9 +104,9 @@ pub(crate) fn take_up_desks<V: Disk>(
     requires disks { proposers < vec_len disks.old }
     requires none { desks.old.items ≡ [] }
     requires room { proposers + 1 ≤ vec_capacity desks.old }
-    ensures ok { OnOk result (AreTakenUpBelow (disks_like V.tells V.may_leave V.fault_count) V.fault_count past (reverse disks.old.items) (proposers + 1) desks.new.items) }
+    ensures ok { OnOk result (AreTakenUpBelow (disk_meaning V.Disk) V.fault_count past (reverse disks.old.items) (proposers + 1) desks.new.items) }
     ensures left { OnOk result (reverse disks.new.items ≡ drop (proposers + 1) (reverse disks.old.items)) }
-    ensures err { IfErr result (λ fault. AVaultIsNotTakenUp (disks_like V.tells V.may_leave V.fault_count) V.seen V.fault_count past (reverse disks.old.items) proposers fault desks.new.items (reverse disks.new.items)) }
+    ensures err { IfErr result (λ fault. AVaultIsNotTakenUp (disk_meaning V.Disk) V.seen V.fault_count past (reverse disks.old.items) proposers fault desks.new.items (reverse disks.new.items)) }
     ensures capacity { vec_capacity disks.new ≡ vec_capacity disks.old }
 {
     for number in 0..=proposers {
@@ -133,8 +132,8 @@ fn take_up_desk<V: Disk>(
     past: u64,
 ) -> Result<Desk<V>, (OpenFault, V)>
     requires { past ≤ 2 ^ 48 }
-    ensures desk { IfOk result (IsTakenUpOver (disks_like V.tells V.may_leave V.fault_count) V.fault_count past id disk) }
-    ensures fault { IfErr result (λ back. IsFaultOfVault (disks_like V.tells V.may_leave V.fault_count) V.seen (64 + id) (V.fault_count disk) (V.fault_count back.1) back.1 back.0) }
+    ensures desk { IfOk result (IsTakenUpOver (disk_meaning V.Disk) V.fault_count past id disk) }
+    ensures fault { IfErr result (λ back. IsFaultOfVault (disk_meaning V.Disk) V.seen (64 + id) (V.fault_count disk) (V.fault_count back.1) back.1 back.0) }
     ensures never_falls { IfErr result (λ back. V.fault_count disk ≤ V.fault_count back.1) }
 {
     let number = ACCEPTORS + id.number();
@@ -157,9 +156,9 @@ fn take_up_desk<V: Disk>(
 /// `Spent` comes exactly where its age is 2^48.
 fn take_up<V: Disk>(vault: &mut Vault<V>, is_new: bool, past: u64) -> Result<(), VaultError>
     requires { past ≤ 2 ^ 48 }
-    ensures ok { OnOk result (IsTakenUp (disks_like V.tells V.may_leave V.fault_count) past vault.new) }
+    ensures ok { OnOk result (IsTakenUp (disk_meaning V.Disk) past vault.new) }
     ensures stands { OnOk result (Stands V.tells V.seen V.may_leave vault.new) }
-    ensures err { IfErr result (IsRefused (disks_like V.tells V.may_leave V.fault_count) V.seen vault.new) }
+    ensures err { IfErr result (IsRefused (disk_meaning V.Disk) V.seen vault.new) }
     ensures cause { HasVaultCause result (V.fault_count (disk_of vault.old)) (V.fault_count (disk_of vault.new)) }
 {
     if is_new {

@@ -3,7 +3,8 @@
 ghost use Rattle.std.specs.Prelude.{◌≡◌, IfOk, None, OnErr, length};
 ghost use Rattle.cas_flow.specs.Message.{CanBeSent};
 ghost use Rattle.cas_flow.specs.declared.message.Message.TheVariants as message;
-ghost use Rattle.cas_world.specs.Frames.Serve.{voted_key, vote_by, shelves, Serves, KeepsAll, AreNumbered};
+ghost use Rattle.cas_world.specs.Frames.Serve.{voted_key, vote_by, Serves, KeepsAll, AreNumbered};
+ghost use Rattle.cas_model.specs.View.{shelf_meaning};
 
 use cas_acceptor::{Acceptor, HandleFault};
 use cas_change::Key;
@@ -30,8 +31,8 @@ pub(crate) fn serve_by<S: Shelf>(
     requires numbered { AreNumbered acceptors.old.items (length acceptors.old.items) }
     requires asked { CanBeSent (message.Request request.now) }
     requires blank { frame ≡ None }
-    ensures ok { IfOk result (λ served. Serves (shelves S.contents S.tells S.may_leave S.fault_count) acceptors.old.items request.now served acceptors.new.items) }
-    ensures err { OnErr result (KeepsAll (shelves S.contents S.tells S.may_leave S.fault_count) acceptors.old.items acceptors.new.items) }
+    ensures ok { IfOk result (λ served. Serves (shelf_meaning S.Shelf) acceptors.old.items request.now served acceptors.new.items) }
+    ensures err { OnErr result (KeepsAll (shelf_meaning S.Shelf) acceptors.old.items acceptors.new.items) }
 {
     let key = key_to_vote(&request.ask)?;
     match acceptors[usize::from(request.to.number())].handle(request) {
@@ -53,8 +54,8 @@ pub(crate) fn serve<S: Shelf>(
 ) -> Result<Served, AllocError>
     requires numbered { AreNumbered acceptors.old.items (length acceptors.old.items) }
     requires asked { CanBeSent (message.Request request.now) }
-    ensures ok { IfOk result (λ served. Serves (shelves S.contents S.tells S.may_leave S.fault_count) acceptors.old.items request.now served acceptors.new.items) }
-    ensures err { OnErr result (KeepsAll (shelves S.contents S.tells S.may_leave S.fault_count) acceptors.old.items acceptors.new.items) }
+    ensures ok { IfOk result (λ served. Serves (shelf_meaning S.Shelf) acceptors.old.items request.now served acceptors.new.items) }
+    ensures err { OnErr result (KeepsAll (shelf_meaning S.Shelf) acceptors.old.items acceptors.new.items) }
 {
     let frame = Frame::blank(alloc)?;
     serve_by(acceptors, request, frame)

@@ -7,8 +7,8 @@ ghost use Rattle.cas_proposer.specs.Desk.{met_counter};
 ghost use Rattle.cas_round.specs.Replies.{met_by};
 ghost use Rattle.cas_model.specs.Step.{Step, Stray, RefuseStray};
 ghost use Rattle.cas_model.specs.Calls.Step.{most_marks};
-ghost use Rattle.cas_model.specs.View.{meaning, reserved_in_all as seen_in_all};
-ghost use Rattle.cas_world.specs.Frames.Serve.{shelves, KeepsAll, AreNumbered};
+ghost use Rattle.cas_model.specs.View.{meaning, reserved_in_all as seen_in_all, shelf_meaning};
+ghost use Rattle.cas_world.specs.Frames.Serve.{KeepsAll, AreNumbered};
 ghost use Rattle.cas_world.specs.Frames.Stray.{AsksLate, ArrivesAt, LetsIn};
 
 use crate::fault::StrayFault;
@@ -40,11 +40,11 @@ impl<S: Shelf, V: Disk> World<S, V> {
     /// holds, and all is as before. So it is after [`StrayFault::NoMemory`], where an acceptor that was asked keeps what it kept.
     pub fn stray(&mut self, index: usize) -> Result<AcceptorId, StrayFault>
         requires { index < length self.old.flow.late }
-        ensures ok { OnOk result (Step (meaning S.contents S.tells S.may_leave S.fault_count V.tells V.may_leave V.fault_count) self.old (Stray index) self.new) }
+        ensures ok { OnOk result (Step (meaning S.Shelf V.Disk) self.old (Stray index) self.new) }
         ensures peer { IfOk result (λ peer. IfSome (slice_get self.old.flow.late index) (λ late. peer ≡ (head_of late).1)) }
         ensures full { IsErrOf result StrayFault.RecordFull ↔ (length self.old.marks + seen_in_all self.old ≡ most_marks) }
         ensures unchanged { IsErrOf result StrayFault.RecordFull → self.new ≡ self.old }
-        ensures err { OnErr result (Step (meaning S.contents S.tells S.may_leave S.fault_count V.tells V.may_leave V.fault_count) self.old RefuseStray self.new) }
+        ensures err { OnErr result (Step (meaning S.Shelf V.Disk) self.old RefuseStray self.new) }
     {
         let alloc = *self.acceptors.allocator();
         let reserved = reserved_in_all(&self.callers, &self.council);
@@ -81,8 +81,8 @@ fn let_in<S: Shelf, V: Disk>(
     requires numbered { AreNumbered acceptors.old.items (length acceptors.old.items) }
     requires late { index < length flow.old.late }
     requires marks { 0 < marks }
-    ensures ok { IfOk result (λ peer. LetsIn (shelves S.contents S.tells S.may_leave S.fault_count) index marks peer acceptors.old.items acceptors.new.items desks.old.items desks.new.items flow.old flow.new «record».old «record».new) }
-    ensures err { OnErr result (KeepsAll (shelves S.contents S.tells S.may_leave S.fault_count) acceptors.old.items acceptors.new.items) }
+    ensures ok { IfOk result (λ peer. LetsIn (shelf_meaning S.Shelf) index marks peer acceptors.old.items acceptors.new.items desks.old.items desks.new.items flow.old flow.new «record».old «record».new) }
+    ensures err { OnErr result (KeepsAll (shelf_meaning S.Shelf) acceptors.old.items acceptors.new.items) }
     ensures same { OnErr result ((desks.new.items ≡ desks.old.items) × (flow.new ≡ flow.old) × («record».new.marks ≡ «record».old.marks) × («record».old.room ≤ «record».new.room)) }
 {
     record.reserve(marks)?;
@@ -113,8 +113,8 @@ fn ask<S: Shelf>(
     requires asked { CanBeSent (message.Request request.now) }
     requires late { index < length flow.old.late }
     requires room { 0 < «record».old.room }
-    ensures ok { OnOk result (AsksLate (shelves S.contents S.tells S.may_leave S.fault_count) index request.now acceptors.old.items acceptors.new.items flow.old flow.new «record».old «record».new) }
-    ensures err { OnErr result (KeepsAll (shelves S.contents S.tells S.may_leave S.fault_count) acceptors.old.items acceptors.new.items) }
+    ensures ok { OnOk result (AsksLate (shelf_meaning S.Shelf) index request.now acceptors.old.items acceptors.new.items flow.old flow.new «record».old «record».new) }
+    ensures err { OnErr result (KeepsAll (shelf_meaning S.Shelf) acceptors.old.items acceptors.new.items) }
     ensures same { OnErr result ((flow.new ≡ flow.old) × («record».new ≡ «record».old)) }
 {
     let served = serve(alloc, acceptors, request)?;

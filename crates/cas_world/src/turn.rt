@@ -8,10 +8,10 @@ ghost use Rattle.cas_flow.specs.declared.message.Message.TheVariants as message;
 ghost use Rattle.cas_proposer.specs.Desk.{met_counter};
 ghost use Rattle.cas_round.specs.Replies.{met_by};
 ghost use Rattle.cas_world.specs.Exchanges.Exchange.{place_of, turn_of, refusal_of};
-ghost use Rattle.cas_world.specs.Frames.Serve.{shelves, KeepsAll, AreNumbered};
+ghost use Rattle.cas_world.specs.Frames.Serve.{KeepsAll, AreNumbered};
 ghost use Rattle.cas_world.specs.Frames.Turn.{MayMark, Makes, Harms, Asks, Arrives, Handles};
 ghost use Rattle.cas_model.specs.Step.{Step, Turn, RefuseTurn};
-ghost use Rattle.cas_model.specs.View.{meaning};
+ghost use Rattle.cas_model.specs.View.{meaning, shelf_meaning};
 ghost use Rattle.cas_slot.specs.declared.message.Request.{Request as ARequest};
 
 use crate::serve::{Served, serve_by};
@@ -39,8 +39,8 @@ impl<S: Shelf, V: Disk> World<S, V> {
     pub fn turn(&mut self, proposer: u8, verdict: Verdict) -> Result<(), AllocError>
         requires proposer { proposer ≤ self.old.last_proposer }
         requires waits { (queue_at self.old.flow (place_of self.old proposer)).messages ≢ [] }
-        ensures ok { OnOk result (Step (meaning S.contents S.tells S.may_leave S.fault_count V.tells V.may_leave V.fault_count) self.old (turn_of self.old proposer verdict) self.new) }
-        ensures err { OnErr result (Step (meaning S.contents S.tells S.may_leave S.fault_count V.tells V.may_leave V.fault_count) self.old (refusal_of self.old proposer) self.new) }
+        ensures ok { OnOk result (Step (meaning S.Shelf V.Disk) self.old (turn_of self.old proposer verdict) self.new) }
+        ensures err { OnErr result (Step (meaning S.Shelf V.Disk) self.old (refusal_of self.old proposer) self.new) }
     {
         if self.asks_as(proposer) {
             self.turn_exchange(verdict)
@@ -53,8 +53,8 @@ impl<S: Shelf, V: Disk> World<S, V> {
     fn turn_round(&mut self, proposer: u8, verdict: Verdict) -> Result<(), AllocError>
         requires proposer { proposer ≤ self.old.last_proposer }
         requires waits { (queue_at self.old.flow proposer).messages ≢ [] }
-        ensures ok { OnOk result (Step (meaning S.contents S.tells S.may_leave S.fault_count V.tells V.may_leave V.fault_count) self.old (Turn proposer verdict) self.new) }
-        ensures err { OnErr result (Step (meaning S.contents S.tells S.may_leave S.fault_count V.tells V.may_leave V.fault_count) self.old (RefuseTurn proposer) self.new) }
+        ensures ok { OnOk result (Step (meaning S.Shelf V.Disk) self.old (Turn proposer verdict) self.new) }
+        ensures err { OnErr result (Step (meaning S.Shelf V.Disk) self.old (RefuseTurn proposer) self.new) }
     {
         let alloc = *self.acceptors.allocator();
         let place = usize::from(proposer);
@@ -141,8 +141,8 @@ fn handle<S: Shelf, V: Disk>(
     requires waits { (queue_at flow.old proposer).messages ≢ [] }
     requires room { (request : ARequest) → slice_get (queue_at flow.old proposer).messages 0 ≡ Some (message.Request request) → 0 < (queue_at (taken flow.old proposer verdict) proposer).room }
     requires mark { MayMark caller.old «record».old.room }
-    ensures ok { OnOk result (Handles (shelves S.contents S.tells S.may_leave S.fault_count) proposer verdict acceptors.old.items acceptors.new.items desk.old desk.new caller.old caller.new flow.old flow.new «record».old «record».new) }
-    ensures err { OnErr result (KeepsAll (shelves S.contents S.tells S.may_leave S.fault_count) acceptors.old.items acceptors.new.items) }
+    ensures ok { OnOk result (Handles (shelf_meaning S.Shelf) proposer verdict acceptors.old.items acceptors.new.items desk.old desk.new caller.old caller.new flow.old flow.new «record».old «record».new) }
+    ensures err { OnErr result (KeepsAll (shelf_meaning S.Shelf) acceptors.old.items acceptors.new.items) }
     ensures same { OnErr result ((desk.new ≡ desk.old) × (caller.new ≡ caller.old) × (flow.new ≡ flow.old) × («record».new ≡ «record».old)) }
 {
     match first(alloc, flow, proposer, own_key(caller))? {
@@ -200,8 +200,8 @@ fn ask<S: Shelf>(
     requires waits { (queue_at flow.old proposer).messages ≢ [] }
     requires room { 0 < (queue_at (taken flow.old proposer verdict) proposer).room }
     requires mark { MayMark caller.old «record».old.room }
-    ensures ok { OnOk result (Asks (shelves S.contents S.tells S.may_leave S.fault_count) proposer verdict request.now acceptors.old.items acceptors.new.items caller.old caller.new flow.old flow.new «record».old «record».new) }
-    ensures err { OnErr result (KeepsAll (shelves S.contents S.tells S.may_leave S.fault_count) acceptors.old.items acceptors.new.items) }
+    ensures ok { OnOk result (Asks (shelf_meaning S.Shelf) proposer verdict request.now acceptors.old.items acceptors.new.items caller.old caller.new flow.old flow.new «record».old «record».new) }
+    ensures err { OnErr result (KeepsAll (shelf_meaning S.Shelf) acceptors.old.items acceptors.new.items) }
     ensures same { OnErr result ((caller.new ≡ caller.old) × (flow.new ≡ flow.old) × («record».new ≡ «record».old)) }
 {
     let frame = flow.blank(alloc)?;

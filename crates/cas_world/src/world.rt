@@ -4,7 +4,7 @@ ghost use Rattle.std.specs.Prelude.{◌≡◌, ◌+◌, ◌<◌, ◌≤◌, ◌^
 ghost use Rattle.cas_acceptor.specs.Acceptor.{AcceptorView};
 ghost use Rattle.cas_model.specs.SafeLaws.{HasPlaces};
 ghost use Rattle.cas_model.specs.Step.{IsOpening};
-ghost use Rattle.cas_model.specs.View.{CallerView, IsAt, era_at, meaning};
+ghost use Rattle.cas_model.specs.View.{CallerView, IsAt, era_at, meaning, disk_meaning, shelf_meaning};
 ghost use Rattle.cas_model.specs.Laws.{IsKept};
 ghost use Rattle.cas_ballot.specs.Members.{union_of};
 ghost use Rattle.cas_model.specs.Openings.{AreOpenings, IsOpeningOn};
@@ -13,8 +13,6 @@ ghost use Rattle.cas_world.specs.Openings.OpeningOn.{openings_of, greatest_count
 ghost use Rattle.cas_world.specs.Openings.Opening.{members_to, unstarted, shelves_of, disks_of, AreStartedBelow, AreDesksBelow, DoesNotOpen};
 ghost use Rattle.cas_world.specs.Readers.{next_number, told_if, closed_in, IsVerdictIn};
 ghost use Rattle.cas_world.specs.Exchanges.Exchange.{asks_as, place_of};
-ghost use Rattle.cas_world.specs.Frames.Serve.{shelves as shelves_like};
-ghost use Rattle.cas_world_calls.specs.Proposing.{disks as disks_like};
 ghost use Rattle.cas_flow.specs.Flow.{queue_at};
 ghost use Rattle.cas_flow.specs.Message.{head_of};
 ghost use Rattle.cas_proposer.specs.Desk.{DeskView};
@@ -80,7 +78,7 @@ impl<S: Shelf, V: Disk> Model for World<S, V> {
 
     ghost view = { λ w. view_of w.setup.proposers w.council w.acceptors.items w.desks.items w.callers.items w.flow w.«record» };
 
-    ghost invariant = { λ w. IsWorld (meaning S.contents S.tells S.may_leave S.fault_count V.tells V.may_leave V.fault_count) (view_of w.setup.proposers w.council w.acceptors.items w.desks.items w.callers.items w.flow w.«record») w.callers.items w.«record».room };
+    ghost invariant = { λ w. IsWorld (meaning S.Shelf V.Disk) (view_of w.setup.proposers w.council w.acceptors.items w.desks.items w.callers.items w.flow w.«record») w.callers.items w.«record».room };
 }
 
 impl<S: Shelf, V: Disk> World<S, V> {
@@ -99,12 +97,12 @@ impl<S: Shelf, V: Disk> World<S, V> {
         requires proposers { config.proposers ≤ 16 }
         requires shelves { vec_len shelves ≡ 64 }
         requires vaults { vec_len vaults ≡ 17 }
-        ensures opening { IfOk result (IsOpening (meaning S.contents S.tells S.may_leave S.fault_count V.tells V.may_leave V.fault_count) (members_to config.acceptors)) }
+        ensures opening { IfOk result (IsOpening (meaning S.Shelf V.Disk) (members_to config.acceptors)) }
         ensures places { IfOk result HasPlaces }
         ensures last_proposer { IfOk result (λ world. world.last_proposer ≡ config.proposers) }
-        ensures shelves { IfOk result (λ world. AreStartedBelow (shelves_like S.contents S.tells S.may_leave S.fault_count) S.fault_count (unstarted 0 shelves.items) (config.acceptors + 1) world.acceptors) }
-        ensures vaults { IfOk result (λ world. AreDesksBelow (disks_like V.tells V.may_leave V.fault_count) V.fault_count vaults.items (config.proposers + 1) world.desks) }
-        ensures fault { IfErr result (λ back. DoesNotOpen (meaning S.contents S.tells S.may_leave S.fault_count V.tells V.may_leave V.fault_count) S.fault_count V.fault_count config.acceptors config.proposers shelves.items vaults.items back.0 back.1.items back.2.items) }
+        ensures shelves { IfOk result (λ world. AreStartedBelow (shelf_meaning S.Shelf) S.fault_count (unstarted 0 shelves.items) (config.acceptors + 1) world.acceptors) }
+        ensures vaults { IfOk result (λ world. AreDesksBelow (disk_meaning V.Disk) V.fault_count vaults.items (config.proposers + 1) world.desks) }
+        ensures fault { IfErr result (λ back. DoesNotOpen (meaning S.Shelf V.Disk) S.fault_count V.fault_count config.acceptors config.proposers shelves.items vaults.items back.0 back.1.items back.2.items) }
         ensures back { IfErr result (λ back. (vec_len back.1 ≡ 64) × (vec_len back.2 ≡ 17)) }
     {
         let Lists {
@@ -167,12 +165,12 @@ impl<S: Shelf, V: Disk> World<S, V> {
         requires shelves { vec_len shelves ≡ 64 }
         requires vaults { vec_len vaults ≡ 17 }
         requires held { MembersHold S.is_up S.contents members (openings_of floors.items) shelves.items }
-        ensures opening { IfOk result (IsOpeningOn (meaning S.contents S.tells S.may_leave S.fault_count V.tells V.may_leave V.fault_count) members (union_of used members) (openings_of floors.items)) }
+        ensures opening { IfOk result (IsOpeningOn (meaning S.Shelf V.Disk) members (union_of used members) (openings_of floors.items)) }
         ensures places { IfOk result HasPlaces }
         ensures last_proposer { IfOk result (λ world. world.last_proposer ≡ config.proposers) }
         ensures shelves { IfOk result (λ world. world.acceptors ≡ placed members 0 shelves.items) }
-        ensures vaults { IfOk result (λ world. AreTakenUpBelow (disks_like V.tells V.may_leave V.fault_count) V.fault_count (greatest_counter floors.items) vaults.items (config.proposers + 1) world.desks) }
-        ensures fault { IfErr result (λ back. DoesNotGoOn (disks_like V.tells V.may_leave V.fault_count) V.seen V.fault_count (greatest_counter floors.items) config.proposers shelves.items vaults.items back.0 back.1.items back.2.items) }
+        ensures vaults { IfOk result (λ world. AreTakenUpBelow (disk_meaning V.Disk) V.fault_count (greatest_counter floors.items) vaults.items (config.proposers + 1) world.desks) }
+        ensures fault { IfErr result (λ back. DoesNotGoOn (disk_meaning V.Disk) V.seen V.fault_count (greatest_counter floors.items) config.proposers shelves.items vaults.items back.0 back.1.items back.2.items) }
         ensures back { IfErr result (λ back. (vec_len back.1 ≡ 64) × (vec_len back.2 ≡ 17)) }
     {
         let past = greatest_counter(&floors);
@@ -223,7 +221,7 @@ impl<S: Shelf, V: Disk> World<S, V> {
         ensures all_shelves { vec_len result.1 ≡ 64 }
         ensures disks { take (self.last_proposer + 1) result.2.items ≡ disks_of self.desks }
         ensures all { vec_len result.2 ≡ 17 }
-        ensures kept { S.tells → V.tells → (a : AnAcknowledgment) → Stands (Acked a) (reverse self.marks) → IsAboveFloors (reverse self.marks) a.key a.ballot → IsKept (meaning S.contents S.tells S.may_leave S.fault_count V.tells V.may_leave V.fault_count) self a }
+        ensures kept { S.tells → V.tells → (a : AnAcknowledgment) → Stands (Acked a) (reverse self.marks) → IsAboveFloors (reverse self.marks) a.key a.ballot → IsKept (meaning S.Shelf V.Disk) self a }
     {
         let World {
             setup,

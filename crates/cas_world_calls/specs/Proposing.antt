@@ -34,10 +34,6 @@ proposing_of author key era program ready = record {
   mark = Proposed (record { caller = author.caller; call = author.call; key = key; ballot = ready.ballot; read = ready.read; era = era; prepared_by = ready.by });
 }
 
--- what the disks of vaults of a kind mean
-abbrev pub disks : {V : Type 0} → Type 0 → (V → List ℕ → Type 0) → (V → ℕ) → DiskMeaning V
-disks tells may_leave faults = record { tells = tells; may_leave = may_leave; faults = faults }
-
 -- the ballot that rides with the accepts of the open round is drawn, or there is none; its vault keeps the age, wherever it stops
 pub record RidesOn {V : Type 0} (m : DiskMeaning V) (round : Round) (old new : DeskView V) (ride : Option Ballot) : Type 0 where
   pub drawn : MayHaveDrawn m old.id old.vault new.vault ride

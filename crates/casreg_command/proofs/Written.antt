@@ -14,6 +14,8 @@ use Rattle.cas_lines.specs.Sink.{AppendsFront}
 use Rattle.cas_lines.proofs.WholeRuns.{HasHandedOut-end}
 use Rattle.casreg_command.specs.declared.status.Status.{Status}
 use Rattle.casreg_command.specs.declared.status.Status.TheVariants as status
+use Rattle.cas_disk.specs.declared.disk.Disk.{Ghosts as DiskKind}
+use Rattle.cas_disk_shelf.specs.Shelf.{disk_of, contents_of, MayLeave}
 use Rattle.cas_disk_shelf.specs.declared.shelf.DiskShelf.{DiskShelf}
 use Rattle.cas_record.specs.Legal.{IsLegal}
 use Rattle.cas_record.specs.declared.mark.Mark.{Mark}
@@ -29,7 +31,7 @@ use Rattle.cas_store.specs.declared.rack.Rack.{Rack}
 use Rattle.casreg_script.specs.Stage.{Stage}
 use Rattle.casreg_script.specs.declared.load.Load.{Load}
 use Rattle.casreg_command.specs.Causes.{AnswersTo, AreFirstLines, WroteIn, EndsIn, IsOfDisk, IsRackOf, Ran, Loaded, WroteSummary, Wrote, not_empty, not_opened, no_board, status_of, LoadEnds, whole, sink_failed, no_text, broke_off}
-use Rattle.cas_model.specs.View.{Meaning}
+use Rattle.cas_model.specs.View.{Meaning, disk_meaning}
 use Rattle.casreg_script.specs.Script.{State, opening_state, AnswersLine, RanOrNot, not_run, ran, one_more, text_of, transcript_of}
 use Rattle.casreg_command.specs.Status.{status_of_fault, status_of_rack, status_of_opening}
 use Rattle.casreg_command.specs.Words.{AreWords, acceptors_of, proposers_of}
@@ -37,6 +39,18 @@ use Rattle.casreg_command.specs.declared.words.Options.{Options}
 use Rattle.casreg_command.specs.declared.words.Request.{Request}
 use Rattle.casreg_command.specs.declared.words.Request.TheVariants as request
 use Rattle.casreg_command.proofs.Runs.{IsMidway, IsMidwayIn, IsNextLine, appends_both, transcript_more, midway-too_many, midway-endless}
+
+-- what disks mean that bear shelves and vaults
+abbrev pub stored : {D : Type 0} → DiskKind D → Meaning (DiskShelf D) D
+stored D = record {
+  shelves = record {
+    contents = λ shelf. contents_of shelf;
+    tells = D.tells;
+    may_leave = λ shelf left. MayLeave D.may_leave shelf left;
+    faults = λ shelf. D.fault_count (disk_of shelf);
+  };
+  disks = disk_meaning D;
+}
 
 -- what holds of the error holds of the result that has it
 pub if_err : {T E : Type 0} (r : Result T E) (e : E) (P : E → Type 0) → r ≡ Err e → P e → IfErr r P

@@ -65,11 +65,11 @@ pub fn cluster<R: Threads + Wait + Sync, S: Source, K: Sink, D: Disk + Send + Dr
     // over the lines that its seed draws, in a new world over the rack's disks; the record of that run is legal, and the rack that comes back
     // holds the disks of its last world. Of a race, what was written is the text of a legal record in which each caller's own marks are those of
     // what its lines ask for, in their order, with the answers that are written, and tell of no more losses than its fate counted harms.
-    ensures wrote { Wrote (meaning ⟦<DiskShelf<D> as Shelf>⟧.contents ⟦<DiskShelf<D> as Shelf>⟧.tells ⟦<DiskShelf<D> as Shelf>⟧.may_leave ⟦<DiskShelf<D> as Shelf>⟧.fault_count D.tells D.may_leave D.fault_count) (rack_meaning D.tells D.seen D.may_leave D.fault_count)
+    ensures wrote { Wrote (meaning ⟦<DiskShelf<D> as Shelf>⟧ D.Disk) (rack_meaning D.Disk)
         (map string_bytes words.now) (FailsBehind S.take_gives source.old source.new) (S.remaining source.old) (K.contents sink.old) (K.contents sink.new) (map F.harm_count fates.old.items) (map F.harm_count fates.new.items) rack result.0 result.1 }
     ensures causes { Causes (map string_bytes words.now) (S.remaining source.old)
         (S.faults_of source.old) (S.faults_of source.new) (K.faults_of sink.old) (K.faults_of sink.new) result.0 }
-    ensures disks { AreDisksToBlame (rack_meaning D.tells D.seen D.may_leave D.fault_count) rack result.1 result.0 }
+    ensures disks { AreDisksToBlame (rack_meaning D.Disk) rack result.1 result.0 }
     ensures read { (asked : ARequest) → ReadsLines asked → AreWords (map string_bytes words.now) asked → result.0 ≡ Status.Ok → IsAtEnd (S.remaining source.new) }
     ensures unread { (load : ALoad) → AreWords (map string_bytes words.now) (Request.Load load) → source.new ≡ source.old }
     ensures unraced { ((options : ScriptOptions) → AreWords (map string_bytes words.now) (Request.Race options) → ⊥) → fates.new ≡ fates.old }
@@ -99,7 +99,7 @@ fn run<R: Threads + Wait + Sync, S: Source, K: Sink, D: Disk + Send + Drop, F: F
     requires vaults { vec_len rack.vaults ≡ 17 }
     requires fates { vec_len fates.old ≡ 17 }
     requires range { IsInRange request }
-    ensures wrote { (words : List (List ℕ)) → AreWords words request → Wrote (meaning ⟦<DiskShelf<D> as Shelf>⟧.contents ⟦<DiskShelf<D> as Shelf>⟧.tells ⟦<DiskShelf<D> as Shelf>⟧.may_leave ⟦<DiskShelf<D> as Shelf>⟧.fault_count D.tells D.may_leave D.fault_count) (rack_meaning D.tells D.seen D.may_leave D.fault_count)
+    ensures wrote { (words : List (List ℕ)) → AreWords words request → Wrote (meaning ⟦<DiskShelf<D> as Shelf>⟧ D.Disk) (rack_meaning D.Disk)
         words (FailsBehind S.take_gives source.old source.new) (S.remaining source.old) (K.contents sink.old) (K.contents sink.new) (map F.harm_count fates.old.items) (map F.harm_count fates.new.items) rack result.0 result.1 }
     ensures usage { result.0 ≢ Status.Usage }
     ensures read_fault { result.0 ≡ Status.ReadFault → Rose (S.faults_of source.old) (S.faults_of source.new) }
@@ -179,7 +179,7 @@ fn run_script<S: Source, K: Sink, D: Disk + Drop>(
     requires known { store.world.last_proposer ≡ options.proposers }
     requires idle { AllIdle store.world }
     requires quiet { IsAtRest store.world.council }
-    ensures ran { Ran (meaning ⟦<DiskShelf<D> as Shelf>⟧.contents ⟦<DiskShelf<D> as Shelf>⟧.tells ⟦<DiskShelf<D> as Shelf>⟧.may_leave ⟦<DiskShelf<D> as Shelf>⟧.fault_count D.tells D.may_leave D.fault_count) D.tells options.tries
+    ensures ran { Ran (meaning ⟦<DiskShelf<D> as Shelf>⟧ D.Disk) D.tells options.tries
         (FailsBehind S.take_gives source.old source.new) (S.remaining source.old) (K.contents sink.old) (K.contents sink.new) store.world result.0 result.1 }
     ensures usage { result.0 ≢ Status.Usage }
     ensures read_fault { result.0 ≡ Status.ReadFault → Rose (S.faults_of source.old) (S.faults_of source.new) }
@@ -211,8 +211,8 @@ fn answer_lines<S: Source, K: Sink, H: Shelf, D: Disk>(
     sink: &mut K,
 ) -> Result<(), Status>
     requires state { (first : State _ _) × IsIn script.old first }
-    ensures all { (first : State _ _) → IsIn script.old first → OnOk result (EndsIn (meaning H.contents H.tells H.may_leave H.fault_count D.tells D.may_leave D.fault_count) script.old.tries (FailsBehind S.take_gives source.old source.new) (S.remaining source.old) (K.contents sink.old) (K.contents sink.new) first script.new Status.Ok) }
-    ensures wrote { (first : State _ _) → IsIn script.old first → IfErr result (λ status. EndsIn (meaning H.contents H.tells H.may_leave H.fault_count D.tells D.may_leave D.fault_count) script.old.tries (FailsBehind S.take_gives source.old source.new) (S.remaining source.old) (K.contents sink.old) (K.contents sink.new) first script.new status) }
+    ensures all { (first : State _ _) → IsIn script.old first → OnOk result (EndsIn (meaning H.Shelf D.Disk) script.old.tries (FailsBehind S.take_gives source.old source.new) (S.remaining source.old) (K.contents sink.old) (K.contents sink.new) first script.new Status.Ok) }
+    ensures wrote { (first : State _ _) → IsIn script.old first → IfErr result (λ status. EndsIn (meaning H.Shelf D.Disk) script.old.tries (FailsBehind S.take_gives source.old source.new) (S.remaining source.old) (K.contents sink.old) (K.contents sink.new) first script.new status) }
     ensures read { OnOk result (IsAtEnd (S.remaining source.new)) }
     ensures whole { OnOk result (IfSome (S.remaining source.old) (λ input. ending_of input ≡ Whole)) }
     ensures fails { IfErr result (λ status. (status ≢ Status.Ok) × (status ≢ Status.Usage)) }

@@ -30,7 +30,7 @@ pub(crate) fn load_store<K: Sink, D: Disk + Drop>(
     requires known { store.world.last_proposer ≡ load.proposers }
     requires idle { AllIdle store.world }
     requires quiet { IsAtRest store.world.council }
-    ensures loaded { Loaded (meaning ⟦<DiskShelf<D> as Shelf>⟧.contents ⟦<DiskShelf<D> as Shelf>⟧.tells ⟦<DiskShelf<D> as Shelf>⟧.may_leave ⟦<DiskShelf<D> as Shelf>⟧.fault_count D.tells D.may_leave D.fault_count) D.tells load (K.contents sink.old) (K.contents sink.new) store.world result.0 result.1 }
+    ensures loaded { Loaded (meaning ⟦<DiskShelf<D> as Shelf>⟧ D.Disk) D.tells load (K.contents sink.old) (K.contents sink.new) store.world result.0 result.1 }
     ensures usage { result.0 ≢ Status.Usage }
     ensures read_fault { result.0 ≢ Status.ReadFault }
     ensures write_fault { result.0 ≡ Status.WriteFault → Rose (K.faults_of sink.old) (K.faults_of sink.new) }
@@ -58,8 +58,8 @@ fn write_summary<K: Sink, H: Shelf, D: Disk>(
     requires known { world.old.last_proposer ≡ load.proposers }
     requires idle { AllIdle world.old }
     requires quiet { IsAtRest world.old.council }
-    ensures all { OnOk result (WroteSummary (meaning H.contents H.tells H.may_leave H.fault_count D.tells D.may_leave D.fault_count) load (K.contents sink.old) (K.contents sink.new) world.old world.new Status.Ok) }
-    ensures wrote { IfErr result (WroteSummary (meaning H.contents H.tells H.may_leave H.fault_count D.tells D.may_leave D.fault_count) load (K.contents sink.old) (K.contents sink.new) world.old world.new) }
+    ensures all { OnOk result (WroteSummary (meaning H.Shelf D.Disk) load (K.contents sink.old) (K.contents sink.new) world.old world.new Status.Ok) }
+    ensures wrote { IfErr result (WroteSummary (meaning H.Shelf D.Disk) load (K.contents sink.old) (K.contents sink.new) world.old world.new) }
     ensures write_fault { IsErrOf result Status.WriteFault → Rose (K.faults_of sink.old) (K.faults_of sink.new) }
 {
     let summary = run_load(alloc, world, load)?;

@@ -18,29 +18,29 @@ use cas_slot::Shelf;
 /// left where it holds no promise of the key; with no open call of the caller, and room for a round's marks; and where the members and the
 /// proposer are up after the line. They are where no disk of theirs counts a fault in it.
 pub fn ready_lines_are_done<S: Shelf, V: Disk>()
-    ensures { ReadyLinesAreDone (meaning S.contents S.tells S.may_leave S.fault_count V.tells V.may_leave V.fault_count) }
+    ensures { ReadyLinesAreDone (meaning S.Shelf V.Disk) }
 {}
 
 /// So a change that is the first line of a script over a cluster that just opened is answered done, at its proposer's first ballot, or that
 /// there was no memory: where the members and the proposer are up before it and after it, and the proposer has ballots left.
 pub fn first_lines_are_done<S: Shelf, V: Disk>()
-    ensures { FirstLinesAreDone (meaning S.contents S.tells S.may_leave S.fault_count V.tells V.may_leave V.fault_count) }
+    ensures { FirstLinesAreDone (meaning S.Shelf V.Disk) }
 {}
 
 /// A change line in which no disk of a member or of its proposer counts a fault, and whose proposer is to halt nowhere, leaves all of them
 /// up that were up before it, whatever it is answered.
 pub fn faultless_lines_stay_up<S: Shelf, V: Disk>()
-    ensures { FaultlessLinesStayUp (meaning S.contents S.tells S.may_leave S.fault_count V.tells V.may_leave V.fault_count) }
+    ensures { FaultlessLinesStayUp (meaning S.Shelf V.Disk) }
 {}
 
 /// Each line of a script leaves a safe cluster safe, whatever it asks for and is answered.
 pub fn lines_keep_safe<S: Shelf, V: Disk>()
-    ensures { LinesKeepSafe (meaning S.contents S.tells S.may_leave S.fault_count V.tells V.may_leave V.fault_count) }
+    ensures { LinesKeepSafe (meaning S.Shelf V.Disk) }
 {}
 
 /// So along a whole script over a safe cluster, each change line that nothing stood against in the state before it, and
 /// after which the members and its proposer are up, was answered done, at the ballot of its proposer's next round, or that there was no
 /// memory: whatever went before it.
 pub fn runs_are_done<S: Shelf, V: Disk>()
-    ensures { RunsAreDone (meaning S.contents S.tells S.may_leave S.fault_count V.tells V.may_leave V.fault_count) }
+    ensures { RunsAreDone (meaning S.Shelf V.Disk) }
 {}

@@ -39,7 +39,7 @@ pub fn change<S: Shelf, V: Disk>(
     requires idle { HasNoCall world.old caller }
     requires some { 1 ≤ tries }
     requires network { (by : NetworkView) × IsNetwork network.old by }
-    ensures change { Through network.old network.new (λ by next. IsChange (meaning S.contents S.tells S.may_leave S.fault_count V.tells V.may_leave V.fault_count) tries by caller key.now program.now halt.old world.old result next halt.new world.new) }
+    ensures change { Through network.old network.new (λ by next. IsChange (meaning S.Shelf V.Disk) tries by caller key.now program.now halt.old world.old result next halt.new world.new) }
     ensures network { (by : NetworkView) → IsNetwork network.old by → (next : NetworkView) × IsNetwork network.new next }
     ensures rescans { Rescans world.old.council caller key.now result world.new.council }
     ensures idle { HasNoCall world.new caller }
@@ -72,7 +72,7 @@ fn rounds<S: Shelf, V: Disk>(
     requires begun { HasBegun world.old caller (record { number = call; key = key.now; program = program.now }) }
     requires some { 1 ≤ tries }
     requires network { (by : NetworkView) × IsNetwork network.old by }
-    ensures rounds { Through network.old network.new (λ by next. AreRounds (meaning S.contents S.tells S.may_leave S.fault_count V.tells V.may_leave V.fault_count) caller key.now program.now tries by halt.old world.old next halt.new world.new) }
+    ensures rounds { Through network.old network.new (λ by next. AreRounds (meaning S.Shelf V.Disk) caller key.now program.now tries by halt.old world.old next halt.new world.new) }
     ensures network { (by : NetworkView) → IsNetwork network.old by → (next : NetworkView) × IsNetwork network.new next }
     ensures over { IsOver world.new caller (record { number = call; key = key.now; program = program.now }) result }
     ensures last_proposer { world.new.last_proposer ≡ world.old.last_proposer }
@@ -100,7 +100,7 @@ fn round<S: Shelf, V: Disk>(
     requires known { proposer ≤ world.old.last_proposer }
     requires begun { (asked : Asked) × HasBegun world.old proposer asked }
     requires network { (by : NetworkView) × IsNetwork network.old by }
-    ensures round { Through network.old network.new (λ by next. IsRound (meaning S.contents S.tells S.may_leave S.fault_count V.tells V.may_leave V.fault_count) by proposer halt.old world.old next halt.new world.new) }
+    ensures round { Through network.old network.new (λ by next. IsRound (meaning S.Shelf V.Disk) by proposer halt.old world.old next halt.new world.new) }
     ensures network { (by : NetworkView) → IsNetwork network.old by → (next : NetworkView) × IsNetwork network.new next }
     ensures over { (asked : Asked) → HasBegun world.old proposer asked → IsOver world.new proposer asked result }
     ensures last_proposer { world.new.last_proposer ≡ world.old.last_proposer }
@@ -124,10 +124,10 @@ fn prepare<S: Shelf, V: Disk>(
     requires known { proposer ≤ world.old.last_proposer }
     requires open { (asked : Asked) × IsPlaying world.old proposer asked false }
     requires network { (by : NetworkView) × IsNetwork network.old by }
-    ensures proposed { OnOk result (Through network.old network.new (λ by next. EndsPrepare (meaning S.contents S.tells S.may_leave S.fault_count V.tells V.may_leave V.fault_count) by proposer halt.old world.old next world.new)) }
+    ensures proposed { OnOk result (Through network.old network.new (λ by next. EndsPrepare (meaning S.Shelf V.Disk) by proposer halt.old world.old next world.new)) }
     ensures same_halt { OnOk result (halt.new ≡ halt.old) }
     ensures plays { (asked : Asked) → IsPlaying world.old proposer asked false → OnOk result (IsPlaying world.new proposer asked true) }
-    ensures refused { OnErr result (Through network.old network.new (λ by next. IsRound (meaning S.contents S.tells S.may_leave S.fault_count V.tells V.may_leave V.fault_count) by proposer halt.old world.old next halt.new world.new)) }
+    ensures refused { OnErr result (Through network.old network.new (λ by next. IsRound (meaning S.Shelf V.Disk) by proposer halt.old world.old next halt.new world.new)) }
     ensures over { (asked : Asked) → IsPlaying world.old proposer asked false → IfErr result (IsOver world.new proposer asked) }
     ensures network { (by : NetworkView) → IsNetwork network.old by → (next : NetworkView) × IsNetwork network.new next }
     ensures last_proposer { world.new.last_proposer ≡ world.old.last_proposer }
@@ -147,11 +147,11 @@ pub(crate) fn prepare_turns<S: Shelf, V: Disk>(
     requires known { proposer ≤ world.old.last_proposer }
     requires open { (asked : Asked) × IsPlaying world.old proposer asked false }
     requires network { (by : NetworkView) × IsNetwork network.old by }
-    ensures turned { OnOk result (Through network.old network.new (λ by next. AllTurned (meaning S.contents S.tells S.may_leave S.fault_count V.tells V.may_leave V.fault_count) by proposer world.old next world.new)) }
+    ensures turned { OnOk result (Through network.old network.new (λ by next. AllTurned (meaning S.Shelf V.Disk) by proposer world.old next world.new)) }
     ensures goes_on { OnOk result (Strikes halt.old world.new proposer → ⊥) }
     ensures same_halt { OnOk result (halt.new ≡ halt.old) }
     ensures plays { (asked : Asked) → IsPlaying world.old proposer asked false → OnOk result (IsPlaying world.new proposer asked false) }
-    ensures cut_off { OnErr result (Through network.old network.new (λ by next. IsCutOff (meaning S.contents S.tells S.may_leave S.fault_count V.tells V.may_leave V.fault_count) by proposer halt.old world.old next halt.new world.new)) }
+    ensures cut_off { OnErr result (Through network.old network.new (λ by next. IsCutOff (meaning S.Shelf V.Disk) by proposer halt.old world.old next halt.new world.new)) }
     ensures over { (asked : Asked) → IsPlaying world.old proposer asked false → IfErr result (IsOver world.new proposer asked) }
     ensures not_done { IfErr result (λ told. is_done told ≡ false) }
     ensures network { (by : NetworkView) → IsNetwork network.old by → (next : NetworkView) × IsNetwork network.new next }
@@ -178,7 +178,7 @@ fn accept<S: Shelf, V: Disk>(
     requires known { proposer ≤ world.old.last_proposer }
     requires open { (asked : Asked) × IsPlaying world.old proposer asked true }
     requires network { (by : NetworkView) × IsNetwork network.old by }
-    ensures accepted { Through network.old network.new (λ by next. IsAccepted (meaning S.contents S.tells S.may_leave S.fault_count V.tells V.may_leave V.fault_count) by proposer halt.old world.old next halt.new world.new) }
+    ensures accepted { Through network.old network.new (λ by next. IsAccepted (meaning S.Shelf V.Disk) by proposer halt.old world.old next halt.new world.new) }
     ensures over { (asked : Asked) → IsPlaying world.old proposer asked true → IsOver world.new proposer asked result }
     ensures network { (by : NetworkView) → IsNetwork network.old by → (next : NetworkView) × IsNetwork network.new next }
     ensures last_proposer { world.new.last_proposer ≡ world.old.last_proposer }
@@ -200,11 +200,11 @@ pub(crate) fn accept_turns<S: Shelf, V: Disk>(
     requires known { proposer ≤ world.old.last_proposer }
     requires open { (asked : Asked) × IsPlaying world.old proposer asked true }
     requires network { (by : NetworkView) × IsNetwork network.old by }
-    ensures turned { OnOk result (Through network.old network.new (λ by next. AllTurned (meaning S.contents S.tells S.may_leave S.fault_count V.tells V.may_leave V.fault_count) by proposer world.old next world.new)) }
+    ensures turned { OnOk result (Through network.old network.new (λ by next. AllTurned (meaning S.Shelf V.Disk) by proposer world.old next world.new)) }
     ensures goes_on { OnOk result (halt.old.after_propose ≡ false) }
     ensures same_halt { OnOk result (halt.new ≡ halt.old) }
     ensures plays { (asked : Asked) → IsPlaying world.old proposer asked true → OnOk result (IsPlaying world.new proposer asked true) }
-    ensures cut_short { OnErr result (Through network.old network.new (λ by next. IsCutShort (meaning S.contents S.tells S.may_leave S.fault_count V.tells V.may_leave V.fault_count) by proposer halt.old world.old next halt.new world.new)) }
+    ensures cut_short { OnErr result (Through network.old network.new (λ by next. IsCutShort (meaning S.Shelf V.Disk) by proposer halt.old world.old next halt.new world.new)) }
     ensures over { (asked : Asked) → IsPlaying world.old proposer asked true → IfErr result (IsOver world.new proposer asked) }
     ensures not_done { IfErr result (λ told. is_done told ≡ false) }
     ensures network { (by : NetworkView) → IsNetwork network.old by → (next : NetworkView) × IsNetwork network.new next }
@@ -230,8 +230,8 @@ fn all_turns<S: Shelf, V: Disk>(
     requires known { proposer ≤ world.old.last_proposer }
     requires quiet { world.old.council.exchange ≡ None }
     requires network { (by : NetworkView) × IsNetwork network.old by }
-    ensures through { OnOk result (Through network.old network.new (λ by next. AllTurned (meaning S.contents S.tells S.may_leave S.fault_count V.tells V.may_leave V.fault_count) by proposer world.old next world.new)) }
-    ensures fails { OnErr result (Through network.old network.new (λ by next. FailsToTurn (meaning S.contents S.tells S.may_leave S.fault_count V.tells V.may_leave V.fault_count) by proposer world.old next world.new)) }
+    ensures through { OnOk result (Through network.old network.new (λ by next. AllTurned (meaning S.Shelf V.Disk) by proposer world.old next world.new)) }
+    ensures fails { OnErr result (Through network.old network.new (λ by next. FailsToTurn (meaning S.Shelf V.Disk) by proposer world.old next world.new)) }
     ensures plays { (asked : Asked) (proposed : Bool) → IsPlaying world.old proposer asked proposed → OnOk result (IsPlaying world.new proposer asked proposed) }
     ensures told { (asked : Asked) (proposed : Bool) → IsPlaying world.old proposer asked proposed → OnErr result (IsOver world.new proposer asked (answer.NoMemory proposed)) }
     ensures network { (by : NetworkView) → IsNetwork network.old by → (next : NetworkView) × IsNetwork network.new next }
@@ -267,7 +267,7 @@ fn is_quorum(verdict: Option<RoundVerdict>) -> bool
 fn crash<S: Shelf, V: Disk>(world: &mut World<S, V>, proposer: u8) -> Answer
     requires known { proposer ≤ world.old.last_proposer }
     requires open { (asked : Asked) × (proposed : Bool) × IsPlaying world.old proposer asked proposed }
-    ensures step { Step (meaning S.contents S.tells S.may_leave S.fault_count V.tells V.may_leave V.fault_count) world.old (CrashProposer proposer) world.new }
+    ensures step { Step (meaning S.Shelf V.Disk) world.old (CrashProposer proposer) world.new }
     ensures over { (asked : Asked) (proposed : Bool) → IsPlaying world.old proposer asked proposed → IsOver world.new proposer asked result }
     ensures not_done { is_done result ≡ false }
     ensures last_proposer { world.new.last_proposer ≡ world.old.last_proposer }

@@ -47,7 +47,7 @@ pub fn collect<S: Shelf, V: Disk>(
     requires quiet { IsAtRest world.old.council }
     requires some { 1 ≤ tries }
     requires network { (by : NetworkView) × IsNetwork network.old by }
-    ensures collects { IfOk result (λ answer. Through network.old network.new (λ by next. IsCollection (meaning S.contents S.tells S.may_leave S.fault_count V.tells V.may_leave V.fault_count) tries by key.now halt.old world.old answer next halt.new world.new)) }
+    ensures collects { IfOk result (λ answer. Through network.old network.new (λ by next. IsCollection (meaning S.Shelf V.Disk) tries by key.now halt.old world.old answer next halt.new world.new)) }
     ensures err { OnErr result ((world.new ≡ world.old) × (network.new ≡ network.old) × (halt.new ≡ halt.old)) }
     ensures network { (by : NetworkView) → IsNetwork network.old by → (next : NetworkView) × IsNetwork network.new next }
     ensures quiet { IsAtRest world.new.council }
@@ -98,7 +98,7 @@ fn carry_out<S: Shelf, V: Disk>(
     requires program { program.now ≡ keep_always }
     requires some { 1 ≤ tries }
     requires network { (by : NetworkView) × IsNetwork network.old by }
-    ensures carried { Through network.old network.new (λ by next. IsCarriedOut (meaning S.contents S.tells S.may_leave S.fault_count V.tells V.may_leave V.fault_count) tries by key.now halt.old world.old next halt.new world.new) }
+    ensures carried { Through network.old network.new (λ by next. IsCarriedOut (meaning S.Shelf V.Disk) tries by key.now halt.old world.old next halt.new world.new) }
     ensures end { OnOk result (IsDue world.new key.now EndStep) }
     ensures told { IfErr result (WasToldOrder world.new) }
     ensures network { (by : NetworkView) → IsNetwork network.old by → (next : NetworkView) × IsNetwork network.new next }
@@ -115,7 +115,7 @@ fn take_steps<S: Shelf, V: Disk>(
 ) -> Result<(), OpAnswer>
     requires buried { (key : List ℕ) × IsBuried world.old key }
     requires network { (by : NetworkView) × IsNetwork network.old by }
-    ensures taken { Through network.old network.new (λ by next. HasTaken (meaning S.contents S.tells S.may_leave S.fault_count V.tells V.may_leave V.fault_count) by world.old next world.new) }
+    ensures taken { Through network.old network.new (λ by next. HasTaken (meaning S.Shelf V.Disk) by world.old next world.new) }
     ensures end { (key : List ℕ) → IsBuried world.old key → OnOk result (IsDue world.new key EndStep) }
     ensures told { IfErr result (WasToldOrder world.new) }
     ensures network { (by : NetworkView) → IsNetwork network.old by → (next : NetworkView) × IsNetwork network.new next }
@@ -144,7 +144,7 @@ fn bury<S: Shelf, V: Disk>(
     requires program { program.now ≡ keep_always }
     requires some { 1 ≤ tries }
     requires network { (by : NetworkView) × IsNetwork network.old by }
-    ensures called { Through network.old network.new (λ by next. IsCalled (meaning S.contents S.tells S.may_leave S.fault_count V.tells V.may_leave V.fault_count) tries by key.now halt.old world.old next halt.new world.new) }
+    ensures called { Through network.old network.new (λ by next. IsCalled (meaning S.Shelf V.Disk) tries by key.now halt.old world.old next halt.new world.new) }
     ensures buried { OnOk result (IsBuried world.new key.now) }
     ensures told { IfErr result (WasToldOrder world.new) }
     ensures network { (by : NetworkView) → IsNetwork network.old by → (next : NetworkView) × IsNetwork network.new next }
@@ -177,7 +177,7 @@ fn call_for<S: Shelf, V: Disk>(
     requires program { program.now ≡ keep_always }
     requires some { 1 ≤ tries }
     requires network { (by : NetworkView) × IsNetwork network.old by }
-    ensures called { Through network.old network.new (λ by next. HasRounds (meaning S.contents S.tells S.may_leave S.fault_count V.tells V.may_leave V.fault_count) tries by key.now halt.old world.old next halt.new world.new) }
+    ensures called { Through network.old network.new (λ by next. HasRounds (meaning S.Shelf V.Disk) tries by key.now halt.old world.old next halt.new world.new) }
     ensures stopped { IfOk result (λ told. IfSome told (HasStopped world.new (record { number = call; key = key.now; program = keep_always }))) }
     ensures buried { IfOk result (λ told. IfNone told (IsBuried world.new key.now)) }
     ensures told { IfErr result (WasToldOrder world.new) }
@@ -234,7 +234,7 @@ fn rounds<S: Shelf, V: Disk>(
     requires program { program.now ≡ keep_always }
     requires some { 1 ≤ tries }
     requires network { (by : NetworkView) × IsNetwork network.old by }
-    ensures rounds { Through network.old network.new (λ by next. AreTombstoneRounds (meaning S.contents S.tells S.may_leave S.fault_count V.tells V.may_leave V.fault_count) key.now tries by halt.old world.old next halt.new world.new) }
+    ensures rounds { Through network.old network.new (λ by next. AreTombstoneRounds (meaning S.Shelf V.Disk) key.now tries by halt.old world.old next halt.new world.new) }
     ensures stopped { IfSome result (HasStopped world.new (record { number = call; key = key.now; program = keep_always })) }
     ensures buried { IfNone result (IsBuried world.new key.now) }
     ensures network { (by : NetworkView) → IsNetwork network.old by → (next : NetworkView) × IsNetwork network.new next }
@@ -260,7 +260,7 @@ fn round<S: Shelf, V: Disk>(
 ) -> Option<Answer>
     requires running { (asked : Wanted) × IsRunning world.old asked }
     requires network { (by : NetworkView) × IsNetwork network.old by }
-    ensures round { Through network.old network.new (λ by next. IsRoundBy (EndsReading (meaning S.contents S.tells S.may_leave S.fault_count V.tells V.may_leave V.fault_count)) (EndsVoting (meaning S.contents S.tells S.may_leave S.fault_count V.tells V.may_leave V.fault_count)) (meaning S.contents S.tells S.may_leave S.fault_count V.tells V.may_leave V.fault_count) by 0 halt.old world.old next halt.new world.new) }
+    ensures round { Through network.old network.new (λ by next. IsRoundBy (EndsReading (meaning S.Shelf V.Disk)) (EndsVoting (meaning S.Shelf V.Disk)) (meaning S.Shelf V.Disk) by 0 halt.old world.old next halt.new world.new) }
     ensures stopped { (asked : Wanted) → IsRunning world.old asked → IfSome result (HasStopped world.new asked) }
     ensures buried { (asked : Wanted) → IsRunning world.old asked → IfNone result (IsBuried world.new asked.key) }
     ensures network { (by : NetworkView) → IsNetwork network.old by → (next : NetworkView) × IsNetwork network.new next }
@@ -283,11 +283,11 @@ fn prepare<S: Shelf, V: Disk>(
 ) -> Result<Reading, Answer>
     requires open { (asked : Wanted) × IsInRound world.old asked false }
     requires network { (by : NetworkView) × IsNetwork network.old by }
-    ensures ended { OnOk result (Through network.old network.new (λ by next. EndsPrepareBy (EndsReading (meaning S.contents S.tells S.may_leave S.fault_count V.tells V.may_leave V.fault_count)) (meaning S.contents S.tells S.may_leave S.fault_count V.tells V.may_leave V.fault_count) by 0 halt.old world.old next world.new)) }
+    ensures ended { OnOk result (Through network.old network.new (λ by next. EndsPrepareBy (EndsReading (meaning S.Shelf V.Disk)) (meaning S.Shelf V.Disk) by 0 halt.old world.old next world.new)) }
     ensures same_halt { OnOk result (halt.new ≡ halt.old) }
     ensures plays { (asked : Wanted) → IsInRound world.old asked false → result ≡ Ok Reading.Empty → IsInRound world.new asked true }
     ensures buried { (asked : Wanted) (version : ℕ) → IsInRound world.old asked false → result ≡ Ok (Reading.Held version) → IsBuried world.new asked.key }
-    ensures refused { OnErr result (Through network.old network.new (λ by next. IsRoundBy (EndsReading (meaning S.contents S.tells S.may_leave S.fault_count V.tells V.may_leave V.fault_count)) (EndsVoting (meaning S.contents S.tells S.may_leave S.fault_count V.tells V.may_leave V.fault_count)) (meaning S.contents S.tells S.may_leave S.fault_count V.tells V.may_leave V.fault_count) by 0 halt.old world.old next halt.new world.new)) }
+    ensures refused { OnErr result (Through network.old network.new (λ by next. IsRoundBy (EndsReading (meaning S.Shelf V.Disk)) (EndsVoting (meaning S.Shelf V.Disk)) (meaning S.Shelf V.Disk) by 0 halt.old world.old next halt.new world.new)) }
     ensures stopped { (asked : Wanted) → IsInRound world.old asked false → IfErr result (HasStopped world.new asked) }
     ensures network { (by : NetworkView) → IsNetwork network.old by → (next : NetworkView) × IsNetwork network.new next }
 {
@@ -303,7 +303,7 @@ fn accept<S: Shelf, V: Disk>(
 ) -> Answer
     requires open { (asked : Wanted) × IsInRound world.old asked true }
     requires network { (by : NetworkView) × IsNetwork network.old by }
-    ensures accepted { Through network.old network.new (λ by next. IsAcceptedBy (EndsVoting (meaning S.contents S.tells S.may_leave S.fault_count V.tells V.may_leave V.fault_count)) (meaning S.contents S.tells S.may_leave S.fault_count V.tells V.may_leave V.fault_count) by 0 halt.old world.old next halt.new world.new) }
+    ensures accepted { Through network.old network.new (λ by next. IsAcceptedBy (EndsVoting (meaning S.Shelf V.Disk)) (meaning S.Shelf V.Disk) by 0 halt.old world.old next halt.new world.new) }
     ensures stopped { (asked : Wanted) → IsInRound world.old asked true → HasStopped world.new asked result }
     ensures network { (by : NetworkView) → IsNetwork network.old by → (next : NetworkView) × IsNetwork network.new next }
 {
@@ -316,7 +316,7 @@ fn accept<S: Shelf, V: Disk>(
 /// Renews each proposer that is to be renewed, in turn. An `Err` is what the operator's call was told.
 fn renew<S: Shelf, V: Disk>(world: &mut World<S, V>) -> Result<(), OpAnswer>
     requires due { (key : List ℕ) × IsDue world.old key (RenewStep 0) }
-    ensures taken { (by : NetworkView) → HasTaken (meaning S.contents S.tells S.may_leave S.fault_count V.tells V.may_leave V.fault_count) by world.old by world.new }
+    ensures taken { (by : NetworkView) → HasTaken (meaning S.Shelf V.Disk) by world.old by world.new }
     ensures due { (key : List ℕ) → IsDue world.old key (RenewStep 0) → OnOk result (IsDue world.new key AgesStep) }
     ensures told { IfErr result (WasToldOrder world.new) }
     ensures idle { KeepsIdle world.old world.new }

@@ -18,7 +18,7 @@ pub(crate) fn crash_acceptor<S: Shelf, V: Disk>(
     world: &mut World<S, V>,
     id: AcceptorId,
 ) -> EventAnswer
-    ensures { CrashesAcceptor (meaning S.contents S.tells S.may_leave S.fault_count V.tells V.may_leave V.fault_count) world.old id result world.new }
+    ensures { CrashesAcceptor (meaning S.Shelf V.Disk) world.old id result world.new }
 {
     match world.acceptor_up(id) {
         Some(_) => {
@@ -34,7 +34,7 @@ pub(crate) fn restart_acceptor<S: Shelf, V: Disk>(
     world: &mut World<S, V>,
     id: AcceptorId,
 ) -> EventAnswer
-    ensures { RestartsAcceptor (meaning S.contents S.tells S.may_leave S.fault_count V.tells V.may_leave V.fault_count) world.old id result world.new }
+    ensures { RestartsAcceptor (meaning S.Shelf V.Disk) world.old id result world.new }
 {
     match world.acceptor_up(id) {
         Some(_) => shelf_answer(world.restart_acceptor(id)),
@@ -60,7 +60,7 @@ pub(crate) fn restart_proposer<S: Shelf, V: Disk>(
     proposer: u8,
 ) -> EventAnswer
     requires { proposer ≤ world.old.last_proposer }
-    ensures { RestartsProposer (meaning S.contents S.tells S.may_leave S.fault_count V.tells V.may_leave V.fault_count) world.old proposer result world.new }
+    ensures { RestartsProposer (meaning S.Shelf V.Disk) world.old proposer result world.new }
 {
     vault_answer(world.restart_proposer(proposer))
 }
@@ -79,7 +79,7 @@ fn vault_answer(restarted: Result<(), VaultError>) -> EventAnswer
 
 /// The late frame of that place strays in, if there is one.
 pub(crate) fn stray<S: Shelf, V: Disk>(world: &mut World<S, V>, index: u64) -> EventAnswer
-    ensures { StraysIn (meaning S.contents S.tells S.may_leave S.fault_count V.tells V.may_leave V.fault_count) world.old index result world.new }
+    ensures { StraysIn (meaning S.Shelf V.Disk) world.old index result world.new }
 {
     let late = world.late() as u64;
     if index >= late {
@@ -98,7 +98,7 @@ pub(crate) fn show<S: Shelf, V: Disk>(
     id: AcceptorId,
     key: &Key,
 ) -> Result<Shown, AllocError>
-    ensures { IfOk result (IsShown (meaning S.contents S.tells S.may_leave S.fault_count V.tells V.may_leave V.fault_count) world.now id key.now) }
+    ensures { IfOk result (IsShown (meaning S.Shelf V.Disk) world.now id key.now) }
 {
     match world.acceptor_up(id) {
         Some(true) => Ok(shown(world.slot_of(id, key)?)),

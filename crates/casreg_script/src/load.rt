@@ -61,8 +61,8 @@ pub fn run_load<S: Shelf, V: Disk>(
     requires known { world.old.last_proposer ≡ load.proposers }
     requires idle { AllIdle world.old }
     requires quiet { IsAtRest world.old.council }
-    ensures runs { IfOk result (λ summary. SumsUp (meaning S.contents S.tells S.may_leave S.fault_count V.tells V.may_leave V.fault_count) load world.old summary world.new) }
-    ensures breaks_off { OnErr result (BreaksOff (meaning S.contents S.tells S.may_leave S.fault_count V.tells V.may_leave V.fault_count) load world.old world.new) }
+    ensures runs { IfOk result (λ summary. SumsUp (meaning S.Shelf V.Disk) load world.old summary world.new) }
+    ensures breaks_off { OnErr result (BreaksOff (meaning S.Shelf V.Disk) load world.old world.new) }
 {
     let mut network = Network::seeded(load.seed.wrapping_add(1));
     let mut generator = Generator::new(load.seed);
@@ -91,7 +91,7 @@ fn answer_line<S: Shelf, V: Disk>(
     requires quiet { IsAtRest world.old.council }
     requires network { (by : NetworkView) × IsNetwork network.old by }
     ensures answers { IfOk result (λ answer. Through network.old network.new (λ by next.
-        AnswersDrawn (meaning S.contents S.tells S.may_leave S.fault_count V.tells V.may_leave V.fault_count) load line (record { world = world.old; network = by; lines = generator.old }) answer (record { world = world.new; network = next; lines = generator.new }))) }
+        AnswersDrawn (meaning S.Shelf V.Disk) load line (record { world = world.old; network = by; lines = generator.old }) answer (record { world = world.new; network = next; lines = generator.new }))) }
     ensures err { OnErr result (world.new ≡ world.old) }
     ensures idle { AllIdle world.new }
     ensures quiet { IsAtRest world.new.council }
@@ -120,7 +120,7 @@ fn answer_line<S: Shelf, V: Disk>(
 /// Behind each 64th line an acceptor crashes and is restarted, one after another.
 fn stop_behind<S: Shelf, V: Disk>(world: &mut World<S, V>, load: Load, line: u32)
     requires { IsLoad load }
-    ensures { StopsBehind (meaning S.contents S.tells S.may_leave S.fault_count V.tells V.may_leave V.fault_count) load line world.old world.new }
+    ensures { StopsBehind (meaning S.Shelf V.Disk) load line world.old world.new }
 {
     if line % LINES_TO_A_STOP == LINES_TO_A_STOP - 1 {
         let number = 1 + line / LINES_TO_A_STOP % u32::from(load.acceptors);
@@ -142,7 +142,7 @@ fn collect_behind<S: Shelf, V: Disk>(
     requires idle { HasNoCall world.old 0 }
     requires quiet { IsAtRest world.old.council }
     requires network { (by : NetworkView) × IsNetwork network.old by }
-    ensures collects { OnOk result (Through network.old network.new (λ by next. CollectsBehind (meaning S.contents S.tells S.may_leave S.fault_count V.tells V.may_leave V.fault_count) load line by world.old next world.new)) }
+    ensures collects { OnOk result (Through network.old network.new (λ by next. CollectsBehind (meaning S.Shelf V.Disk) load line by world.old next world.new)) }
     ensures err { OnErr result ((world.new ≡ world.old) × (line % 100 ≡ 99)) }
     ensures idle { KeepsIdle world.old world.new }
     ensures quiet { IsAtRest world.new.council }

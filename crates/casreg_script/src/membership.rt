@@ -44,7 +44,7 @@ pub fn change_members<S: Shelf, V: Disk>(
     requires quiet { IsAtRest world.old.council }
     requires some { 1 ≤ tries }
     requires network { (by : NetworkView) × IsNetwork network.old by }
-    ensures changes { IfOk result (λ answer. Through network.old network.new (λ by next. ChangesMembers (meaning S.contents S.tells S.may_leave S.fault_count V.tells V.may_leave V.fault_count) tries by (asked_to kind id) halt.old world.old answer next halt.new world.new)) }
+    ensures changes { IfOk result (λ answer. Through network.old network.new (λ by next. ChangesMembers (meaning S.Shelf V.Disk) tries by (asked_to kind id) halt.old world.old answer next halt.new world.new)) }
     ensures err { OnErr result ((world.new ≡ world.old) × (network.new ≡ network.old) × (halt.new ≡ halt.old)) }
     ensures network { (by : NetworkView) → IsNetwork network.old by → (next : NetworkView) × IsNetwork network.new next }
     ensures quiet { IsAtRest world.new.council }
@@ -89,7 +89,7 @@ fn carry_out<S: Shelf, V: Disk>(
     requires program { program.now ≡ one Guard.Always Act.Keep }
     requires some { 1 ≤ tries }
     requires network { (by : NetworkView) × IsNetwork network.old by }
-    ensures carried { Through network.old network.new (λ by next. IsCarriedOut (meaning S.contents S.tells S.may_leave S.fault_count V.tells V.may_leave V.fault_count) tries by (asked_to kind id) halt.old world.old next halt.new world.new) }
+    ensures carried { Through network.old network.new (λ by next. IsCarriedOut (meaning S.Shelf V.Disk) tries by (asked_to kind id) halt.old world.old next halt.new world.new) }
     ensures told { MayTell world.new result }
     ensures network { (by : NetworkView) → IsNetwork network.old by → (next : NetworkView) × IsNetwork network.new next }
     ensures idle { KeepsIdle world.old world.new }
@@ -111,7 +111,7 @@ fn take_up<S: Shelf, V: Disk>(
 ) -> Result<(), OpAnswer>
     requires ordered { IsOrdered world.old (asked_to kind id) }
     requires free { IsFree world.old }
-    ensures taken_up { IsTakenUp (meaning S.contents S.tells S.may_leave S.fault_count V.tells V.may_leave V.fault_count) (asked_to kind id) world.old world.new }
+    ensures taken_up { IsTakenUp (meaning S.Shelf V.Disk) (asked_to kind id) world.old world.new }
     ensures under_way { OnOk result (IsUnderWay world.new (asked_to kind id)) }
     ensures told { IfErr result (WasToldOrder world.new) }
     ensures free { OnOk result (IsFree world.new) }
@@ -136,7 +136,7 @@ fn advance<S: Shelf, V: Disk>(
     requires program { program.now ≡ one Guard.Always Act.Keep }
     requires some { 1 ≤ tries }
     requires network { (by : NetworkView) × IsNetwork network.old by }
-    ensures advances { Through network.old network.new (λ by next. HasAdvanced (meaning S.contents S.tells S.may_leave S.fault_count V.tells V.may_leave V.fault_count) tries by halt.old world.old next halt.new world.new) }
+    ensures advances { Through network.old network.new (λ by next. HasAdvanced (meaning S.Shelf V.Disk) tries by halt.old world.old next halt.new world.new) }
     ensures under_way { (asked : Asked) → IsUnderWay world.old asked → OnOk result (IsUnderWay world.new asked) }
     ensures end { OnOk result (IsAtEnd world.new) }
     ensures told { IfErr result (WasToldOrder world.new) }
@@ -158,7 +158,7 @@ fn enter<S: Shelf, V: Disk>(world: &mut World<S, V>) -> Result<(), OpAnswer>
     requires under_way { (asked : Asked) × IsUnderWay world.old asked }
     requires free { IsFree world.old }
     requires due { IsSome (entrant_of world.old.council.plan) }
-    ensures advances { (tries : ℕ) (by : NetworkView) (halt : AHalt) → HasAdvanced (meaning S.contents S.tells S.may_leave S.fault_count V.tells V.may_leave V.fault_count) tries by halt world.old by halt world.new }
+    ensures advances { (tries : ℕ) (by : NetworkView) (halt : AHalt) → HasAdvanced (meaning S.Shelf V.Disk) tries by halt world.old by halt world.new }
     ensures under_way { (asked : Asked) → IsUnderWay world.old asked → OnOk result (IsUnderWay world.new asked) }
     ensures fewer { OnOk result (steps_left world.new < steps_left world.old) }
     ensures told { IfErr result (WasToldOrder world.new) }
@@ -185,7 +185,7 @@ fn settle<S: Shelf, V: Disk>(
     requires program { program.now ≡ one Guard.Always Act.Keep }
     requires some { 1 ≤ tries }
     requires network { (by : NetworkView) × IsNetwork network.old by }
-    ensures advances { Through network.old network.new (λ by next. HasAdvanced (meaning S.contents S.tells S.may_leave S.fault_count V.tells V.may_leave V.fault_count) tries by halt.old world.old next halt.new world.new) }
+    ensures advances { Through network.old network.new (λ by next. HasAdvanced (meaning S.Shelf V.Disk) tries by halt.old world.old next halt.new world.new) }
     ensures under_way { (asked : Asked) → IsUnderWay world.old asked → OnOk result (IsUnderWay world.new asked) }
     ensures fewer { OnOk result (steps_left world.new < steps_left world.old) }
     ensures told { IfErr result (WasToldOrder world.new) }
@@ -204,7 +204,7 @@ fn list<S: Shelf, V: Disk>(world: &mut World<S, V>, network: &mut Network) -> Re
     requires free { IsFree world.old }
     requires settles { step_of world.old.council.plan ≡ Some PlanStep.Settle }
     requires network { (by : NetworkView) × IsNetwork network.old by }
-    ensures advances { (tries : ℕ) (halt : AHalt) → Through network.old network.new (λ by next. HasAdvanced (meaning S.contents S.tells S.may_leave S.fault_count V.tells V.may_leave V.fault_count) tries by halt world.old next halt world.new) }
+    ensures advances { (tries : ℕ) (halt : AHalt) → Through network.old network.new (λ by next. HasAdvanced (meaning S.Shelf V.Disk) tries by halt world.old next halt world.new) }
     ensures under_way { (asked : Asked) → IsUnderWay world.old asked → OnOk result (IsUnderWay world.new asked) }
     ensures no_more { OnOk result (steps_left world.new ≤ steps_left world.old) }
     ensures listed { OnOk result (TakesStep world.old world.new) }
@@ -234,7 +234,7 @@ fn rescan<S: Shelf, V: Disk>(
     requires program { program.now ≡ one Guard.Always Act.Keep }
     requires some { 1 ≤ tries }
     requires network { (by : NetworkView) × IsNetwork network.old by }
-    ensures advances { Through network.old network.new (λ by next. HasAdvanced (meaning S.contents S.tells S.may_leave S.fault_count V.tells V.may_leave V.fault_count) tries by halt.old world.old next halt.new world.new) }
+    ensures advances { Through network.old network.new (λ by next. HasAdvanced (meaning S.Shelf V.Disk) tries by halt.old world.old next halt.new world.new) }
     ensures under_way { (asked : Asked) → IsUnderWay world.old asked → OnOk result (IsUnderWay world.new asked) }
     ensures fewer { IsSome (due_in world.old.council.plan) → OnOk result (steps_left world.new < steps_left world.old) }
     ensures no_more { OnOk result (steps_left world.new ≤ steps_left world.old) }

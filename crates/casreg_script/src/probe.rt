@@ -28,7 +28,7 @@ pub fn probe<S: Shelf, V: Disk>(
     requires idle { HasNoCall world.old 0 }
     requires quiet { IsAtRest world.old.council }
     requires network { (by : NetworkView) × IsNetwork network.old by }
-    ensures probe { IfOk result (λ answer. Through network.old network.new (λ by next. IsProbe (meaning S.contents S.tells S.may_leave S.fault_count V.tells V.may_leave V.fault_count) by key.now world.old answer next world.new)) }
+    ensures probe { IfOk result (λ answer. Through network.old network.new (λ by next. IsProbe (meaning S.Shelf V.Disk) by key.now world.old answer next world.new)) }
     ensures err { OnErr result ((world.new ≡ world.old) × (network.new ≡ network.old)) }
     ensures network { (by : NetworkView) → IsNetwork network.old by → (next : NetworkView) × IsNetwork network.new next }
     ensures quiet { IsAtRest world.new.council }

@@ -3,4 +3,4 @@ use Rattle.cas_model_causes.proofs.Exchanges.Current.{probes_are_current}
 use Rattle.cas_model_causes.proofs.probes_are_current.Goals as goal
 
 pub returns : goal.returns
-returns g c = probes_are_current (meaning g.S.Shelf.contents g.S.Shelf.tells g.S.Shelf.may_leave g.S.Shelf.fault_count g.V.Disk.tells g.V.Disk.may_leave g.V.Disk.fault_count)
+returns g c = probes_are_current (meaning g.S.Shelf g.V.Disk)

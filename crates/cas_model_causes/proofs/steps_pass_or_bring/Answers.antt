@@ -3,4 +3,4 @@ use Rattle.cas_model_causes.proofs.Calls.Hearing.{steps}
 use Rattle.cas_model_causes.proofs.steps_pass_or_bring.Goals as goal
 
 pub returns : goal.returns
-returns g c = steps (meaning g.S.Shelf.contents g.S.Shelf.tells g.S.Shelf.may_leave g.S.Shelf.fault_count g.V.Disk.tells g.V.Disk.may_leave g.V.Disk.fault_count)
+returns g c = steps (meaning g.S.Shelf g.V.Disk)

@@ -3,4 +3,4 @@ use Rattle.cas_model_causes.proofs.Calls.Undisturbed.{prepares_propose}
 use Rattle.cas_model_causes.proofs.undisturbed_prepares_propose.Goals as goal
 
 pub returns : goal.returns
-returns g c = prepares_propose (meaning g.S.Shelf.contents g.S.Shelf.tells g.S.Shelf.may_leave g.S.Shelf.fault_count g.V.Disk.tells g.V.Disk.may_leave g.V.Disk.fault_count)
+returns g c = prepares_propose (meaning g.S.Shelf g.V.Disk)

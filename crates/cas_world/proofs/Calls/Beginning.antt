@@ -22,7 +22,8 @@ use Rattle.cas_model.specs.Exchanges.Step.{HasTag, TagsAll}
 use Rattle.cas_model.specs.Calls.Desks.{GoesOn, HasDrawn, HasKept, MayHaveDrawn, FailsToDraw, LosesMemory}
 use Rattle.cas_model.specs.View.{DiskMeaning}
 use Rattle.cas_model.proofs.Calls.Asks.{tag_goes_on}
-use Rattle.cas_world_calls.specs.Proposing.{disks, RidesOn, ProposesOn, FailsToPropose, proposing_of}
+use Rattle.cas_world.proofs.Calls.Disks.{disks}
+use Rattle.cas_world_calls.specs.Proposing.{RidesOn, ProposesOn, FailsToPropose, proposing_of}
 use Rattle.cas_cache.specs.Entries.{promise_at}
 use Rattle.cas_proposer.specs.Desk.{IsOpened}
 use Rattle.cas_record.specs.declared.answer.Answer.{Answer}

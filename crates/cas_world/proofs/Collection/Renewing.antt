@@ -36,7 +36,7 @@ use Rattle.cas_model.specs.View.{Meaning, View, CallerView, IsAt, reserved_of, r
 use Rattle.cas_world_calls.specs.Answers.{aged_answer, crash_answer}
 use Rattle.cas_world_calls.specs.Collecting.{with_collection}
 use Rattle.cas_world_calls.specs.Council.{council_view}
-use Rattle.cas_world_calls.specs.Proposing.{disks}
+use Rattle.cas_world.proofs.Calls.Disks.{disks}
 use Rattle.cas_world_calls.specs.declared.call.Caller.{Caller}
 use Rattle.cas_world_calls.specs.declared.call.OpenCall.{OpenCall}
 use Rattle.cas_world_calls.specs.declared.council.Council.{Council}

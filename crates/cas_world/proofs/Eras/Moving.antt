@@ -42,7 +42,7 @@ use Rattle.cas_world.specs.Eras.Moving as moving
 use Rattle.cas_world.specs.Eras.Moving.{Leaves, Stays, MarksMove, closed_with, crash_at, abandoned_at}
 use Rattle.cas_world.specs.Exchanges.Exchange.{WasToldOrder}
 use Rattle.cas_world.specs.Eras.Plans.{IsUnderWay}
-use Rattle.cas_world_calls.specs.Proposing.{disks}
+use Rattle.cas_world.proofs.Calls.Disks.{disks}
 use Rattle.cas_world.specs.World.{view_of, call_view, caller_view}
 use Rattle.cas_world_calls.specs.declared.call.Caller.{Caller}
 use Rattle.cas_world_calls.specs.declared.call.OpenCall.{OpenCall}

@@ -34,10 +34,6 @@ abbrev pub mark_in : Option Mark → List Mark
 mark_in None = []
 mark_in (Some mark) = mark ∷ []
 
--- ---- what shelves of this kind mean
-abbrev pub shelves : {S : Type 0} → (S → Contents) → Type 0 → (S → Left → Type 0) → (S → ℕ) → ShelfMeaning S
-shelves contents tells may_leave faults = record { contents = contents; tells = tells; may_leave = may_leave; faults = faults }
-
 -- ---- what the acceptor does
 -- it answers by its table, the frame bears its reply, and its vote is the one to be marked
 pub record RepliesBy {S : Type 0} (m : ShelfMeaning S) (old : List (AcceptorView S)) (request : Request) (frame : Option Message) (vote : Option Mark) (new : List (AcceptorView S)) : Type 0 where

@@ -3,4 +3,4 @@ use Rattle.casreg_progress.proofs.Openings.{first_lines_are_done}
 use Rattle.casreg_progress.proofs.first_lines_are_done.Goals as goal
 
 pub returns : goal.returns
-returns g c = first_lines_are_done (meaning g.S.Shelf.contents g.S.Shelf.tells g.S.Shelf.may_leave g.S.Shelf.fault_count g.V.Disk.tells g.V.Disk.may_leave g.V.Disk.fault_count)
+returns g c = first_lines_are_done (meaning g.S.Shelf g.V.Disk)

@@ -3,4 +3,4 @@ use Rattle.cas_model.proofs.Collection.Laws as laws
 use Rattle.cas_model.proofs.laws.collected_keys_have_floors.Goals as goal
 
 pub returns : goal.returns
-returns g c = laws.collected_floors (meaning g.S.Shelf.contents g.S.Shelf.tells g.S.Shelf.may_leave g.S.Shelf.fault_count g.V.Disk.tells g.V.Disk.may_leave g.V.Disk.fault_count)
+returns g c = laws.collected_floors (meaning g.S.Shelf g.V.Disk)

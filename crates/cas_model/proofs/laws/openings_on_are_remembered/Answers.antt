@@ -3,4 +3,4 @@ use Rattle.cas_model.proofs.ViewLaws as laws
 use Rattle.cas_model.proofs.laws.openings_on_are_remembered.Goals as goal
 
 pub returns : goal.returns
-returns g c = laws.openings_on (meaning g.S.Shelf.contents g.S.Shelf.tells g.S.Shelf.may_leave g.S.Shelf.fault_count g.V.Disk.tells g.V.Disk.may_leave g.V.Disk.fault_count)
+returns g c = laws.openings_on (meaning g.S.Shelf g.V.Disk)

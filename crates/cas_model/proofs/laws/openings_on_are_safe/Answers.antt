@@ -3,4 +3,4 @@ use Rattle.cas_model.proofs.Openings.Safe as laws
 use Rattle.cas_model.proofs.laws.openings_on_are_safe.Goals as goal
 
 pub returns : goal.returns
-returns g c = laws.opens_on_are_safe (meaning g.S.Shelf.contents g.S.Shelf.tells g.S.Shelf.may_leave g.S.Shelf.fault_count g.V.Disk.tells g.V.Disk.may_leave g.V.Disk.fault_count)
+returns g c = laws.opens_on_are_safe (meaning g.S.Shelf g.V.Disk)

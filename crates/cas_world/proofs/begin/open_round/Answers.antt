@@ -6,10 +6,11 @@ use Rattle.cas_proposer.specs.declared.began.Began.{Began}
 use Rattle.cas_proposer.specs.declared.began.Began.TheVariants as began
 use Rattle.cas_change.specs.Outcome.{outcome_of}
 use Rattle.cas_model.specs.Calls.Desks.{HasDrawn}
-use Rattle.cas_world_calls.specs.Proposing.{disks, ProposesOn, FailsToPropose}
+use Rattle.cas_world_calls.specs.Proposing.{ProposesOn, FailsToPropose}
 use Rattle.cas_world.proofs.Calls.Beginning.{drew_by, preparing_desk, gone_from, up_from, lost_at_once, accepting_desk, proposed_at_once, failed_at_once, kept_by, lost_idle, failed_idle, up_desk}
 use Rattle.cas_world.proofs.Parts.{some_and}
 use Rattle.cas_world.proofs.begin.open_round.Goals as goal
+use Rattle.cas_model.specs.View.{disk_meaning}
 
 pub returns-in-Ok-Prepare-clause-refused : goal.returns-in-Ok-Prepare-clause-refused
 returns-in-Ok-Prepare-clause-refused g c =
@@ -19,7 +20,7 @@ returns-in-Ok-Prepare-clause-refused g c =
     let draws : Draws c.args.desk.now.id c.args.desk.now.vault c.begin.new.self.vault c.in-Ok-Prepare.ballot = subst (λ (b : Began). DrawsFor c.args.desk.now.id c.args.desk.now.vault c.begin.new.self.vault b) is told.vault in
     let opened = some_and c.begin.new.self.round (IsOpened c.args.key.now c.args.era.now (began.Prepare c.in-Ok-Prepare.ballot)) (subst (λ (b : Began). IsSomeAnd c.begin.new.self.round (IsOpened c.args.key.now c.args.era.now b)) is told.opened) in
     let at = preparing_desk c.args.desk.now c.begin.new.self c.args.key.now opened.0 told.desk opened.1 in
-    let drawn : HasDrawn (disks g.V.Disk.tells g.V.Disk.may_leave g.V.Disk.fault_count) c.args.desk.now.id c.args.desk.now.vault c.begin.new.self.vault c.in-Ok-Prepare.ballot =
+    let drawn : HasDrawn (disk_meaning g.V.Disk) c.args.desk.now.id c.args.desk.now.vault c.begin.new.self.vault c.in-Ok-Prepare.ballot =
     drew_by g.V.Disk.tells g.V.Disk.may_leave g.V.Disk.fault_count g.V.Disk.seen g.V.Disk.moment g.V.Disk.left_since g.met.V.Disk.counts_now c.args.desk.now c.begin.new.self c.in-Ok-Prepare.ballot c.requires.proposer draws
     (told.stands (up_from c.args.key.now c.args.desk.now c.begin.new.self told.desk up)) (λ t. told.past t (ap promise_used is)) told.still_past told.any_moment told.cause.never_falls in (
       refl,
@@ -35,9 +36,9 @@ returns-in-Ok-propose_on-clause-opens g c =
     let is = c.in-Ok-Accept.field-0-is in
     let opened = some_and c.begin.new.self.round (IsOpened c.args.key.now c.args.era.now (began.Accept c.in-Ok-Accept.ready)) (subst (λ (b : Began). IsSomeAnd c.begin.new.self.round (IsOpened c.args.key.now c.args.era.now b)) is told.opened) in
     let at = accepting_desk c.args.desk.now c.begin.new.self c.args.key.now opened.0 told.desk (subst (λ (b : Began). DrawsFor c.args.desk.now.id c.args.desk.now.vault c.begin.new.self.vault b) is told.vault) opened.1 in
-    proposed_at_once (disks g.V.Disk.tells g.V.Disk.may_leave g.V.Disk.fault_count) c.args.era.now c.args.key.now c.args.program.now c.args.author c.args.desk.now c.propose_on.new.desk c.args.flow.now c.propose_on.new.flow c.in-Ok-propose_on.proposing c.in-Ok-Accept.ready opened.0
+    proposed_at_once (disk_meaning g.V.Disk) c.args.era.now c.args.key.now c.args.program.now c.args.author c.args.desk.now c.propose_on.new.desk c.args.flow.now c.propose_on.new.flow c.in-Ok-propose_on.proposing c.in-Ok-Accept.ready opened.0
     (sym c.is_down.ensures ∙ c.if-is_down.false) c.requires.idle (sym told.by_promise ∙ ap promise_used is) opened.2 c.in-Ok-propose_on.ensures.made
-    (subst (λ (d : DeskView g.row.V.Denot). ProposesOn (disks g.V.Disk.tells g.V.Disk.may_leave g.V.Disk.fault_count) opened.0 d c.propose_on.new.desk c.args.author.caller c.args.key.now c.args.era.now (outcome_of c.args.program.now c.in-Ok-Accept.ready.state).state c.in-Ok-Accept.ready.ballot c.args.flow.now c.propose_on.new.flow) at
+    (subst (λ (d : DeskView g.row.V.Denot). ProposesOn (disk_meaning g.V.Disk) opened.0 d c.propose_on.new.desk c.args.author.caller c.args.key.now c.args.era.now (outcome_of c.args.program.now c.in-Ok-Accept.ready.state).state c.in-Ok-Accept.ready.ballot c.args.flow.now c.propose_on.new.flow) at
     (c.in-Ok-propose_on.ensures.sent opened.0 opened.1))
 
 pub returns-in-Ok-Accept-clause-refused : goal.returns-in-Ok-Accept-clause-refused
@@ -47,8 +48,8 @@ returns-in-Ok-Accept-clause-refused g c =
     let is = c.in-Ok-Accept.field-0-is in
     let opened = some_and c.begin.new.self.round (IsOpened c.args.key.now c.args.era.now (began.Accept c.in-Ok-Accept.ready)) (subst (λ (b : Began). IsSomeAnd c.begin.new.self.round (IsOpened c.args.key.now c.args.era.now b)) is told.opened) in
     let at = accepting_desk c.args.desk.now c.begin.new.self c.args.key.now opened.0 told.desk (subst (λ (b : Began). DrawsFor c.args.desk.now.id c.args.desk.now.vault c.begin.new.self.vault b) is told.vault) opened.1 in
-    failed_at_once (disks g.V.Disk.tells g.V.Disk.may_leave g.V.Disk.fault_count) c.args.key.now c.args.desk.now c.propose_on.new.desk opened.0 c.requires.idle opened.2.0.of_key opened.2.0.met (gone_from c.args.key.now c.args.desk.now c.begin.new.self told.desk told.gone) up c.in-Err-propose_on.refusal
-    (subst (λ (d : DeskView g.row.V.Denot). FailsToPropose (disks g.V.Disk.tells g.V.Disk.may_leave g.V.Disk.fault_count) opened.0.key d c.propose_on.new.desk c.in-Err-propose_on.refusal) at
+    failed_at_once (disk_meaning g.V.Disk) c.args.key.now c.args.desk.now c.propose_on.new.desk opened.0 c.requires.idle opened.2.0.of_key opened.2.0.met (gone_from c.args.key.now c.args.desk.now c.begin.new.self told.desk told.gone) up c.in-Err-propose_on.refusal
+    (subst (λ (d : DeskView g.row.V.Denot). FailsToPropose (disk_meaning g.V.Disk) opened.0.key d c.propose_on.new.desk c.in-Err-propose_on.refusal) at
     (c.in-Err-propose_on.ensures.refused opened.0 opened.1))
 
 pub returns-in-Err-VaultFault-clause-refused : goal.returns-in-Err-VaultFault-clause-refused

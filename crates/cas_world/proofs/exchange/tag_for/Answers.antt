@@ -7,10 +7,10 @@ use Rattle.cas_proposer.specs.Desk.{ShowsTheSame}
 use Rattle.cas_vault.specs.declared.error.VaultError.{VaultError}
 use Rattle.cas_vault.specs.declared.error.VaultError.TheVariants as error
 use Rattle.cas_world.specs.Exchanges.Exchange.{FailsToTag}
-use Rattle.cas_world_calls.specs.Proposing.{disks}
 use Rattle.cas_world.proofs.Calls.Beginning.{kept_by, lost_idle, failed_tag}
 use Rattle.cas_world.proofs.exchange.tag_for.Given.{Over}
 use Rattle.cas_world.proofs.exchange.tag_for.Goals as goal
+use Rattle.cas_model.specs.View.{disk_meaning}
 
 -- the desk is still up after another error, and shows what it showed
 stays : (g : Over) (c : goal.After-tag-in-None g) (e : VaultError) → c.tag-in-None.result ≡ Err e → (e ≡ error.VaultFault → ⊥)
@@ -21,7 +21,7 @@ stays g c e is other =
     subst (λ (r : Result Ballot VaultError). OnErr r (c.tag-in-None.new.self.down ≡ false → (c.tag-in-None.new.self ≡ record c.args.desk.now { vault = c.tag-in-None.new.self.vault }) × ShowsTheSame c.args.desk.now.vault c.tag-in-None.new.self.vault)) is told.refused up
 
 -- no ballot was drawn
-untagged : (g : Over) (c : goal.After-tag-in-None g) (result : Result Ballot VaultError) → c.tag-in-None.result ≡ result → IfErr result (FailsToTag (disks g.V.Disk.tells g.V.Disk.may_leave g.V.Disk.fault_count) None c.args.desk.now c.tag-in-None.new.self)
+untagged : (g : Over) (c : goal.After-tag-in-None g) (result : Result Ballot VaultError) → c.tag-in-None.result ≡ result → IfErr result (FailsToTag (disk_meaning g.V.Disk) None c.args.desk.now c.tag-in-None.new.self)
 untagged g c (Ok tag) is = tt
 untagged g c (Err error.VaultFault) is =
     let told = c.tag-in-None.ensures in
@@ -42,4 +42,4 @@ untagged g c (Err (error.Foreign at)) is = c.tag-in-None.ensures.not_foreign at 
 
 pub returns-in-None-clause-failed : goal.returns-in-None-clause-failed
 returns-in-None-clause-failed g c =
-    subst (λ (o : Option ListingView). IfErr c.tag-in-None.result (FailsToTag (disks g.V.Disk.tells g.V.Disk.may_leave g.V.Disk.fault_count) o c.args.desk.now c.tag-in-None.new.self)) (sym (ap option_copied c.in-None.is)) (untagged g c c.tag-in-None.result refl)
+    subst (λ (o : Option ListingView). IfErr c.tag-in-None.result (FailsToTag (disk_meaning g.V.Disk) o c.args.desk.now c.tag-in-None.new.self)) (sym (ap option_copied c.in-None.is)) (untagged g c c.tag-in-None.result refl)

@@ -21,6 +21,7 @@ use Rattle.cas_world_calls.specs.declared.proposal.Copies.{Copies}
 use Rattle.cas_world.proofs.Stops.Stops.{end_goes_on}
 use Rattle.cas_world.proofs.propose.acknowledge.Given.{Over}
 use Rattle.cas_world.proofs.propose.acknowledge.Goals as goal
+use Rattle.cas_model.specs.View.{disk_meaning}
 
 -- the round that is lent is the open one
 lent_is : (g : Over) (c : goal.After-done g) → c.in-Some.round.now ≡ c.requires.round
@@ -47,8 +48,8 @@ offer_is g c = c.offered.ensures c.requires.round (sym (ap (λ (r : Round). r.ba
     ∙ ap (λ (r : Round). offered_by c.requires.round r.ride c.take_copies-copies.result.copies.kept c.confirmers-by.result) (lent_is g c)
     ∙ ap (λ (s : State). offered_by c.requires.round c.requires.round.ride s c.confirmers-by.result) (ap (λ (x : Copies). x.kept) (copies_are g c) ∙ c.requires.kept)
 
-ends : (g : Over) (c : goal.After-done g) → EndsRound (record { tells = g.V.Disk.tells; may_leave = g.V.Disk.may_leave; faults = g.V.Disk.fault_count }) c.args.desk.now c.end.new.self c.requires.round (offered_by c.requires.round c.requires.round.ride c.requires.outcome.state c.confirmers-by.result)
-ends g c = subst (λ (o : Option Ready). EndsRound (record { tells = g.V.Disk.tells; may_leave = g.V.Disk.may_leave; faults = g.V.Disk.fault_count }) c.args.desk.now c.end.new.self c.requires.round o) (offer_is g c) (record {
+ends : (g : Over) (c : goal.After-done g) → EndsRound (disk_meaning g.V.Disk) c.args.desk.now c.end.new.self c.requires.round (offered_by c.requires.round c.requires.round.ride c.requires.outcome.state c.confirmers-by.result)
+ends g c = subst (λ (o : Option Ready). EndsRound (disk_meaning g.V.Disk) c.args.desk.now c.end.new.self c.requires.round o) (offer_is g c) (record {
   desk = c.end.ensures.desk c.requires.round c.requires.is_round;
   counter = c.end.ensures.counter ∙ ap (λ (r : Option Round). counter_without r (counter_of c.args.desk.now.vault)) c.requires.is_round;
   goes_on = end_goes_on _ c.args.desk.now.vault c.end.new.self.vault c.end.ensures.kept c.end.ensures.disk c.end.ensures.still_past;
@@ -63,7 +64,7 @@ caller_is g c =
     subst (λ (x : Caller). IfSome x.call (λ call. c.mark.new.self ≡ record x { call = Some (record call { reserved = call.reserved - 1 }) })) taken c.mark.ensures.call in
     subst (λ (x : Caller). IfSome x.call (λ call. c.done.new.self ≡ record x { call = Some (over call told) })) marked c.done.ensures
 
-counts : (g : Over) (c : goal.After-done g) → Counts (record { tells = g.V.Disk.tells; may_leave = g.V.Disk.may_leave; faults = g.V.Disk.fault_count }) c.args.desk.now c.end.new.self c.requires.round c.args.caller.now c.done.new.self c.requires.call c.requires.outcome c.args.record.now c.mark.new.record
+counts : (g : Over) (c : goal.After-done g) → Counts (disk_meaning g.V.Disk) c.args.desk.now c.end.new.self c.requires.round c.args.caller.now c.done.new.self c.requires.call c.requires.outcome c.args.record.now c.mark.new.record
     (answer.Done c.take_copies-copies.result.copies.answer c.take_copies-copies.result.took c.in-Some.round.now.ballot)
 counts g c = record {
   by = c.confirmers-by.result;
@@ -84,6 +85,6 @@ returns g c round is_round call is_open outcome is_outcome =
     let same_call : c.requires.call ≡ call = some_is (sym c.requires.is_open ∙ is_open) in
     let same_outcome : c.requires.outcome ≡ outcome = some_is (sym c.requires.proposed ∙ ap (λ (x : OpenCall). x.proposed) same_call ∙ is_outcome) in
     let told = answer.Done c.take_copies-copies.result.copies.answer c.take_copies-copies.result.took c.in-Some.round.now.ballot in
-    subst (λ (x : Outcome). Counts (record { tells = g.V.Disk.tells; may_leave = g.V.Disk.may_leave; faults = g.V.Disk.fault_count }) c.args.desk.now c.end.new.self round c.args.caller.now c.done.new.self call x c.args.record.now c.mark.new.record told) same_outcome
-    (subst (λ (x : OpenCall). Counts (record { tells = g.V.Disk.tells; may_leave = g.V.Disk.may_leave; faults = g.V.Disk.fault_count }) c.args.desk.now c.end.new.self round c.args.caller.now c.done.new.self x c.requires.outcome c.args.record.now c.mark.new.record told) same_call
-    (subst (λ (x : Round). Counts (record { tells = g.V.Disk.tells; may_leave = g.V.Disk.may_leave; faults = g.V.Disk.fault_count }) c.args.desk.now c.end.new.self x c.args.caller.now c.done.new.self c.requires.call c.requires.outcome c.args.record.now c.mark.new.record told) (some_is (sym c.requires.is_round ∙ is_round)) (counts g c)))
+    subst (λ (x : Outcome). Counts (disk_meaning g.V.Disk) c.args.desk.now c.end.new.self round c.args.caller.now c.done.new.self call x c.args.record.now c.mark.new.record told) same_outcome
+    (subst (λ (x : OpenCall). Counts (disk_meaning g.V.Disk) c.args.desk.now c.end.new.self round c.args.caller.now c.done.new.self x c.requires.outcome c.args.record.now c.mark.new.record told) same_call
+    (subst (λ (x : Round). Counts (disk_meaning g.V.Disk) c.args.desk.now c.end.new.self x c.args.caller.now c.done.new.self c.requires.call c.requires.outcome c.args.record.now c.mark.new.record told) (some_is (sym c.requires.is_round ∙ is_round)) (counts g c)))

@@ -1,14 +1,14 @@
 use Rattle.std.proofs.Common.{Err, ap, refl}
 use Rattle.cas_model.specs.Calls.Desks.{Renews, FailsToRenew}
 use Rattle.cas_world_calls.specs.Answers.{aged_answer, crash_answer}
-use Rattle.cas_world_calls.specs.Proposing.{disks}
 use Rattle.cas_world.proofs.Eras.Moving.{leaves}
 use Rattle.cas_world.proofs.Collection.Renewing.{grows_older, fails_to_grow}
 use Rattle.cas_world.proofs.renewal.grow_older.Goals as goal
+use Rattle.cas_model.specs.View.{disk_meaning}
 
 pub returns-in-Ok-clause-ok : goal.returns-in-Ok-clause-ok
 returns-in-Ok-clause-ok g c =
-    leaves (Renews (disks g.V.Disk.tells g.V.Disk.may_leave g.V.Disk.fault_count) c.args.key.now c.args.tomb c.in-Ok.age) (λ proposed. aged_answer proposed c.in-Ok.age) c.args.proposer c.args.desk.now c.renew.new.self c.args.caller.now c.leave.new.caller c.args.flow.now c.leave.new.flow
+    leaves (Renews (disk_meaning g.V.Disk) c.args.key.now c.args.tomb c.in-Ok.age) (λ proposed. aged_answer proposed c.in-Ok.age) c.args.proposer c.args.desk.now c.renew.new.self c.args.caller.now c.leave.new.caller c.args.flow.now c.leave.new.flow
     c.has_round-closes.result c.has_proposed-proposed.result c.aged_answer.result c.args.desk.now.round refl c.has_round-closes.ensures c.requires.open c.has_proposed-proposed.ensures c.aged_answer.ensures
     (grows_older g.V.Disk.tells g.V.Disk.may_leave g.V.Disk.fault_count g.V.Disk.seen c.args.key.now c.args.tomb c.in-Ok.age c.args.desk.now c.renew.new.self c.requires.up c.in-Ok.ensures.desk c.in-Ok.ensures.age c.in-Ok.ensures.kept c.in-Ok.ensures.stands c.in-Ok.ensures.past c.in-Ok.ensures.still_past c.in-Ok.ensures.cause.never_falls)
     c.leave.ensures.flow c.leave.ensures.closed c.leave.ensures.stays
@@ -17,7 +17,7 @@ pub returns-in-Err-VaultFault-clause-fault : goal.returns-in-Err-VaultFault-clau
 returns-in-Err-VaultFault-clause-fault g c is =
     let failed = ap (λ e. Err e) c.in-Err-VaultFault.field-0-is in
     let told = c.in-Err-VaultFault.ensures in
-    leaves (FailsToRenew (disks g.V.Disk.tells g.V.Disk.may_leave g.V.Disk.fault_count)) crash_answer c.args.proposer c.args.desk.now c.renew.new.self c.args.caller.now c.leave-in-Err-VaultFault.new.caller c.args.flow.now c.leave-in-Err-VaultFault.new.flow
+    leaves (FailsToRenew (disk_meaning g.V.Disk)) crash_answer c.args.proposer c.args.desk.now c.renew.new.self c.args.caller.now c.leave-in-Err-VaultFault.new.caller c.args.flow.now c.leave-in-Err-VaultFault.new.flow
     c.has_round-closes.result c.has_proposed-proposed.result c.crash_answer.result c.args.desk.now.round refl c.has_round-closes.ensures c.requires.open c.has_proposed-proposed.ensures c.crash_answer.ensures
     (fails_to_grow g.V.Disk.tells g.V.Disk.may_leave g.V.Disk.fault_count g.V.Disk.moment g.V.Disk.left_since _ c.args.desk.now c.renew.new.self c.requires.up (told.fault failed) told.same_kept
     (λ tells t c_ later may. g.met.V.Disk.counts_now _ t c_ tells later may) told.any_moment told.still_past (told.cause.failed failed) told.cause.never_falls)

@@ -41,7 +41,7 @@ loop-lines-preserved g c = record {
       let at_once = rw c.in-Some.is at c.in_ok-line.ensures.at_once in
       let midway = c.loop-lines.invariant.midway first_ at in
       let next = midway-next _ _ _ _ _ _ _ _ _ _ _ _ _ _ _ c.in-Some.line midway.midway out at_once few number handed in
-      let answered = subst (λ (n : ℕ). AnswersLine (meaning {S = g.row.H.Denot} g.H.Shelf.contents g.H.Shelf.tells g.H.Shelf.may_leave g.H.Shelf.fault_count g.D.Disk.tells g.D.Disk.may_leave g.D.Disk.fault_count) n midway.state c.in-Some.line.bytes c.in-Some.line.number (vec_items c.in_ok-text.text) c.answer.new.self) c.loop-lines.invariant.tries (c.in_ok-text.ensures.answers midway.state midway.is_in) in
+      let answered = subst (λ (n : ℕ). AnswersLine (meaning g.H.Shelf g.D.Disk) n midway.state c.in-Some.line.bytes c.in-Some.line.number (vec_items c.in_ok-text.text) c.answer.new.self) c.loop-lines.invariant.tries (c.in_ok-text.ensures.answers midway.state midway.is_in) in
       record {
         state = answered.new;
         is_in = answered.is_in;
@@ -63,7 +63,7 @@ returns-in_err-text-clause-wrote g c first_ at =
     let next = midway-next _ _ _ _ _ _ _ _ _ _ _ _ _ _ _ c.in-Some.line midway.midway out at_once few number handed in
     let p = err_from_is_err_and c.from_residual-in_err-text.result c.from_residual-in_err-text.ensures.1 in
     if_err _ p.0 _ p.1 (subst (EndsIn _ _ _ _ _ _ _ _) (sym p.2) (wrote_no_answer _ _ _ _ _ _ _ _ _ _ _ _ _ _ c.in-Some.line.bytes c.in-Some.line.number next
-    (subst (λ (n : ℕ). RanOrNot (meaning {S = g.row.H.Denot} g.H.Shelf.contents g.H.Shelf.tells g.H.Shelf.may_leave g.H.Shelf.fault_count g.D.Disk.tells g.D.Disk.may_leave g.D.Disk.fault_count) n midway.state c.in-Some.line.bytes c.answer.new.self) c.loop-lines.invariant.tries (c.in_err-text.ensures.err midway.state midway.is_in))))
+    (subst (λ (n : ℕ). RanOrNot (meaning g.H.Shelf g.D.Disk) n midway.state c.in-Some.line.bytes c.answer.new.self) c.loop-lines.invariant.tries (c.in_err-text.ensures.err midway.state midway.is_in))))
 
 pub returns-in_err-put_all-clause-wrote : goal.returns-in_err-put_all-clause-wrote
 returns-in_err-put_all-clause-wrote g c first_ at =
@@ -76,7 +76,7 @@ returns-in_err-put_all-clause-wrote g c first_ at =
     let next = midway-next _ _ _ _ _ _ _ _ _ _ _ _ _ _ _ c.in-Some.line midway.midway out at_once few number handed in
     let p = err_from_is_err_and c.from_residual-in_err-put_all.result c.from_residual-in_err-put_all.ensures.1 in
     if_err _ p.0 _ p.1 (subst (EndsIn _ _ _ _ _ _ _ _) (sym p.2) (wrote_front _ _ _ _ _ _ _ _ _ _ _ _ _ _ _ c.in-Some.line.bytes c.in-Some.line.number _ next
-    (subst (λ (n : ℕ). AnswersLine (meaning {S = g.row.H.Denot} g.H.Shelf.contents g.H.Shelf.tells g.H.Shelf.may_leave g.H.Shelf.fault_count g.D.Disk.tells g.D.Disk.may_leave g.D.Disk.fault_count) n midway.state c.in-Some.line.bytes c.in-Some.line.number (vec_items c.in_ok-text.text) c.answer.new.self) c.loop-lines.invariant.tries (c.in_ok-text.ensures.answers midway.state midway.is_in))
+    (subst (λ (n : ℕ). AnswersLine (meaning g.H.Shelf g.D.Disk) n midway.state c.in-Some.line.bytes c.in-Some.line.number (vec_items c.in_ok-text.text) c.answer.new.self) c.loop-lines.invariant.tries (c.in_ok-text.ensures.answers midway.state midway.is_in))
     (subst (AppendsFront _ _) c.deref.ensures.value c.in_err-put_all.ensures.front)))
 
 pub returns-clause-all : goal.returns-clause-all

@@ -7,7 +7,7 @@ use Rattle.casreg_command.proofs.cluster.answer_lines.Given as goal
 
 abbrev pub invariant-loop-lines : goal.invariant-loop-lines
 invariant-loop-lines g l = record {
-  midway : (first : State g.row.H.Denot g.row.D.Denot) → IsIn l.initial.script first → IsMidwayIn g.S.Source.take_gives (meaning g.H.Shelf.contents g.H.Shelf.tells g.H.Shelf.may_leave g.H.Shelf.fault_count g.D.Disk.tells g.D.Disk.may_leave g.D.Disk.fault_count)
+  midway : (first : State g.row.H.Denot g.row.D.Denot) → IsIn l.initial.script first → IsMidwayIn g.S.Source.take_gives (meaning g.H.Shelf g.D.Disk)
       l.initial.script.tries first l.initial.source l.source (g.S.Source.remaining l.initial.source) l.lines
       (g.S.Source.remaining l.source) (g.K.Sink.contents l.initial.sink) (g.K.Sink.contents l.sink) l.script;
   tries : l.script.tries ≡ l.initial.script.tries;

@@ -1,5 +1,4 @@
 use Rattle.cas_model.specs.View.{meaning}
-use Rattle.cas_disk_shelf.specs.Shelf.{disk_of, contents_of, MayLeave}
 use Rattle.cas_disk_shelf.specs.declared.shelf.DiskShelf.{DiskShelf}
 use Rattle.cas_store.specs.Rack.{rack_meaning}
 use Rattle.std.proofs.Common.{refl, subst}
@@ -7,19 +6,19 @@ use Rattle.casreg_command.specs.Causes.{loaded, raced}
 use Rattle.casreg_command.specs.Words.{AreWords}
 use Rattle.casreg_command.specs.declared.words.Request.TheVariants as request
 use Rattle.casreg_command.proofs.Along.{ran_over, new_of}
-use Rattle.casreg_command.proofs.Written.{wrote_not_empty, wrote_not_opened, wrote_no_board, summed_ends}
+use Rattle.casreg_command.proofs.Written.{stored, wrote_not_empty, wrote_not_opened, wrote_no_board, summed_ends}
 use Rattle.casreg_script.proofs.Opened.{new_idle, new_quiet}
 use Rattle.casreg_command.proofs.cluster.run.Goals as goal
 
 pub returns-in-Err-clause-wrote : goal.returns-in-Err-clause-wrote
-returns-in-Err-clause-wrote g c words are = wrote_not_empty (meaning {S = DiskShelf g.row.D.Denot} (λ shelf. contents_of shelf) g.D.Disk.tells (λ shelf left. MayLeave g.D.Disk.may_leave shelf left) (λ shelf. g.D.Disk.fault_count (disk_of shelf)) g.D.Disk.tells g.D.Disk.may_leave g.D.Disk.fault_count) (rack_meaning g.D.Disk.tells g.D.Disk.seen g.D.Disk.may_leave g.D.Disk.fault_count) words _ _ _ _ _ c.args.rack c.expect_empty.new.self c.in-Err.fault c.from.result c.from.ensures c.in-Err.ensures.err
+returns-in-Err-clause-wrote g c words are = wrote_not_empty (stored g.D.Disk) (rack_meaning g.D.Disk) words _ _ _ _ _ c.args.rack c.expect_empty.new.self c.in-Err.fault c.from.result c.from.ensures c.in-Err.ensures.err
 
 pub run_script-requires-clause-idle : goal.run_script-requires-clause-idle
 run_script-requires-clause-idle g c = new_idle _ _ c.in-Ok.store.world c.in-Ok.ensures.opening c.in-Ok.ensures.places
 
 pub returns-in-Err-open-clause-wrote : goal.returns-in-Err-open-clause-wrote
 returns-in-Err-open-clause-wrote g c words are =
-    wrote_not_opened (meaning {S = DiskShelf g.row.D.Denot} (λ shelf. contents_of shelf) g.D.Disk.tells (λ shelf left. MayLeave g.D.Disk.may_leave shelf left) (λ shelf. g.D.Disk.fault_count (disk_of shelf)) g.D.Disk.tells g.D.Disk.may_leave g.D.Disk.fault_count) (rack_meaning g.D.Disk.tells g.D.Disk.seen g.D.Disk.may_leave g.D.Disk.fault_count) words _ _ _ _ _ c.args.rack c.expect_empty.new.self c.in-Err-open.rack c.args.request c.in-Err-open.fault c.from-in-Err-open.result c.config_of-config.result.acceptors c.config_of-config.result.proposers c.config_of-config.ensures.acceptors c.config_of-config.ensures.proposers c.from-in-Err-open.ensures are c.in_default.ensures.ok c.in-Err-open.ensures.fault
+    wrote_not_opened (stored g.D.Disk) (rack_meaning g.D.Disk) words _ _ _ _ _ c.args.rack c.expect_empty.new.self c.in-Err-open.rack c.args.request c.in-Err-open.fault c.from-in-Err-open.result c.config_of-config.result.acceptors c.config_of-config.result.proposers c.config_of-config.ensures.acceptors c.config_of-config.ensures.proposers c.from-in-Err-open.ensures are c.in_default.ensures.ok c.in-Err-open.ensures.fault
 
 pub run_script-requires-clause-quiet : goal.run_script-requires-clause-quiet
 run_script-requires-clause-quiet g c = new_quiet _ _ c.in-Ok.store.world c.in-Ok.ensures.opening
@@ -47,11 +46,11 @@ returns-in-Ok-open-2-clause-loads g c load is = (refl, summed_ends c.load_store.
 
 pub returns-in-Err-open-3-clause-wrote : goal.returns-in-Err-open-3-clause-wrote
 returns-in-Err-open-3-clause-wrote g c words are =
-    wrote_not_opened (meaning {S = DiskShelf g.row.D.Denot} (λ shelf. contents_of shelf) g.D.Disk.tells (λ shelf left. MayLeave g.D.Disk.may_leave shelf left) (λ shelf. g.D.Disk.fault_count (disk_of shelf)) g.D.Disk.tells g.D.Disk.may_leave g.D.Disk.fault_count) (rack_meaning g.D.Disk.tells g.D.Disk.seen g.D.Disk.may_leave g.D.Disk.fault_count) words _ _ _ _ _ c.args.rack c.expect_empty.new.self c.in-Err-open-3.rack c.args.request c.in-Err-open-3.fault c.from-in-Err-open-3.result c.config_of-config.result.acceptors c.config_of-config.result.proposers c.config_of-config.ensures.acceptors c.config_of-config.ensures.proposers c.from-in-Err-open-3.ensures are c.in_default.ensures.ok c.in-Err-open-3.ensures.fault
+    wrote_not_opened (stored g.D.Disk) (rack_meaning g.D.Disk) words _ _ _ _ _ c.args.rack c.expect_empty.new.self c.in-Err-open-3.rack c.args.request c.in-Err-open-3.fault c.from-in-Err-open-3.result c.config_of-config.result.acceptors c.config_of-config.result.proposers c.config_of-config.ensures.acceptors c.config_of-config.ensures.proposers c.from-in-Err-open-3.ensures are c.in_default.ensures.ok c.in-Err-open-3.ensures.fault
 
 pub returns-in-Err-open-2-clause-wrote : goal.returns-in-Err-open-2-clause-wrote
 returns-in-Err-open-2-clause-wrote g c words are =
-    wrote_no_board (meaning {S = DiskShelf g.row.D.Denot} (λ shelf. contents_of shelf) g.D.Disk.tells (λ shelf left. MayLeave g.D.Disk.may_leave shelf left) (λ shelf. g.D.Disk.fault_count (disk_of shelf)) g.D.Disk.tells g.D.Disk.may_leave g.D.Disk.fault_count) (rack_meaning g.D.Disk.tells g.D.Disk.seen g.D.Disk.may_leave g.D.Disk.fault_count) words _ _ _ _ _ c.args.rack c.expect_empty.new.self c.in-Err-open-2.rack c.args.request c.in-Race.options c.in-Err-open-2.fault c.from-in-Err-open-2.result c.config_of-config.result.acceptors c.config_of-config.result.proposers c.config_of-config.ensures.acceptors c.config_of-config.ensures.proposers c.in-Race.is c.from-in-Err-open-2.ensures are c.in_default.ensures.ok c.in-Err-open-2.ensures.fault
+    wrote_no_board (stored g.D.Disk) (rack_meaning g.D.Disk) words _ _ _ _ _ c.args.rack c.expect_empty.new.self c.in-Err-open-2.rack c.args.request c.in-Race.options c.in-Err-open-2.fault c.from-in-Err-open-2.result c.config_of-config.result.acceptors c.config_of-config.result.proposers c.config_of-config.ensures.acceptors c.config_of-config.ensures.proposers c.in-Race.is c.from-in-Err-open-2.ensures are c.in_default.ensures.ok c.in-Err-open-2.ensures.fault
 
 pub returns-in-Ok-open-clause-wrote : goal.returns-in-Ok-open-clause-wrote
 returns-in-Ok-open-clause-wrote g c words are = raced c.in-Race.options (subst (AreWords words) c.in-Race.is are) c.in_default.ensures.ok c.race_board.ensures.raced

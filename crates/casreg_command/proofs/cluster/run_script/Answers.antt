@@ -1,16 +1,15 @@
 use Rattle.std.proofs.Common.{Err, ap}
 use Rattle.cas_model.specs.View.{meaning}
-use Rattle.cas_disk_shelf.specs.Shelf.{disk_of, contents_of, MayLeave}
 use Rattle.cas_disk_shelf.specs.declared.shelf.DiskShelf.{DiskShelf}
 use Rattle.casreg_script.specs.Script.{opening_state}
 use Rattle.casreg_command.specs.declared.status.Status.{Status}
 use Rattle.casreg_command.specs.declared.status.Status.TheVariants as status
-use Rattle.casreg_command.proofs.Written.{ran_from, ends_whole}
+use Rattle.casreg_command.proofs.Written.{stored, ran_from, ends_whole}
 use Rattle.casreg_command.proofs.cluster.run_script.Goals as goal
 
 pub returns-in-Ok-clause-ran : goal.returns-in-Ok-clause-ran
 returns-in-Ok-clause-ran g c =
-    ran_from (meaning {S = DiskShelf g.row.D.Denot} (λ shelf. contents_of shelf) g.D.Disk.tells (λ shelf left. MayLeave g.D.Disk.may_leave shelf left) (λ shelf. g.D.Disk.fault_count (disk_of shelf)) g.D.Disk.tells g.D.Disk.may_leave g.D.Disk.fault_count) g.D.Disk.tells c.args.options.tries c.new-script.result.tries _ _ _ _ c.args.store.world c.into_world.result c.answer_lines-answered.new.script c.close-record.result.0.marks status.Ok c.close-record.result.1 c.new-script.ensures.tries c.into_world.ensures
+    ran_from (stored g.D.Disk) g.D.Disk.tells c.args.options.tries c.new-script.result.tries _ _ _ _ c.args.store.world c.into_world.result c.answer_lines-answered.new.script c.close-record.result.0.marks status.Ok c.close-record.result.1 c.new-script.ensures.tries c.into_world.ensures
     (c.in-Ok.ensures.all (opening_state c.args.store.world) c.new-script.ensures.state) c.close-record.ensures.marks c.close-record.ensures.legal c.close-record.ensures.kept c.close-record.ensures.acceptors c.close-record.ensures.vaults
 
 pub returns-in-Ok-clause-ends : goal.returns-in-Ok-clause-ends
@@ -18,7 +17,7 @@ returns-in-Ok-clause-ends g c = ends_whole _ c.in-Ok.ensures.whole
 
 pub returns-clause-ran : goal.returns-clause-ran
 returns-clause-ran g c =
-    ran_from (meaning {S = DiskShelf g.row.D.Denot} (λ shelf. contents_of shelf) g.D.Disk.tells (λ shelf left. MayLeave g.D.Disk.may_leave shelf left) (λ shelf. g.D.Disk.fault_count (disk_of shelf)) g.D.Disk.tells g.D.Disk.may_leave g.D.Disk.fault_count) g.D.Disk.tells c.args.options.tries c.new-script.result.tries _ _ _ _ c.args.store.world c.into_world.result c.answer_lines-answered.new.script c.close-record.result.0.marks c.in-Err.status c.close-record.result.1 c.new-script.ensures.tries c.into_world.ensures
+    ran_from (stored g.D.Disk) g.D.Disk.tells c.args.options.tries c.new-script.result.tries _ _ _ _ c.args.store.world c.into_world.result c.answer_lines-answered.new.script c.close-record.result.0.marks c.in-Err.status c.close-record.result.1 c.new-script.ensures.tries c.into_world.ensures
     (c.in-Err.ensures.wrote (opening_state c.args.store.world) c.new-script.ensures.state) c.close-record.ensures.marks c.close-record.ensures.legal c.close-record.ensures.kept c.close-record.ensures.acceptors c.close-record.ensures.vaults
 
 pub returns-clause-read_fault : goal.returns-clause-read_fault

@@ -1,21 +1,20 @@
 use Rattle.std.proofs.Common.{Err, ap, subst}
 use Rattle.cas_model.specs.View.{meaning}
-use Rattle.cas_disk_shelf.specs.Shelf.{disk_of, contents_of, MayLeave}
 use Rattle.cas_disk_shelf.specs.declared.shelf.DiskShelf.{DiskShelf}
 use Rattle.casreg_command.specs.declared.status.Status.{Status}
 use Rattle.casreg_command.specs.declared.status.Status.TheVariants as status
 use Rattle.casreg_command.specs.Causes.{LoadEnds}
-use Rattle.casreg_command.proofs.Written.{loaded_from, summed_ends}
+use Rattle.casreg_command.proofs.Written.{stored, loaded_from, summed_ends}
 use Rattle.casreg_command.proofs.load.load_store.Goals as goal
 
 pub returns-in-Ok-clause-loaded : goal.returns-in-Ok-clause-loaded
 returns-in-Ok-clause-loaded g c =
-    loaded_from (meaning {S = DiskShelf g.row.D.Denot} (λ shelf. contents_of shelf) g.D.Disk.tells (λ shelf left. MayLeave g.D.Disk.may_leave shelf left) (λ shelf. g.D.Disk.fault_count (disk_of shelf)) g.D.Disk.tells g.D.Disk.may_leave g.D.Disk.fault_count) g.D.Disk.tells c.args.load _ _ c.args.store.world c.write_summary-written.new.world c.close-record.result.0.marks status.Ok c.close-record.result.1
+    loaded_from (stored g.D.Disk) g.D.Disk.tells c.args.load _ _ c.args.store.world c.write_summary-written.new.world c.close-record.result.0.marks status.Ok c.close-record.result.1
     c.in-Ok.ensures.all c.close-record.ensures.marks c.close-record.ensures.legal c.close-record.ensures.kept c.close-record.ensures.acceptors c.close-record.ensures.vaults
 
 pub returns-clause-loaded : goal.returns-clause-loaded
 returns-clause-loaded g c =
-    loaded_from (meaning {S = DiskShelf g.row.D.Denot} (λ shelf. contents_of shelf) g.D.Disk.tells (λ shelf left. MayLeave g.D.Disk.may_leave shelf left) (λ shelf. g.D.Disk.fault_count (disk_of shelf)) g.D.Disk.tells g.D.Disk.may_leave g.D.Disk.fault_count) g.D.Disk.tells c.args.load _ _ c.args.store.world c.write_summary-written.new.world c.close-record.result.0.marks c.in-Err.status c.close-record.result.1
+    loaded_from (stored g.D.Disk) g.D.Disk.tells c.args.load _ _ c.args.store.world c.write_summary-written.new.world c.close-record.result.0.marks c.in-Err.status c.close-record.result.1
     c.in-Err.ensures.wrote c.close-record.ensures.marks c.close-record.ensures.legal c.close-record.ensures.kept c.close-record.ensures.acceptors c.close-record.ensures.vaults
 
 pub returns-clause-write_fault : goal.returns-clause-write_fault

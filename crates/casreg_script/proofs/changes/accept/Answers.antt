@@ -15,7 +15,7 @@ returns-in-Ok-clause-accepted g c by is =
     record {
       view = turns.view;
       is = turns.is;
-      has = subst (λ (h : Halt). IsAccepted (meaning g.S.Shelf.contents g.S.Shelf.tells g.S.Shelf.may_leave g.S.Shelf.fault_count g.V.Disk.tells g.V.Disk.may_leave g.V.Disk.fault_count) by c.args.proposer c.args.halt.now c.args.world.now turns.view h c.count.new.self) (sym c.in-Ok.ensures.same_halt) (counts c.in-Ok.ensures.goes_on turns.has c.count.ensures.step);
+      has = subst (λ (h : Halt). IsAccepted (meaning g.S.Shelf g.V.Disk) by c.args.proposer c.args.halt.now c.args.world.now turns.view h c.count.new.self) (sym c.in-Ok.ensures.same_halt) (counts c.in-Ok.ensures.goes_on turns.has c.count.ensures.step);
     }
 
 pub returns-in-Ok-clause-over : goal.returns-in-Ok-clause-over

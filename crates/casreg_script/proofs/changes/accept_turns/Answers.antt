@@ -13,7 +13,7 @@ pub returns-then-halt-clause-over : goal.returns-then-halt-clause-over
 returns-then-halt-clause-over g c asked was = c.crash.ensures.over asked true was
 
 pub returns-then-halt-clause-council : goal.returns-then-halt-clause-council
-returns-then-halt-clause-council g c = (crash_keeps (meaning {S = g.row.S.Denot} g.S.Shelf.contents g.S.Shelf.tells g.S.Shelf.may_leave g.S.Shelf.fault_count g.V.Disk.tells g.V.Disk.may_leave g.V.Disk.fault_count) c.args.world.now c.crash.new.world c.args.proposer c.crash.ensures.step).council c.requires.«open».1.quiet
+returns-then-halt-clause-council g c = (crash_keeps (meaning g.S.Shelf g.V.Disk) c.args.world.now c.crash.new.world c.args.proposer c.crash.ensures.step).council c.requires.«open».1.quiet
 
 pub returns-then-is_err-clause-cut_short : goal.returns-then-is_err-clause-cut_short
 returns-then-is_err-clause-cut_short g c by is =

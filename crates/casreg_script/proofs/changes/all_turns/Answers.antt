@@ -43,7 +43,7 @@ loop-front-preserved g c =
           record {
             view = after.view;
             is = after.is;
-            has = subst (λ (again : Bool). Turned (meaning g.S.Shelf.contents g.S.Shelf.tells g.S.Shelf.may_leave g.S.Shelf.fault_count g.V.Disk.tells g.V.Disk.may_leave g.V.Disk.fault_count) by c.args.proposer c.args.world.now after.view again c.turn.new.self) (sym c.is_to_repeat-again.ensures)
+            has = subst (λ (again : Bool). Turned (meaning g.S.Shelf g.V.Disk) by c.args.proposer c.args.world.now after.view again c.turn.new.self) (sym c.is_to_repeat-again.ensures)
                 (turned_more _ c.args.proposer c.args.world.now c.loop-front.world c.let_in.new.world c.turn.new.self c.front.result c.in-Some.front.0 c.in-Some.front.1 (in_front c.loop-front.world c.args.proposer c.loop-front.invariant.quiet c.front.ensures) c.in-Some.is
                 c.let_in.ensures.under_way before.has between.has after.has by_turn);
           };

@@ -8,7 +8,7 @@ use Rattle.casreg_script.proofs.changes.all_turns.Given as goal
 
 abbrev pub invariant-loop-front : goal.invariant-loop-front
 invariant-loop-front g l = record {
-  turned : Through l.initial.network l.network (λ by next. Turned (meaning g.S.Shelf.contents g.S.Shelf.tells g.S.Shelf.may_leave g.S.Shelf.fault_count g.V.Disk.tells g.V.Disk.may_leave g.V.Disk.fault_count) by l.proposer l.initial.world next l.again l.world);
+  turned : Through l.initial.network l.network (λ by next. Turned (meaning g.S.Shelf g.V.Disk) by l.proposer l.initial.world next l.again l.world);
   plays : (asked : Asked) (proposed : Bool) → IsPlaying l.initial.world l.proposer asked proposed → IsPlaying l.world l.proposer asked proposed;
   network : (by : NetworkView) → IsNetwork l.initial.network by → (next : NetworkView) × IsNetwork l.network next;
   last_proposer : l.world.last_proposer ≡ l.initial.world.last_proposer;

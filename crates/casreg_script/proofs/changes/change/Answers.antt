@@ -20,7 +20,7 @@ returns-in-Ok-clause-change g c by is =
     record {
       view = rounds.view;
       is = rounds.is;
-      has = subst (λ (a : Answer). IsChange (meaning g.S.Shelf.contents g.S.Shelf.tells g.S.Shelf.may_leave g.S.Shelf.fault_count g.V.Disk.tells g.V.Disk.may_leave g.V.Disk.fault_count) c.args.tries by c.args.caller c.args.key.now c.args.program.now c.args.halt.now c.args.world.now a rounds.view c.rounds-answer.new.halt c.end.new.self) (sym c.end.ensures.same) (ended c.in-Ok.ensures.step.0 rounds.has c.end.ensures.step);
+      has = subst (λ (a : Answer). IsChange (meaning g.S.Shelf g.V.Disk) c.args.tries by c.args.caller c.args.key.now c.args.program.now c.args.halt.now c.args.world.now a rounds.view c.rounds-answer.new.halt c.end.new.self) (sym c.end.ensures.same) (ended c.in-Ok.ensures.step.0 rounds.has c.end.ensures.step);
     }
 
 pub returns-in-Ok-clause-idle : goal.returns-in-Ok-clause-idle
@@ -41,7 +41,7 @@ returns-in-Err-2-clause-change g c by is =
     record {
       view = by;
       is = is;
-      has = subst (λ (a : Answer). IsChange (meaning g.S.Shelf.contents g.S.Shelf.tells g.S.Shelf.may_leave g.S.Shelf.fault_count g.V.Disk.tells g.V.Disk.may_leave g.V.Disk.fault_count) c.args.tries by c.args.caller c.args.key.now c.args.program.now c.args.halt.now c.args.world.now a by c.args.halt.now c.end-in-Err-2.new.self) (sym c.end-in-Err-2.ensures.same)
+      has = subst (λ (a : Answer). IsChange (meaning g.S.Shelf g.V.Disk) c.args.tries by c.args.caller c.args.key.now c.args.program.now c.args.halt.now c.args.world.now a by c.args.halt.now c.end-in-Err-2.new.self) (sym c.end-in-Err-2.ensures.same)
           (ended begun.0 (last none_begun (begun_not_met _ c.args.world.now c.begin.new.self c.args.caller c.args.key.now c.args.program.now _ begun.0)) c.end-in-Err-2.ensures.step);
     }
 

@@ -35,7 +35,7 @@ returns-clause-refused g c = on_err_of c.propose.result (λ by is.
     record {
       view = turns.view;
       is = turns.is;
-      has = subst (λ (h : Halt). IsRound (meaning g.S.Shelf.contents g.S.Shelf.tells g.S.Shelf.may_leave g.S.Shelf.fault_count g.V.Disk.tells g.V.Disk.may_leave g.V.Disk.fault_count) by c.args.proposer c.args.halt.now c.args.world.now turns.view h c.propose.new.self) (sym c.in_ok-prepare_turns.ensures.same_halt)
+      has = subst (λ (h : Halt). IsRound (meaning g.S.Shelf g.V.Disk) by c.args.proposer c.args.halt.now c.args.world.now turns.view h c.propose.new.self) (sym c.in_ok-prepare_turns.ensures.same_halt)
           (ends_short (record { turned = c.prepare_turns.new.world; turns = turns.has; goes_on = c.in_ok-prepare_turns.ensures.goes_on; proposes = c.propose.ensures.step }));
     })
 

@@ -32,7 +32,7 @@ returns-then-has_quorum-clause-council g c =
     (both c.args.world.now c.all_turns.new.world c.crash.new.world c.args.proposer
     (turned_holds {Holds = λ before next. KeepsOthers before next c.args.proposer} (others_through _ c.args.proposer) c.args.world.now c.all_turns.new.world
     (on_ok _ (sym c.is_err.ensures.value ∙ c.if-is_err.false) c.all_turns.ensures.through c.requires.network.0 c.requires.network.1).has.turned)
-    (crash_keeps (meaning {S = g.row.S.Denot} g.S.Shelf.contents g.S.Shelf.tells g.S.Shelf.may_leave g.S.Shelf.fault_count g.V.Disk.tells g.V.Disk.may_leave g.V.Disk.fault_count) c.all_turns.new.world c.crash.new.world c.args.proposer c.crash.ensures.step)).council c.requires.«open».1.quiet
+    (crash_keeps (meaning g.S.Shelf g.V.Disk) c.all_turns.new.world c.crash.new.world c.args.proposer c.crash.ensures.step)).council c.requires.«open».1.quiet
 
 pub returns-clause-turned : goal.returns-clause-turned
 returns-clause-turned g c = on_ok _ (sym c.is_err.ensures.value ∙ c.if-is_err.false) c.all_turns.ensures.through

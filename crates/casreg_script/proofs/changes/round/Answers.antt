@@ -41,7 +41,7 @@ returns-in-Ok-clause-round g c by is =
     record {
       view = accepted.view;
       is = accepted.is;
-      has = proposes proposed.has (subst (λ (h : Halt). IsAccepted (meaning g.S.Shelf.contents g.S.Shelf.tells g.S.Shelf.may_leave g.S.Shelf.fault_count g.V.Disk.tells g.V.Disk.may_leave g.V.Disk.fault_count) proposed.view c.args.proposer h c.prepare.new.world accepted.view c.accept-in-Ok.new.halt c.accept-in-Ok.new.world) c.in-Ok.ensures.same_halt accepted.has);
+      has = proposes proposed.has (subst (λ (h : Halt). IsAccepted (meaning g.S.Shelf g.V.Disk) proposed.view c.args.proposer h c.prepare.new.world accepted.view c.accept-in-Ok.new.halt c.accept-in-Ok.new.world) c.in-Ok.ensures.same_halt accepted.has);
     }
 
 pub returns-in-Ok-clause-over : goal.returns-in-Ok-clause-over

@@ -52,7 +52,7 @@ rounds-requires g n c κs lives =
         (
           lives.1,
           (
-            is_running (meaning {S = g.row.S.Denot} g.S.Shelf.contents g.S.Shelf.tells g.S.Shelf.may_leave g.S.Shelf.fault_count g.V.Disk.tells g.V.Disk.may_leave g.V.Disk.fault_count) c.round.new.world c.begin_collect.new.self c.args.key.now c.begin_collect.ensures.step c.args.call stopped.over.quiet (inr stopped.seeks.none_planned) c.in-Ok.ensures.ok,
+            is_running (meaning g.S.Shelf g.V.Disk) c.round.new.world c.begin_collect.new.self c.args.key.now c.begin_collect.ensures.step c.args.call stopped.over.quiet (inr stopped.seeks.none_planned) c.in-Ok.ensures.ok,
             (c.requires.program, (omega (arith, c.if-tries-eq1.false, c.requires.some), c.round.ensures.network c.requires.network.0 c.requires.network.1)),
           ),
         ),
@@ -84,7 +84,7 @@ returns-clause-rounds g n c by is =
       view = round.view;
       is = round.is;
       has = another (omega (arith, c.if-tries-eq1.false, c.requires.some)) round.has (is_met c.round.new.world 0 c.args.call c.in_ok-told.told stopped.over.was_told (sym c.is_conflict.ensures ∙ c.if-not-is_conflict.false)) c.begin_collect.ensures.step
-          (last none_begun (λ met. collect_not_met (meaning {S = g.row.S.Denot} g.S.Shelf.contents g.S.Shelf.tells g.S.Shelf.may_leave g.S.Shelf.fault_count g.V.Disk.tells g.V.Disk.may_leave g.V.Disk.fault_count) c.round.new.world c.begin_collect.new.self c.args.key.now c.begin_collect.ensures.step met));
+          (last none_begun (λ met. collect_not_met (meaning g.S.Shelf g.V.Disk) c.round.new.world c.begin_collect.new.self c.args.key.now c.begin_collect.ensures.step met));
     }
 
 pub returns-clause-stopped : goal.returns-clause-stopped
@@ -92,7 +92,7 @@ returns-clause-stopped g n c =
     let stopped = subst (λ (o : Option Answer). IfSome o (HasStopped c.round.new.world (record { number = c.args.call; key = c.args.key.now; program = keep_always }))) c.in_ok-told.was (c.round.ensures.stopped _ c.requires.running) in
     let again = told_again c.round.new.world c.begin_collect.new.self c.args.call c.args.key.now c.in-Err.refusal _ c.in_ok-told.told stopped c.in-Err.ensures.err in
     let begun = said_so c.begin_collect.new.self c.args.call c.args.key.now c.in-Err.refusal again.0 c.why_stopped.result again.1 c.why_stopped.ensures again.2 in
-    begun_stopped (meaning {S = g.row.S.Denot} g.S.Shelf.contents g.S.Shelf.tells g.S.Shelf.may_leave g.S.Shelf.fault_count g.V.Disk.tells g.V.Disk.may_leave g.V.Disk.fault_count) c.round.new.world c.begin_collect.new.self c.args.key.now c.begin_collect.ensures.step c.args.call c.why_stopped.result stopped.over.quiet (inr stopped.seeks.none_planned) begun.not_done begun.was_told begun.is
+    begun_stopped (meaning g.S.Shelf g.V.Disk) c.round.new.world c.begin_collect.new.self c.args.key.now c.begin_collect.ensures.step c.args.call c.why_stopped.result stopped.over.quiet (inr stopped.seeks.none_planned) begun.not_done begun.was_told begun.is
 
 pub returns-then-not-is_conflict-clause-stopped : goal.returns-then-not-is_conflict-clause-stopped
 returns-then-not-is_conflict-clause-stopped g n c = subst (λ (o : Option Answer). IfSome o (HasStopped c.round.new.world (record { number = c.args.call; key = c.args.key.now; program = keep_always }))) c.in_ok-told.was (c.round.ensures.stopped _ c.requires.running)

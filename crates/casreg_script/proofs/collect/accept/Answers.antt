@@ -25,7 +25,7 @@ returns-in-Ok-clause-accepted g c by is =
     record {
       view = turns.view;
       is = turns.is;
-      has = subst (λ (h : Halt). IsAcceptedBy (EndsVoting (meaning {S = g.row.S.Denot} g.S.Shelf.contents g.S.Shelf.tells g.S.Shelf.may_leave g.S.Shelf.fault_count g.V.Disk.tells g.V.Disk.may_leave g.V.Disk.fault_count)) (meaning {S = g.row.S.Denot} g.S.Shelf.contents g.S.Shelf.tells g.S.Shelf.may_leave g.S.Shelf.fault_count g.V.Disk.tells g.V.Disk.may_leave g.V.Disk.fault_count) by 0 c.args.halt.now c.args.world.now turns.view h c.count_tombstone.new.self) (sym c.in-Ok.ensures.same_halt)
+      has = subst (λ (h : Halt). IsAcceptedBy (EndsVoting (meaning g.S.Shelf g.V.Disk)) (meaning g.S.Shelf g.V.Disk) by 0 c.args.halt.now c.args.world.now turns.view h c.count_tombstone.new.self) (sym c.in-Ok.ensures.same_halt)
           (counts c.in-Ok.ensures.goes_on turns.has (ends_voting _ c.accept_turns.new.world c.count_tombstone.new.self c.count_tombstone.result c.count_tombstone.ensures.step c.count_tombstone.ensures.told));
     }
 

@@ -18,7 +18,7 @@ returns-in_err-told-clause-called g c by is = let called = c.in_err-told.ensures
 
 pub returns-in_err-told-clause-idle : goal.returns-in_err-told-clause-idle
 returns-in_err-told-clause-idle g c =
-    called_idle (meaning {S = g.row.S.Denot} g.S.Shelf.contents g.S.Shelf.tells g.S.Shelf.may_leave g.S.Shelf.fault_count g.V.Disk.tells g.V.Disk.may_leave g.V.Disk.fault_count) c.args.tries c.args.key.now c.args.halt.now c.call_for.new.halt c.args.world.now c.call_for.new.world (over (c.in_err-told.ensures.called c.requires.network.0 c.requires.network.1).has c.in_err-told.ensures.none) c.in_err-told.ensures.none
+    called_idle (meaning g.S.Shelf g.V.Disk) c.args.tries c.args.key.now c.args.halt.now c.call_for.new.halt c.args.world.now c.call_for.new.world (over (c.in_err-told.ensures.called c.requires.network.0 c.requires.network.1).has c.in_err-told.ensures.none) c.in_err-told.ensures.none
 
 pub end_collect-requires-clause-told : goal.end_collect-requires-clause-told
 end_collect-requires-clause-told g c =
@@ -36,13 +36,13 @@ returns-in-Done-clause-called g c by is = let called = c.in_ok-told.ensures.call
 pub returns-in-Done-clause-buried : goal.returns-in-Done-clause-buried
 returns-in-Done-clause-buried g c =
     let stopped = subst (λ (o : Option Answer). IfSome o (HasStopped c.call_for.new.world (record { number = c.next_call-call.result; key = c.args.key.now; program = keep_always }))) c.in-Some.is c.in_ok-told.ensures.stopped in
-    end_buried (meaning {S = g.row.S.Denot} g.S.Shelf.contents g.S.Shelf.tells g.S.Shelf.may_leave g.S.Shelf.fault_count g.V.Disk.tells g.V.Disk.may_leave g.V.Disk.fault_count) c.call_for.new.world c.end_collect.new.self _ c.in-Some.told stopped c.end_collect.ensures.step (ap is_done (sym c.end_collect.ensures.same) ∙ ap is_done c.in-Done.is)
+    end_buried (meaning g.S.Shelf g.V.Disk) c.call_for.new.world c.end_collect.new.self _ c.in-Some.told stopped c.end_collect.ensures.step (ap is_done (sym c.end_collect.ensures.same) ∙ ap is_done c.in-Done.is)
 
 pub returns-in-Done-clause-idle : goal.returns-in-Done-clause-idle
 returns-in-Done-clause-idle g c =
     let stopped = subst (λ (o : Option Answer). IfSome o (HasStopped c.call_for.new.world (record { number = c.next_call-call.result; key = c.args.key.now; program = keep_always }))) c.in-Some.is c.in_ok-told.ensures.stopped in
-    called_idle (meaning {S = g.row.S.Denot} g.S.Shelf.contents g.S.Shelf.tells g.S.Shelf.may_leave g.S.Shelf.fault_count g.V.Disk.tells g.V.Disk.may_leave g.V.Disk.fault_count) c.args.tries c.args.key.now c.args.halt.now c.call_for.new.halt c.args.world.now c.end_collect.new.self (ended c.in-Some.told (c.in_ok-told.ensures.called c.requires.network.0 c.requires.network.1).has c.end_collect.ensures.step)
-    (end_idle (meaning {S = g.row.S.Denot} g.S.Shelf.contents g.S.Shelf.tells g.S.Shelf.may_leave g.S.Shelf.fault_count g.V.Disk.tells g.V.Disk.may_leave g.V.Disk.fault_count) c.call_for.new.world c.end_collect.new.self _ c.in-Some.told stopped c.end_collect.ensures.step)
+    called_idle (meaning g.S.Shelf g.V.Disk) c.args.tries c.args.key.now c.args.halt.now c.call_for.new.halt c.args.world.now c.end_collect.new.self (ended c.in-Some.told (c.in_ok-told.ensures.called c.requires.network.0 c.requires.network.1).has c.end_collect.ensures.step)
+    (end_idle (meaning g.S.Shelf g.V.Disk) c.call_for.new.world c.end_collect.new.self _ c.in-Some.told stopped c.end_collect.ensures.step)
 
 pub returns-in_default : goal.returns-in_default
 returns-in_default g c =
@@ -51,10 +51,10 @@ returns-in_default g c =
       called = λ by is. let called = c.in_ok-told.ensures.called by is in record { view = called.view; is = called.is; has = ended c.in-Some.told called.has c.end_collect.ensures.step };
       buried = tt;
       told = subst (λ (a : Answer). WasToldOrder c.end_collect.new.self (op.Stopped a)) (sym c.end_collect.ensures.same)
-          (end_told (meaning {S = g.row.S.Denot} g.S.Shelf.contents g.S.Shelf.tells g.S.Shelf.may_leave g.S.Shelf.fault_count g.V.Disk.tells g.V.Disk.may_leave g.V.Disk.fault_count) c.call_for.new.world c.end_collect.new.self _ c.in-Some.told stopped c.end_collect.ensures.step (ap is_done (sym c.end_collect.ensures.same) ∙ not_done c.end_collect.result c.in_default.not-Done));
+          (end_told (meaning g.S.Shelf g.V.Disk) c.call_for.new.world c.end_collect.new.self _ c.in-Some.told stopped c.end_collect.ensures.step (ap is_done (sym c.end_collect.ensures.same) ∙ not_done c.end_collect.result c.in_default.not-Done));
       network = c.in_ok-told.ensures.network;
-      idle = called_idle (meaning {S = g.row.S.Denot} g.S.Shelf.contents g.S.Shelf.tells g.S.Shelf.may_leave g.S.Shelf.fault_count g.V.Disk.tells g.V.Disk.may_leave g.V.Disk.fault_count) c.args.tries c.args.key.now c.args.halt.now c.call_for.new.halt c.args.world.now c.end_collect.new.self (ended c.in-Some.told (c.in_ok-told.ensures.called c.requires.network.0 c.requires.network.1).has c.end_collect.ensures.step)
-          (end_idle (meaning {S = g.row.S.Denot} g.S.Shelf.contents g.S.Shelf.tells g.S.Shelf.may_leave g.S.Shelf.fault_count g.V.Disk.tells g.V.Disk.may_leave g.V.Disk.fault_count) c.call_for.new.world c.end_collect.new.self _ c.in-Some.told stopped c.end_collect.ensures.step);
+      idle = called_idle (meaning g.S.Shelf g.V.Disk) c.args.tries c.args.key.now c.args.halt.now c.call_for.new.halt c.args.world.now c.end_collect.new.self (ended c.in-Some.told (c.in_ok-told.ensures.called c.requires.network.0 c.requires.network.1).has c.end_collect.ensures.step)
+          (end_idle (meaning g.S.Shelf g.V.Disk) c.call_for.new.world c.end_collect.new.self _ c.in-Some.told stopped c.end_collect.ensures.step);
     }
 
 pub returns-in-None-clause-called : goal.returns-in-None-clause-called
@@ -71,4 +71,4 @@ returns-in-None-clause-buried g c =
 pub returns-in-None-clause-idle : goal.returns-in-None-clause-idle
 returns-in-None-clause-idle g c =
     let buried = subst (λ (o : Option Answer). IfNone o (IsBuried c.call_for.new.world c.args.key.now)) c.in-None.is c.in_ok-told.ensures.buried in
-    called_idle (meaning {S = g.row.S.Denot} g.S.Shelf.contents g.S.Shelf.tells g.S.Shelf.may_leave g.S.Shelf.fault_count g.V.Disk.tells g.V.Disk.may_leave g.V.Disk.fault_count) c.args.tries c.args.key.now c.args.halt.now c.call_for.new.halt c.args.world.now c.call_for.new.world (over (c.in_ok-told.ensures.called c.requires.network.0 c.requires.network.1).has buried.due.idle) buried.due.idle
+    called_idle (meaning g.S.Shelf g.V.Disk) c.args.tries c.args.key.now c.args.halt.now c.call_for.new.halt c.args.world.now c.call_for.new.world (over (c.in_ok-told.ensures.called c.requires.network.0 c.requires.network.1).has buried.due.idle) buried.due.idle

@@ -39,7 +39,7 @@ returns-in-Ok-clause-collects g c by is =
     record {
       view = carried.view;
       is = carried.is;
-      has = subst (λ (a : OpAnswer). IsCollection (meaning {S = g.row.S.Denot} g.S.Shelf.contents g.S.Shelf.tells g.S.Shelf.may_leave g.S.Shelf.fault_count g.V.Disk.tells g.V.Disk.may_leave g.V.Disk.fault_count) c.args.tries by c.args.key.now c.args.halt.now c.args.world.now a carried.view c.carry_out.new.halt c.tell.new.self) (sym c.tell.ensures.same)
+      has = subst (λ (a : OpAnswer). IsCollection (meaning g.S.Shelf g.V.Disk) c.args.tries by c.args.key.now c.args.halt.now c.args.world.now a carried.view c.carry_out.new.halt c.tell.new.self) (sym c.tell.ensures.same)
           (told (subst (λ (k : List ℕ). StepOrder c.args.world.now (asked.Collect k) c.order.new.self) c.in_ok-copy.ensures c.in-Ok.ensures.ok) carried.has c.tell.ensures.step);
     }
 

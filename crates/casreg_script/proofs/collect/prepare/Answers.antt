@@ -33,7 +33,7 @@ propose_tombstone-requires-clause-calling g c =
     let plays = c.in_ok-prepare_turns.ensures.plays c.requires.«open».0 c.requires.«open».1.plays in
     collecting_call c.prepare_turns.new.world c.requires.«open».0 plays.call plays.is_for (seeks_on c.args.world.now c.prepare_turns.new.world c.requires.«open».0.key c.prepare_turns.ensures.council c.requires.«open».1.seeks)
 
-ended : (g : Over) (c : goal.After-propose_tombstone g) (by : _) (is : IsNetwork c.args.network.now by) → EndsPrepareBy (EndsReading (meaning {S = g.row.S.Denot} g.S.Shelf.contents g.S.Shelf.tells g.S.Shelf.may_leave g.S.Shelf.fault_count g.V.Disk.tells g.V.Disk.may_leave g.V.Disk.fault_count)) (meaning {S = g.row.S.Denot} g.S.Shelf.contents g.S.Shelf.tells g.S.Shelf.may_leave g.S.Shelf.fault_count g.V.Disk.tells g.V.Disk.may_leave g.V.Disk.fault_count) by 0 c.args.halt.now c.args.world.now (c.in_ok-prepare_turns.ensures.turned by is).view c.propose_tombstone.new.self
+ended : (g : Over) (c : goal.After-propose_tombstone g) (by : _) (is : IsNetwork c.args.network.now by) → EndsPrepareBy (EndsReading (meaning g.S.Shelf g.V.Disk)) (meaning g.S.Shelf g.V.Disk) by 0 c.args.halt.now c.args.world.now (c.in_ok-prepare_turns.ensures.turned by is).view c.propose_tombstone.new.self
 ended g c by is = record {
   turned = c.prepare_turns.new.world;
   turns = (c.in_ok-prepare_turns.ensures.turned by is).has;
@@ -59,7 +59,7 @@ returns-clause-refused g c = on_err_of c.propose_tombstone.result (λ by is.
     record {
       view = turns.view;
       is = turns.is;
-      has = subst (λ (h : Halt). IsRoundBy (EndsReading (meaning {S = g.row.S.Denot} g.S.Shelf.contents g.S.Shelf.tells g.S.Shelf.may_leave g.S.Shelf.fault_count g.V.Disk.tells g.V.Disk.may_leave g.V.Disk.fault_count)) (EndsVoting (meaning {S = g.row.S.Denot} g.S.Shelf.contents g.S.Shelf.tells g.S.Shelf.may_leave g.S.Shelf.fault_count g.V.Disk.tells g.V.Disk.may_leave g.V.Disk.fault_count)) (meaning {S = g.row.S.Denot} g.S.Shelf.contents g.S.Shelf.tells g.S.Shelf.may_leave g.S.Shelf.fault_count g.V.Disk.tells g.V.Disk.may_leave g.V.Disk.fault_count) by 0 c.args.halt.now c.args.world.now turns.view h c.propose_tombstone.new.self) (sym c.in_ok-prepare_turns.ensures.same_halt) (ends_short (ended g c by is));
+      has = subst (λ (h : Halt). IsRoundBy (EndsReading (meaning g.S.Shelf g.V.Disk)) (EndsVoting (meaning g.S.Shelf g.V.Disk)) (meaning g.S.Shelf g.V.Disk) by 0 c.args.halt.now c.args.world.now turns.view h c.propose_tombstone.new.self) (sym c.in_ok-prepare_turns.ensures.same_halt) (ends_short (ended g c by is));
     })
 
 pub returns-clause-stopped : goal.returns-clause-stopped

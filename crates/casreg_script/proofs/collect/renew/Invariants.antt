@@ -10,7 +10,7 @@ use Rattle.casreg_script.proofs.collect.renew.Given as goal
 
 abbrev pub invariant-loop-proposer : goal.invariant-loop-proposer
 invariant-loop-proposer g l = record {
-  taken : (by : NetworkView) → HasTaken (meaning {S = g.row.S.Denot} g.S.Shelf.contents g.S.Shelf.tells g.S.Shelf.may_leave g.S.Shelf.fault_count g.V.Disk.tells g.V.Disk.may_leave g.V.Disk.fault_count) by l.initial.world by l.world;
+  taken : (by : NetworkView) → HasTaken (meaning g.S.Shelf g.V.Disk) by l.initial.world by l.world;
   due : (key : List ℕ) → IsDue l.initial.world key (Renew 0) → IsRenewing l.world key;
   idle : KeepsIdle l.initial.world l.world;
 }

@@ -49,7 +49,7 @@ returns-in-Ok-Empty-clause-round g c by is =
     record {
       view = accepted.view;
       is = accepted.is;
-      has = proposes ended.has (subst (λ (h : Halt). IsAcceptedBy (EndsVoting (meaning {S = g.row.S.Denot} g.S.Shelf.contents g.S.Shelf.tells g.S.Shelf.may_leave g.S.Shelf.fault_count g.V.Disk.tells g.V.Disk.may_leave g.V.Disk.fault_count)) (meaning {S = g.row.S.Denot} g.S.Shelf.contents g.S.Shelf.tells g.S.Shelf.may_leave g.S.Shelf.fault_count g.V.Disk.tells g.V.Disk.may_leave g.V.Disk.fault_count) ended.view 0 h c.prepare.new.world accepted.view c.accept-in-Ok-Empty.new.halt c.accept-in-Ok-Empty.new.world) (on_ok_is c.prepare.result c.in-Ok-Empty.field-0 c.in-Ok-Empty.is c.prepare.ensures.same_halt) accepted.has);
+      has = proposes ended.has (subst (λ (h : Halt). IsAcceptedBy (EndsVoting (meaning g.S.Shelf g.V.Disk)) (meaning g.S.Shelf g.V.Disk) ended.view 0 h c.prepare.new.world accepted.view c.accept-in-Ok-Empty.new.halt c.accept-in-Ok-Empty.new.world) (on_ok_is c.prepare.result c.in-Ok-Empty.field-0 c.in-Ok-Empty.is c.prepare.ensures.same_halt) accepted.has);
     }
 
 pub returns-in-Ok-Empty-clause-stopped : goal.returns-in-Ok-Empty-clause-stopped
@@ -66,7 +66,7 @@ returns-in-Ok-Held-clause-round g c by is =
     record {
       view = ended.view;
       is = ended.is;
-      has = subst (λ (h : Halt). IsRoundBy (EndsReading (meaning {S = g.row.S.Denot} g.S.Shelf.contents g.S.Shelf.tells g.S.Shelf.may_leave g.S.Shelf.fault_count g.V.Disk.tells g.V.Disk.may_leave g.V.Disk.fault_count)) (EndsVoting (meaning {S = g.row.S.Denot} g.S.Shelf.contents g.S.Shelf.tells g.S.Shelf.may_leave g.S.Shelf.fault_count g.V.Disk.tells g.V.Disk.may_leave g.V.Disk.fault_count)) (meaning {S = g.row.S.Denot} g.S.Shelf.contents g.S.Shelf.tells g.S.Shelf.may_leave g.S.Shelf.fault_count g.V.Disk.tells g.V.Disk.may_leave g.V.Disk.fault_count) by 0 c.args.halt.now c.args.world.now ended.view h c.prepare.new.world) (sym (on_ok_is c.prepare.result c.in-Ok-Held.field-0 c.in-Ok-Held.is c.prepare.ensures.same_halt)) (ends_short ended.has);
+      has = subst (λ (h : Halt). IsRoundBy (EndsReading (meaning g.S.Shelf g.V.Disk)) (EndsVoting (meaning g.S.Shelf g.V.Disk)) (meaning g.S.Shelf g.V.Disk) by 0 c.args.halt.now c.args.world.now ended.view h c.prepare.new.world) (sym (on_ok_is c.prepare.result c.in-Ok-Held.field-0 c.in-Ok-Held.is c.prepare.ensures.same_halt)) (ends_short ended.has);
     }
 
 pub returns-in-Ok-Held-clause-buried : goal.returns-in-Ok-Held-clause-buried

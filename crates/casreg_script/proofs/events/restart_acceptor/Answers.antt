@@ -11,6 +11,6 @@ returns-in-None g c = absent (sym c.acceptor_up.ensures ∙ c.in-None.is)
 
 pub returns-in-Some : goal.returns-in-Some
 returns-in-Some g c =
-    subst (λ (a : EventAnswer). RestartsAcceptor (meaning g.S.Shelf.contents g.S.Shelf.tells g.S.Shelf.may_leave g.S.Shelf.fault_count g.V.Disk.tells g.V.Disk.may_leave g.V.Disk.fault_count) c.args.world.now c.args.id a c.restart_acceptor.new.self)
+    subst (λ (a : EventAnswer). RestartsAcceptor (meaning g.S.Shelf g.V.Disk) c.args.world.now c.args.id a c.restart_acceptor.new.self)
     (sym c.shelf_answer.ensures)
     (restarts c.restart_acceptor.result (subst (λ (o : Option Bool). IsSome o) c.acceptor_up.ensures (some_there c.acceptor_up.result c.in-Some.field-0 c.in-Some.is)) c.restart_acceptor.ensures.step c.restart_acceptor.ensures.tells)

@@ -6,5 +6,5 @@ use Rattle.casreg_script.proofs.events.restart_proposer.Goals as goal
 
 pub returns : goal.returns
 returns g c =
-    subst (λ (a : EventAnswer). RestartsProposer (meaning g.S.Shelf.contents g.S.Shelf.tells g.S.Shelf.may_leave g.S.Shelf.fault_count g.V.Disk.tells g.V.Disk.may_leave g.V.Disk.fault_count) c.args.world.now c.args.proposer a c.restart_proposer.new.self)
+    subst (λ (a : EventAnswer). RestartsProposer (meaning g.S.Shelf g.V.Disk) c.args.world.now c.args.proposer a c.restart_proposer.new.self)
     (sym c.vault_answer.ensures) (restarts c.restart_proposer.result c.restart_proposer.ensures.step c.restart_proposer.ensures.tells)

@@ -8,7 +8,7 @@ pub returns-in_ok-slot_of-in-Some-true : goal.returns-in_ok-slot_of-in-Some-true
 returns-in_ok-slot_of-in-Some-true g c =
     let up = sym c.acceptor_up.ensures ∙ c.in-Some-true.is ∙ ap (λ (b : Bool). Some b) c.in-Some-true.field-0-test in
     let there = up_there c.args.world.now.council.used c.args.id (slice_get c.args.world.now.acceptors c.args.id) true up in
-    subst (IsShown (meaning g.S.Shelf.contents g.S.Shelf.tells g.S.Shelf.may_leave g.S.Shelf.fault_count g.V.Disk.tells g.V.Disk.may_leave g.V.Disk.fault_count) c.args.world.now c.args.id c.args.key.now)
+    subst (IsShown (meaning g.S.Shelf g.V.Disk) c.args.world.now c.args.id c.args.key.now)
     (sym (c.shown.ensures ∙ ap shown_of (c.in_ok-slot_of-in-Some-true.ensures there.0 there.1))) (keeps up there.0 there.1)
 
 pub returns-in-Some-false : goal.returns-in-Some-false

@@ -14,7 +14,7 @@ returns-in-Ok g c = strays c.in-Ok.ensures.ok
 pub returns-in-Err-RecordFull : goal.returns-in-Err-RecordFull
 returns-in-Err-RecordFull g c =
     let is = err_is c.stray.result c.in-Err-RecordFull.field-0 _ c.in-Err-RecordFull.is c.in-Err-RecordFull.field-0-is in
-    subst (StraysIn (meaning g.S.Shelf.contents g.S.Shelf.tells g.S.Shelf.may_leave g.S.Shelf.fault_count g.V.Disk.tells g.V.Disk.may_leave g.V.Disk.fault_count) c.args.world.now c.args.index event.RecordFull) (sym (c.stray.ensures.unchanged is))
+    subst (StraysIn (meaning g.S.Shelf g.V.Disk) c.args.world.now c.args.index event.RecordFull) (sym (c.stray.ensures.unchanged is))
     (full (omega (arith, c.if-index-late.false, c.late-late.ensures)) (c.stray.ensures.full.0 is))
 
 pub returns-in-Err-NoMemory : goal.returns-in-Err-NoMemory

@@ -44,7 +44,7 @@ loop-front-preserved g c =
           record {
             view = after.view;
             is = after.is;
-            has = subst (λ (again : Bool). AskTurned (meaning g.S.Shelf.contents g.S.Shelf.tells g.S.Shelf.may_leave g.S.Shelf.fault_count g.V.Disk.tells g.V.Disk.may_leave g.V.Disk.fault_count) by c.args.world.now after.view again c.turn.new.self) (sym c.is_to_repeat-again.ensures)
+            has = subst (λ (again : Bool). AskTurned (meaning g.S.Shelf g.V.Disk) by c.args.world.now after.view again c.turn.new.self) (sym c.is_to_repeat-again.ensures)
                 (ask_turned_more _ c.args.world.now c.loop-front.world c.let_in.new.world c.turn.new.self c.front.result c.in-Some.front.0 c.in-Some.front.1 (ask_front c.loop-front.world c.requires.asks.0 (c.loop-front.invariant.asks c.requires.asks.0 c.requires.asks.1) c.front.ensures) c.in-Some.is
                 under before.has between.has after.has by_turn);
           };

@@ -8,7 +8,7 @@ use Rattle.casreg_script.proofs.exchange.ask_turns.Given as goal
 
 abbrev pub invariant-loop-front : goal.invariant-loop-front
 invariant-loop-front g l = record {
-  turned : Through l.initial.network l.network (λ by next. AskTurned (meaning g.S.Shelf.contents g.S.Shelf.tells g.S.Shelf.may_leave g.S.Shelf.fault_count g.V.Disk.tells g.V.Disk.may_leave g.V.Disk.fault_count) by l.initial.world next l.again l.world);
+  turned : Through l.initial.network l.network (λ by next. AskTurned (meaning g.S.Shelf g.V.Disk) by l.initial.world next l.again l.world);
   asks : (question : Question) → IsAsking l.initial.world question → IsAsking l.world question;
   order : KeepsOrder l.initial.world l.world;
   network : (by : NetworkView) → IsNetwork l.initial.network by → (next : NetworkView) × IsNetwork l.network next;

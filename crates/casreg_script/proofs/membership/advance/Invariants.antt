@@ -7,7 +7,7 @@ use Rattle.casreg_script.proofs.membership.advance.Given as goal
 
 abbrev pub invariant-loop-step : goal.invariant-loop-step
 invariant-loop-step g l = record {
-  advances : Through l.initial.network l.network (λ by next. HasAdvanced (meaning g.S.Shelf.contents g.S.Shelf.tells g.S.Shelf.may_leave g.S.Shelf.fault_count g.V.Disk.tells g.V.Disk.may_leave g.V.Disk.fault_count) l.tries by l.initial.halt l.initial.world next l.halt l.world);
+  advances : Through l.initial.network l.network (λ by next. HasAdvanced (meaning g.S.Shelf g.V.Disk) l.tries by l.initial.halt l.initial.world next l.halt l.world);
   network : (by : NetworkView) → IsNetwork l.initial.network by → (next : NetworkView) × IsNetwork l.network next;
   goes : GoesFrom l.initial.world l.world;
 }

@@ -26,7 +26,7 @@ returns-in-Ok-clause-changes g c by is =
     record {
       view = carried.view;
       is = carried.is;
-      has = subst (λ (a : OpAnswer). ChangesMembers (meaning {S = g.row.S.Denot} g.S.Shelf.contents g.S.Shelf.tells g.S.Shelf.may_leave g.S.Shelf.fault_count g.V.Disk.tells g.V.Disk.may_leave g.V.Disk.fault_count) c.args.tries by (asked_to c.args.kind c.args.id) c.args.halt.now c.args.world.now a carried.view c.carry_out-answer.new.halt c.tell.new.self) (sym c.tell.ensures.same)
+      has = subst (λ (a : OpAnswer). ChangesMembers (meaning g.S.Shelf g.V.Disk) c.args.tries by (asked_to c.args.kind c.args.id) c.args.halt.now c.args.world.now a carried.view c.carry_out-answer.new.halt c.tell.new.self) (sym c.tell.ensures.same)
           (told (subst (λ (a : Asked). StepOrder c.args.world.now a c.order.new.self) c.asked.ensures c.in-Ok.ensures.ok) carried.has c.tell.ensures.step);
     }
 

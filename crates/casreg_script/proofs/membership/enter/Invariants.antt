@@ -11,7 +11,7 @@ use Rattle.casreg_script.proofs.membership.enter.Given as goal
 
 abbrev pub invariant-loop-proposer : goal.invariant-loop-proposer
 invariant-loop-proposer g l = record {
-  advances : (tries : ℕ) (by : NetworkView) (halt : Halt) → HasAdvanced (meaning g.S.Shelf.contents g.S.Shelf.tells g.S.Shelf.may_leave g.S.Shelf.fault_count g.V.Disk.tells g.V.Disk.may_leave g.V.Disk.fault_count) tries by halt l.initial.world by halt l.world;
+  advances : (tries : ℕ) (by : NetworkView) (halt : Halt) → HasAdvanced (meaning g.S.Shelf g.V.Disk) tries by halt l.initial.world by halt l.world;
   goes : GoesFrom l.initial.world l.world;
   takes : (steps_left l.world < steps_left l.initial.world) ⊎ IsSome (entrant_of l.world.council.plan);
 }

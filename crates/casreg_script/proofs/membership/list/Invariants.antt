@@ -12,7 +12,7 @@ use Rattle.casreg_script.proofs.membership.list.Given as goal
 
 abbrev pub invariant-pages : goal.invariant-pages
 invariant-pages g l = record {
-  advances : (tries : ℕ) (halt : Halt) → Through l.initial.network l.network (λ by next. HasAdvanced (meaning g.S.Shelf.contents g.S.Shelf.tells g.S.Shelf.may_leave g.S.Shelf.fault_count g.V.Disk.tells g.V.Disk.may_leave g.V.Disk.fault_count) tries by halt l.initial.world next halt l.world);
+  advances : (tries : ℕ) (halt : Halt) → Through l.initial.network l.network (λ by next. HasAdvanced (meaning g.S.Shelf g.V.Disk) tries by halt l.initial.world next halt l.world);
   network : (by : NetworkView) → IsNetwork l.initial.network by → (next : NetworkView) × IsNetwork l.network next;
   goes : GoesFrom l.initial.world l.world;
   settles : step_of l.world.council.plan ≡ Some Settle;

@@ -48,16 +48,16 @@ idle : (g : Over) (c : After-drop-key-inside-in-Some g) → KeepsIdle c.due_key.
 idle g c = change_idle c.due_key.new.self c.change.new.world 0
     (change_leaves _ c.args.tries 0 c.in-Some.key c.args.program.now c.loop-key.halt c.change.new.halt c.due_key.new.self c.change.new.world c.change.result (c.change.ensures.change (c.loop-key.invariant.network c.requires.network.0 c.requires.network.1).0 (c.loop-key.invariant.network c.requires.network.0 c.requires.network.1).1).has) c.change.ensures.idle
 
-advances : (g : Over) (c : After-drop-key-inside-in-Some g) → Through c.args.network.now c.change.new.network (λ by next. HasAdvanced (meaning g.S.Shelf.contents g.S.Shelf.tells g.S.Shelf.may_leave g.S.Shelf.fault_count g.V.Disk.tells g.V.Disk.may_leave g.V.Disk.fault_count) c.args.tries by c.args.halt.now c.args.world.now next c.change.new.halt c.change.new.world)
+advances : (g : Over) (c : After-drop-key-inside-in-Some g) → Through c.args.network.now c.change.new.network (λ by next. HasAdvanced (meaning g.S.Shelf g.V.Disk) c.args.tries by c.args.halt.now c.args.world.now next c.change.new.halt c.change.new.world)
 advances g c by is =
     let first_ = c.loop-key.invariant.advances by is in
     let then_ = c.change.ensures.change first_.view first_.is in
     record {
       view = then_.view;
       is = then_.is;
-      has = one_more (subst (λ (w : View _ _). HasAdvanced (meaning g.S.Shelf.contents g.S.Shelf.tells g.S.Shelf.may_leave g.S.Shelf.fault_count g.V.Disk.tells g.V.Disk.may_leave g.V.Disk.fault_count) c.args.tries by c.args.halt.now c.args.world.now first_.view c.loop-key.halt w) (sym c.in_ok-key.ensures.unchanged) first_.has)
+      has = one_more (subst (λ (w : View _ _). HasAdvanced (meaning g.S.Shelf g.V.Disk) c.args.tries by c.args.halt.now c.args.world.now first_.view c.loop-key.halt w) (sym c.in_ok-key.ensures.unchanged) first_.has)
           (goes_on_from c.args.world.now c.due_key.new.self c.requires.under_way.0 (goes_mid g c) c.requires.under_way.1)
-          (rescans c.in-Some.key c.change.result (due g c) (subst (λ (p : _). IsChange (meaning g.S.Shelf.contents g.S.Shelf.tells g.S.Shelf.may_leave g.S.Shelf.fault_count g.V.Disk.tells g.V.Disk.may_leave g.V.Disk.fault_count) c.args.tries first_.view 0 c.in-Some.key p c.loop-key.halt c.due_key.new.self c.change.result then_.view c.change.new.halt c.change.new.world) c.requires.program then_.has));
+          (rescans c.in-Some.key c.change.result (due g c) (subst (λ (p : _). IsChange (meaning g.S.Shelf g.V.Disk) c.args.tries first_.view 0 c.in-Some.key p c.loop-key.halt c.due_key.new.self c.change.result then_.view c.change.new.halt c.change.new.world) c.requires.program then_.has));
     }
 
 -- ---- it was done
@@ -87,9 +87,9 @@ returns-in_default-change g c =
           record {
             view = then_.view;
             is = then_.is;
-            has = one_more (subst (λ (w : View _ _). HasAdvanced (meaning g.S.Shelf.contents g.S.Shelf.tells g.S.Shelf.may_leave g.S.Shelf.fault_count g.V.Disk.tells g.V.Disk.may_leave g.V.Disk.fault_count) c.args.tries by c.args.halt.now c.args.world.now first_.view c.loop-key.halt w) (sym c.in_ok-key.ensures.unchanged) first_.has)
+            has = one_more (subst (λ (w : View _ _). HasAdvanced (meaning g.S.Shelf g.V.Disk) c.args.tries by c.args.halt.now c.args.world.now first_.view c.loop-key.halt w) (sym c.in_ok-key.ensures.unchanged) first_.has)
                 (goes_on_from c.args.world.now c.due_key.new.self c.requires.under_way.0 goes c.requires.under_way.1)
-                (rescans c.in-Some.key c.change.result due (subst (λ (p : _). IsChange (meaning g.S.Shelf.contents g.S.Shelf.tells g.S.Shelf.may_leave g.S.Shelf.fault_count g.V.Disk.tells g.V.Disk.may_leave g.V.Disk.fault_count) c.args.tries first_.view 0 c.in-Some.key p c.loop-key.halt c.due_key.new.self c.change.result then_.view c.change.new.halt c.change.new.world) c.requires.program then_.has));
+                (rescans c.in-Some.key c.change.result due (subst (λ (p : _). IsChange (meaning g.S.Shelf g.V.Disk) c.args.tries first_.view 0 c.in-Some.key p c.loop-key.halt c.due_key.new.self c.change.result then_.view c.change.new.halt c.change.new.world) c.requires.program then_.has));
           };
       under_way = λ asked was. tt;
       fewer = λ was_due. tt;

@@ -39,8 +39,8 @@ returns-in-Ok-clause-probe g c by is =
     record {
       view = asks.view;
       is = asks.is;
-      has = subst (λ (a : OpAnswer). IsProbe (meaning {S = g.row.S.Denot} g.S.Shelf.contents g.S.Shelf.tells g.S.Shelf.may_leave g.S.Shelf.fault_count g.V.Disk.tells g.V.Disk.may_leave g.V.Disk.fault_count) by c.args.key.now c.args.world.now a asks.view c.tell.new.self) (sym c.tell.ensures.same)
-          (told (subst (λ (k : List ℕ). StepOrder c.args.world.now (asked.Probe k) c.order.new.self) c.in_ok-copy.ensures c.in-Ok.ensures.ok) (subst (λ (k : List ℕ). AsksMembers (meaning {S = g.row.S.Denot} g.S.Shelf.contents g.S.Shelf.tells g.S.Shelf.may_leave g.S.Shelf.fault_count g.V.Disk.tells g.V.Disk.may_leave g.V.Disk.fault_count) by (AskAll (Probe k)) Gather c.order.new.self asks.view c.exchange.new.world) c.in_ok-copy-2.ensures asks.has) c.tell.ensures.step);
+      has = subst (λ (a : OpAnswer). IsProbe (meaning g.S.Shelf g.V.Disk) by c.args.key.now c.args.world.now a asks.view c.tell.new.self) (sym c.tell.ensures.same)
+          (told (subst (λ (k : List ℕ). StepOrder c.args.world.now (asked.Probe k) c.order.new.self) c.in_ok-copy.ensures c.in-Ok.ensures.ok) (subst (λ (k : List ℕ). AsksMembers (meaning g.S.Shelf g.V.Disk) by (AskAll (Probe k)) Gather c.order.new.self asks.view c.exchange.new.world) c.in_ok-copy-2.ensures asks.has) c.tell.ensures.step);
     }
 
 pub returns-clause-probe : goal.returns-clause-probe

@@ -30,4 +30,4 @@ returns-clause-stopped g c asked was =
 
 pub returns-clause-leads : goal.returns-clause-leads
 returns-clause-leads g c =
-    then_leads c.args.world.now c.turns.new.world c.count_tombstone.new.self c.turns.ensures.leads (count_leads (meaning {S = g.row.S.Denot} g.S.Shelf.contents g.S.Shelf.tells g.S.Shelf.may_leave g.S.Shelf.fault_count g.V.Disk.tells g.V.Disk.may_leave g.V.Disk.fault_count) c.turns.new.world c.count_tombstone.new.self c.count_tombstone.result c.count_tombstone.ensures.step)
+    then_leads c.args.world.now c.turns.new.world c.count_tombstone.new.self c.turns.ensures.leads (count_leads (meaning g.S.Shelf g.V.Disk) c.turns.new.world c.count_tombstone.new.self c.count_tombstone.result c.count_tombstone.ensures.step)

@@ -23,7 +23,7 @@ loop-front-preserved g c =
       asks = λ question was. still_asks _ c.loop-front.world c.turn.new.self question c.verdict_of-verdict.result (c.loop-front.invariant.asks question was) by;
       order = both_orders c.args.world.now c.loop-front.world c.turn.new.self c.loop-front.invariant.order (turn_order _ c.loop-front.world c.turn.new.self c.verdict_of-verdict.result by);
       goes = then_goes c.args.world.now c.loop-front.world c.turn.new.self c.loop-front.invariant.goes
-          (step_goes (meaning {S = g.row.S.Denot} g.S.Shelf.contents g.S.Shelf.tells g.S.Shelf.may_leave g.S.Shelf.fault_count g.V.Disk.tells g.V.Disk.may_leave g.V.Disk.fault_count) c.loop-front.world c.turn.new.self (step.TurnExchange _) by (keeps_idle c.loop-front.world c.turn.new.self (ask_turn_keeps _ c.loop-front.world c.turn.new.self c.verdict_of-verdict.result by)));
+          (step_goes (meaning g.S.Shelf g.V.Disk) c.loop-front.world c.turn.new.self (step.TurnExchange _) by (keeps_idle c.loop-front.world c.turn.new.self (ask_turn_keeps _ c.loop-front.world c.turn.new.self c.verdict_of-verdict.result by)));
     }
 
 pub returns-in_err-turn-clause-told : goal.returns-in_err-turn-clause-told
@@ -32,7 +32,7 @@ returns-in_err-turn-clause-told g c = on_err_of c.from_residual.result (told_non
 pub returns-in_err-turn-clause-goes : goal.returns-in_err-turn-clause-goes
 returns-in_err-turn-clause-goes g c =
     let by = as_ask_refusal _ c.loop-front.world c.turn.new.self c.requires.asks.0 (c.loop-front.invariant.asks c.requires.asks.0 c.requires.asks.1) c.in_err-turn.ensures.err in
-    then_goes c.args.world.now c.loop-front.world c.turn.new.self c.loop-front.invariant.goes (step_goes (meaning {S = g.row.S.Denot} g.S.Shelf.contents g.S.Shelf.tells g.S.Shelf.may_leave g.S.Shelf.fault_count g.V.Disk.tells g.V.Disk.may_leave g.V.Disk.fault_count) c.loop-front.world c.turn.new.self step.RefuseTurnExchange by (keeps_idle c.loop-front.world c.turn.new.self (ask_refusal_keeps _ c.loop-front.world c.turn.new.self by)))
+    then_goes c.args.world.now c.loop-front.world c.turn.new.self c.loop-front.invariant.goes (step_goes (meaning g.S.Shelf g.V.Disk) c.loop-front.world c.turn.new.self step.RefuseTurnExchange by (keeps_idle c.loop-front.world c.turn.new.self (ask_refusal_keeps _ c.loop-front.world c.turn.new.self by)))
 
 pub returns-clause-through : goal.returns-clause-through
 returns-clause-through g c = none_waits (queue_at c.loop-front.world.flow exchange_place).messages c.front.result (ask_front c.loop-front.world c.requires.asks.0 (c.loop-front.invariant.asks c.requires.asks.0 c.requires.asks.1) c.front.ensures) c.in_default.is

@@ -12,16 +12,16 @@ pub begin_collect-requires-clause-may : goal.begin_collect-requires-clause-may
 begin_collect-requires-clause-may g c = begun_first c.args.world.now 0 c.args.call c.args.key.now c.args.program.now c.requires.free.idle c.requires.next
 
 pub round-requires : goal.round-requires
-round-requires g c = record { running = (_, is_running (meaning {S = g.row.S.Denot} g.S.Shelf.contents g.S.Shelf.tells g.S.Shelf.may_leave g.S.Shelf.fault_count g.V.Disk.tells g.V.Disk.may_leave g.V.Disk.fault_count) c.args.world.now c.begin_collect.new.self c.args.key.now c.begin_collect.ensures.step c.args.call c.requires.free.quiet (inl c.requires.free.idle) c.in-Ok.ensures.ok) }
+round-requires g c = record { running = (_, is_running (meaning g.S.Shelf g.V.Disk) c.args.world.now c.begin_collect.new.self c.args.key.now c.begin_collect.ensures.step c.args.call c.requires.free.quiet (inl c.requires.free.idle) c.in-Ok.ensures.ok) }
 
 pub returns-in-Ok-clause-leads : goal.returns-in-Ok-clause-leads
-returns-in-Ok-clause-leads g c = then_leads c.args.world.now c.begin_collect.new.self c.round.new.world (begin_leads (meaning {S = g.row.S.Denot} g.S.Shelf.contents g.S.Shelf.tells g.S.Shelf.may_leave g.S.Shelf.fault_count g.V.Disk.tells g.V.Disk.may_leave g.V.Disk.fault_count) c.args.world.now c.begin_collect.new.self c.args.key.now c.begin_collect.ensures.step) c.round.ensures.leads
+returns-in-Ok-clause-leads g c = then_leads c.args.world.now c.begin_collect.new.self c.round.new.world (begin_leads (meaning g.S.Shelf g.V.Disk) c.args.world.now c.begin_collect.new.self c.args.key.now c.begin_collect.ensures.step) c.round.ensures.leads
 
 pub returns-in-Ok-clause-stopped : goal.returns-in-Ok-clause-stopped
-returns-in-Ok-clause-stopped g c = c.round.ensures.stopped _ (is_running (meaning {S = g.row.S.Denot} g.S.Shelf.contents g.S.Shelf.tells g.S.Shelf.may_leave g.S.Shelf.fault_count g.V.Disk.tells g.V.Disk.may_leave g.V.Disk.fault_count) c.args.world.now c.begin_collect.new.self c.args.key.now c.begin_collect.ensures.step c.args.call c.requires.free.quiet (inl c.requires.free.idle) c.in-Ok.ensures.ok)
+returns-in-Ok-clause-stopped g c = c.round.ensures.stopped _ (is_running (meaning g.S.Shelf g.V.Disk) c.args.world.now c.begin_collect.new.self c.args.key.now c.begin_collect.ensures.step c.args.call c.requires.free.quiet (inl c.requires.free.idle) c.in-Ok.ensures.ok)
 
 pub returns-in-Ok-clause-buried : goal.returns-in-Ok-clause-buried
-returns-in-Ok-clause-buried g c = c.round.ensures.buried _ (is_running (meaning {S = g.row.S.Denot} g.S.Shelf.contents g.S.Shelf.tells g.S.Shelf.may_leave g.S.Shelf.fault_count g.V.Disk.tells g.V.Disk.may_leave g.V.Disk.fault_count) c.args.world.now c.begin_collect.new.self c.args.key.now c.begin_collect.ensures.step c.args.call c.requires.free.quiet (inl c.requires.free.idle) c.in-Ok.ensures.ok)
+returns-in-Ok-clause-buried g c = c.round.ensures.buried _ (is_running (meaning g.S.Shelf g.V.Disk) c.args.world.now c.begin_collect.new.self c.args.key.now c.begin_collect.ensures.step c.args.call c.requires.free.quiet (inl c.requires.free.idle) c.in-Ok.ensures.ok)
 
 pub returns-then-leaves_no_call-clause-told : goal.returns-then-leaves_no_call-clause-told
 returns-then-leaves_no_call-clause-told g c = (refused_call c.args.world.now c.begin_collect.new.self c.args.call c.args.key.now c.in-Err.refusal c.requires.free.idle (sym c.leaves_no_call.ensures ∙ c.if-leaves_no_call.true) c.in-Err.ensures.err).1
@@ -30,7 +30,7 @@ pub returns-then-leaves_no_call-clause-none : goal.returns-then-leaves_no_call-c
 returns-then-leaves_no_call-clause-none g c = (refused_call c.args.world.now c.begin_collect.new.self c.args.call c.args.key.now c.in-Err.refusal c.requires.free.idle (sym c.leaves_no_call.ensures ∙ c.if-leaves_no_call.true) c.in-Err.ensures.err).0
 
 pub returns-then-leaves_no_call-clause-leads : goal.returns-then-leaves_no_call-clause-leads
-returns-then-leaves_no_call-clause-leads g c = begin_leads (meaning {S = g.row.S.Denot} g.S.Shelf.contents g.S.Shelf.tells g.S.Shelf.may_leave g.S.Shelf.fault_count g.V.Disk.tells g.V.Disk.may_leave g.V.Disk.fault_count) c.args.world.now c.begin_collect.new.self c.args.key.now c.begin_collect.ensures.step
+returns-then-leaves_no_call-clause-leads g c = begin_leads (meaning g.S.Shelf g.V.Disk) c.args.world.now c.begin_collect.new.self c.args.key.now c.begin_collect.ensures.step
 
 pub why_stopped-requires : goal.why_stopped-requires
 why_stopped-requires g c =
@@ -41,7 +41,7 @@ pub returns-else-leaves_no_call-clause-stopped : goal.returns-else-leaves_no_cal
 returns-else-leaves_no_call-clause-stopped g c =
     let told = told_call c.args.world.now c.begin_collect.new.self c.args.call c.args.key.now c.in-Err.refusal (sym c.leaves_no_call.ensures ∙ c.if-leaves_no_call.false) c.in-Err.ensures.err in
     let begun = said_so c.begin_collect.new.self c.args.call c.args.key.now c.in-Err.refusal told.0 c.why_stopped.result told.1 c.why_stopped.ensures told.2 in
-    begun_stopped (meaning {S = g.row.S.Denot} g.S.Shelf.contents g.S.Shelf.tells g.S.Shelf.may_leave g.S.Shelf.fault_count g.V.Disk.tells g.V.Disk.may_leave g.V.Disk.fault_count) c.args.world.now c.begin_collect.new.self c.args.key.now c.begin_collect.ensures.step c.args.call c.why_stopped.result c.requires.free.quiet (inl c.requires.free.idle) begun.not_done begun.was_told begun.is
+    begun_stopped (meaning g.S.Shelf g.V.Disk) c.args.world.now c.begin_collect.new.self c.args.key.now c.begin_collect.ensures.step c.args.call c.why_stopped.result c.requires.free.quiet (inl c.requires.free.idle) begun.not_done begun.was_told begun.is
 
 pub returns-else-leaves_no_call-clause-leads : goal.returns-else-leaves_no_call-clause-leads
-returns-else-leaves_no_call-clause-leads g c = begin_leads (meaning {S = g.row.S.Denot} g.S.Shelf.contents g.S.Shelf.tells g.S.Shelf.may_leave g.S.Shelf.fault_count g.V.Disk.tells g.V.Disk.may_leave g.V.Disk.fault_count) c.args.world.now c.begin_collect.new.self c.args.key.now c.begin_collect.ensures.step
+returns-else-leaves_no_call-clause-leads g c = begin_leads (meaning g.S.Shelf g.V.Disk) c.args.world.now c.begin_collect.new.self c.args.key.now c.begin_collect.ensures.step

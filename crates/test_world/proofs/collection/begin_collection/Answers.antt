@@ -14,12 +14,12 @@ bury-requires-clause-free g c =
     free_then c.args.world.now c.order.new.self _ c.requires.rest ((keeps_idle c.args.world.now c.order.new.self (order_keeps c.args.world.now c.order.new.self _ c.in-Ok.ensures.ok)).idle 0 c.requires.idle) c.in-Ok.ensures.ok
 
 pub returns-in-Ok-bury-clause-goes : goal.returns-in-Ok-bury-clause-goes
-returns-in-Ok-bury-clause-goes g c = then_goes c.args.world.now c.order.new.self c.bury.new.world (order_goes (meaning {S = g.row.S.Denot} g.S.Shelf.contents g.S.Shelf.tells g.S.Shelf.may_leave g.S.Shelf.fault_count g.V.Disk.tells g.V.Disk.may_leave g.V.Disk.fault_count) c.args.world.now c.order.new.self _ c.in-Ok.ensures.ok) c.bury.ensures.goes
+returns-in-Ok-bury-clause-goes g c = then_goes c.args.world.now c.order.new.self c.bury.new.world (order_goes (meaning g.S.Shelf g.V.Disk) c.args.world.now c.order.new.self _ c.in-Ok.ensures.ok) c.bury.ensures.goes
 
 pub returns-in-Err-bury-clause-rest : goal.returns-in-Err-bury-clause-rest
 returns-in-Err-bury-clause-rest g c = quiet_after c.bury.new.world c.tell.new.self _ c.tell.ensures.step
 
 pub returns-in-Err-bury-clause-goes : goal.returns-in-Err-bury-clause-goes
 returns-in-Err-bury-clause-goes g c =
-    then_goes c.args.world.now c.bury.new.world c.tell.new.self (then_goes c.args.world.now c.order.new.self c.bury.new.world (order_goes (meaning {S = g.row.S.Denot} g.S.Shelf.contents g.S.Shelf.tells g.S.Shelf.may_leave g.S.Shelf.fault_count g.V.Disk.tells g.V.Disk.may_leave g.V.Disk.fault_count) c.args.world.now c.order.new.self _ c.in-Ok.ensures.ok) c.bury.ensures.goes)
-    (tell_goes (meaning {S = g.row.S.Denot} g.S.Shelf.contents g.S.Shelf.tells g.S.Shelf.may_leave g.S.Shelf.fault_count g.V.Disk.tells g.V.Disk.may_leave g.V.Disk.fault_count) c.bury.new.world c.tell.new.self _ c.tell.ensures.step)
+    then_goes c.args.world.now c.bury.new.world c.tell.new.self (then_goes c.args.world.now c.order.new.self c.bury.new.world (order_goes (meaning g.S.Shelf g.V.Disk) c.args.world.now c.order.new.self _ c.in-Ok.ensures.ok) c.bury.ensures.goes)
+    (tell_goes (meaning g.S.Shelf g.V.Disk) c.bury.new.world c.tell.new.self _ c.tell.ensures.step)

@@ -9,16 +9,16 @@ gather-requires g c = may_gather_round c.run_call.new.world c.args.key.now c.in_
 
 pub returns-in_err-gather-clause-goes : goal.returns-in_err-gather-clause-goes
 returns-in_err-gather-clause-goes g c =
-    let by = as_gather_round (meaning {S = g.row.S.Denot} g.S.Shelf.contents g.S.Shelf.tells g.S.Shelf.may_leave g.S.Shelf.fault_count g.V.Disk.tells g.V.Disk.may_leave g.V.Disk.fault_count) c.run_call.new.world c.gather.new.self c.args.key.now c.in_ok-run_call.ensures.buried c.gather.ensures.step in
-    then_goes c.args.world.now c.run_call.new.world c.gather.new.self c.run_call.ensures.goes (step_goes (meaning {S = g.row.S.Denot} g.S.Shelf.contents g.S.Shelf.tells g.S.Shelf.may_leave g.S.Shelf.fault_count g.V.Disk.tells g.V.Disk.may_leave g.V.Disk.fault_count) c.run_call.new.world c.gather.new.self step.GatherRound by (gather_round_idle c.run_call.new.world c.gather.new.self by))
+    let by = as_gather_round (meaning g.S.Shelf g.V.Disk) c.run_call.new.world c.gather.new.self c.args.key.now c.in_ok-run_call.ensures.buried c.gather.ensures.step in
+    then_goes c.args.world.now c.run_call.new.world c.gather.new.self c.run_call.ensures.goes (step_goes (meaning g.S.Shelf g.V.Disk) c.run_call.new.world c.gather.new.self step.GatherRound by (gather_round_idle c.run_call.new.world c.gather.new.self by))
 
 pub returns-clause-due : goal.returns-clause-due
 returns-clause-due g c =
     let buried = c.in_ok-run_call.ensures.buried in
-    let by = as_gather_round (meaning {S = g.row.S.Denot} g.S.Shelf.contents g.S.Shelf.tells g.S.Shelf.may_leave g.S.Shelf.fault_count g.V.Disk.tells g.V.Disk.may_leave g.V.Disk.fault_count) c.run_call.new.world c.gather.new.self c.args.key.now buried c.gather.ensures.step in
+    let by = as_gather_round (meaning g.S.Shelf g.V.Disk) c.run_call.new.world c.gather.new.self c.args.key.now buried c.gather.ensures.step in
     round_due c.run_call.new.world c.gather.new.self c.args.key.now c.in_ok-gather.field-0 buried c.in_ok-gather.ensures.ok ((gather_round_idle c.run_call.new.world c.gather.new.self by).idle 0 buried.due.idle)
 
 pub returns-clause-goes : goal.returns-clause-goes
 returns-clause-goes g c =
-    let by = as_gather_round (meaning {S = g.row.S.Denot} g.S.Shelf.contents g.S.Shelf.tells g.S.Shelf.may_leave g.S.Shelf.fault_count g.V.Disk.tells g.V.Disk.may_leave g.V.Disk.fault_count) c.run_call.new.world c.gather.new.self c.args.key.now c.in_ok-run_call.ensures.buried c.gather.ensures.step in
-    then_goes c.args.world.now c.run_call.new.world c.gather.new.self c.run_call.ensures.goes (step_goes (meaning {S = g.row.S.Denot} g.S.Shelf.contents g.S.Shelf.tells g.S.Shelf.may_leave g.S.Shelf.fault_count g.V.Disk.tells g.V.Disk.may_leave g.V.Disk.fault_count) c.run_call.new.world c.gather.new.self step.GatherRound by (gather_round_idle c.run_call.new.world c.gather.new.self by))
+    let by = as_gather_round (meaning g.S.Shelf g.V.Disk) c.run_call.new.world c.gather.new.self c.args.key.now c.in_ok-run_call.ensures.buried c.gather.ensures.step in
+    then_goes c.args.world.now c.run_call.new.world c.gather.new.self c.run_call.ensures.goes (step_goes (meaning g.S.Shelf g.V.Disk) c.run_call.new.world c.gather.new.self step.GatherRound by (gather_round_idle c.run_call.new.world c.gather.new.self by))

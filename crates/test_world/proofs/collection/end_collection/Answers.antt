@@ -7,10 +7,10 @@ pub returns-in-Ok-clause-rest : goal.returns-in-Ok-clause-rest
 returns-in-Ok-clause-rest g c = quiet_after c.remove_slots.new.world c.tell.new.self _ c.tell.ensures.step
 
 pub returns-in-Ok-clause-goes : goal.returns-in-Ok-clause-goes
-returns-in-Ok-clause-goes g c = then_goes c.args.world.now c.remove_slots.new.world c.tell.new.self c.remove_slots.ensures.goes (tell_goes (meaning {S = g.row.S.Denot} g.S.Shelf.contents g.S.Shelf.tells g.S.Shelf.may_leave g.S.Shelf.fault_count g.V.Disk.tells g.V.Disk.may_leave g.V.Disk.fault_count) c.remove_slots.new.world c.tell.new.self _ c.tell.ensures.step)
+returns-in-Ok-clause-goes g c = then_goes c.args.world.now c.remove_slots.new.world c.tell.new.self c.remove_slots.ensures.goes (tell_goes (meaning g.S.Shelf g.V.Disk) c.remove_slots.new.world c.tell.new.self _ c.tell.ensures.step)
 
 pub returns-in-Err-clause-rest : goal.returns-in-Err-clause-rest
 returns-in-Err-clause-rest g c = quiet_after c.remove_slots.new.world c.tell-in-Err.new.self _ c.tell-in-Err.ensures.step
 
 pub returns-in-Err-clause-goes : goal.returns-in-Err-clause-goes
-returns-in-Err-clause-goes g c = then_goes c.args.world.now c.remove_slots.new.world c.tell-in-Err.new.self c.remove_slots.ensures.goes (tell_goes (meaning {S = g.row.S.Denot} g.S.Shelf.contents g.S.Shelf.tells g.S.Shelf.may_leave g.S.Shelf.fault_count g.V.Disk.tells g.V.Disk.may_leave g.V.Disk.fault_count) c.remove_slots.new.world c.tell-in-Err.new.self _ c.tell-in-Err.ensures.step)
+returns-in-Err-clause-goes g c = then_goes c.args.world.now c.remove_slots.new.world c.tell-in-Err.new.self c.remove_slots.ensures.goes (tell_goes (meaning g.S.Shelf g.V.Disk) c.remove_slots.new.world c.tell-in-Err.new.self _ c.tell-in-Err.ensures.step)

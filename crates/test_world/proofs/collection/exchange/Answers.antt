@@ -10,7 +10,7 @@ use Rattle.test_world.proofs.collection.exchange.Given.{Over}
 use Rattle.test_world.proofs.collection.exchange.Goals as goal
 
 pub returns-in_err-ask_all-clause-goes : goal.returns-in_err-ask_all-clause-goes
-returns-in_err-ask_all-clause-goes g c = step_goes (meaning {S = g.row.S.Denot} g.S.Shelf.contents g.S.Shelf.tells g.S.Shelf.may_leave g.S.Shelf.fault_count g.V.Disk.tells g.V.Disk.may_leave g.V.Disk.fault_count) c.args.world.now c.ask_all.new.self (asking_of c.args.world.now c.args.what) c.in_err-ask_all.ensures.step (keeps_idle c.args.world.now c.ask_all.new.self (asking_keeps _ c.args.world.now c.ask_all.new.self c.args.what c.in_err-ask_all.ensures.step))
+returns-in_err-ask_all-clause-goes g c = step_goes (meaning g.S.Shelf g.V.Disk) c.args.world.now c.ask_all.new.self (asking_of c.args.world.now c.args.what) c.in_err-ask_all.ensures.step (keeps_idle c.args.world.now c.ask_all.new.self (asking_keeps _ c.args.world.now c.ask_all.new.self c.args.what c.in_err-ask_all.ensures.step))
 
 pub ask_turns-requires : goal.ask_turns-requires
 ask_turns-requires g c =
@@ -20,7 +20,7 @@ ask_turns-requires g c =
 pub returns-then-is_err-clause-goes : goal.returns-then-is_err-clause-goes
 returns-then-is_err-clause-goes g c =
     then_goes c.args.world.now c.ask_all.new.self c.ask_turns.new.world
-    (step_goes (meaning {S = g.row.S.Denot} g.S.Shelf.contents g.S.Shelf.tells g.S.Shelf.may_leave g.S.Shelf.fault_count g.V.Disk.tells g.V.Disk.may_leave g.V.Disk.fault_count) c.args.world.now c.ask_all.new.self (asking_of c.args.world.now c.args.what) c.in_ok-ask_all.ensures.step (keeps_idle c.args.world.now c.ask_all.new.self (asking_keeps _ c.args.world.now c.ask_all.new.self c.args.what c.in_ok-ask_all.ensures.step)))
+    (step_goes (meaning g.S.Shelf g.V.Disk) c.args.world.now c.ask_all.new.self (asking_of c.args.world.now c.args.what) c.in_ok-ask_all.ensures.step (keeps_idle c.args.world.now c.ask_all.new.self (asking_keeps _ c.args.world.now c.ask_all.new.self c.args.what c.in_ok-ask_all.ensures.step)))
     c.ask_turns.ensures.goes
 
 pub gather-requires : goal.gather-requires
@@ -49,6 +49,6 @@ returns-clause-goes g c =
     let by = gathered_so _ c.args.world.now c.ask_turns.new.world c.gather.new.self c.args.what (asked_so g c).question (asked_so g c).asks (still_asking g c) c.gather.ensures.step in
     then_goes c.args.world.now c.ask_turns.new.world c.gather.new.self
     (then_goes c.args.world.now c.ask_all.new.self c.ask_turns.new.world
-    (step_goes (meaning {S = g.row.S.Denot} g.S.Shelf.contents g.S.Shelf.tells g.S.Shelf.may_leave g.S.Shelf.fault_count g.V.Disk.tells g.V.Disk.may_leave g.V.Disk.fault_count) c.args.world.now c.ask_all.new.self (asking_of c.args.world.now c.args.what) c.in_ok-ask_all.ensures.step (keeps_idle c.args.world.now c.ask_all.new.self (asking_keeps _ c.args.world.now c.ask_all.new.self c.args.what c.in_ok-ask_all.ensures.step)))
+    (step_goes (meaning g.S.Shelf g.V.Disk) c.args.world.now c.ask_all.new.self (asking_of c.args.world.now c.args.what) c.in_ok-ask_all.ensures.step (keeps_idle c.args.world.now c.ask_all.new.self (asking_keeps _ c.args.world.now c.ask_all.new.self c.args.what c.in_ok-ask_all.ensures.step)))
     c.ask_turns.ensures.goes)
-    (step_goes (meaning {S = g.row.S.Denot} g.S.Shelf.contents g.S.Shelf.tells g.S.Shelf.may_leave g.S.Shelf.fault_count g.V.Disk.tells g.V.Disk.may_leave g.V.Disk.fault_count) c.ask_turns.new.world c.gather.new.self (answers_of c.args.what) by (keeps_idle c.ask_turns.new.world c.gather.new.self (answers_keep _ c.ask_turns.new.world c.gather.new.self c.args.what by)))
+    (step_goes (meaning g.S.Shelf g.V.Disk) c.ask_turns.new.world c.gather.new.self (answers_of c.args.what) by (keeps_idle c.ask_turns.new.world c.gather.new.self (answers_keep _ c.ask_turns.new.world c.gather.new.self c.args.what by)))

@@ -18,7 +18,7 @@ exchange-requires-2 g c =
 
 pub returns-in_err-exchange-2-clause-goes : goal.returns-in_err-exchange-2-clause-goes
 returns-in_err-exchange-2-clause-goes g c =
-    then_goes c.args.world.now c.floor.new.self c.exchange-2.new.world (then_goes c.args.world.now c.exchange.new.world c.floor.new.self c.exchange.ensures.goes (floor_goes (meaning {S = g.row.S.Denot} g.S.Shelf.contents g.S.Shelf.tells g.S.Shelf.may_leave g.S.Shelf.fault_count g.V.Disk.tells g.V.Disk.may_leave g.V.Disk.fault_count) c.exchange.new.world c.floor.new.self c.floor.ensures.step)) c.exchange-2.ensures.goes
+    then_goes c.args.world.now c.floor.new.self c.exchange-2.new.world (then_goes c.args.world.now c.exchange.new.world c.floor.new.self c.exchange.ensures.goes (floor_goes (meaning g.S.Shelf g.V.Disk) c.exchange.new.world c.floor.new.self c.floor.ensures.step)) c.exchange-2.ensures.goes
 
 pub returns-clause-end : goal.returns-clause-end
 returns-clause-end g c key was =
@@ -28,4 +28,4 @@ returns-clause-end g c key was =
 
 pub returns-clause-goes : goal.returns-clause-goes
 returns-clause-goes g c =
-    then_goes c.args.world.now c.floor.new.self c.exchange-2.new.world (then_goes c.args.world.now c.exchange.new.world c.floor.new.self c.exchange.ensures.goes (floor_goes (meaning {S = g.row.S.Denot} g.S.Shelf.contents g.S.Shelf.tells g.S.Shelf.may_leave g.S.Shelf.fault_count g.V.Disk.tells g.V.Disk.may_leave g.V.Disk.fault_count) c.exchange.new.world c.floor.new.self c.floor.ensures.step)) c.exchange-2.ensures.goes
+    then_goes c.args.world.now c.floor.new.self c.exchange-2.new.world (then_goes c.args.world.now c.exchange.new.world c.floor.new.self c.exchange.ensures.goes (floor_goes (meaning g.S.Shelf g.V.Disk) c.exchange.new.world c.floor.new.self c.floor.ensures.step)) c.exchange-2.ensures.goes

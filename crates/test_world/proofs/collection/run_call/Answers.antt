@@ -28,13 +28,13 @@ end_collect-requires-clause-calling g c =
 pub returns-in-Done-clause-buried : goal.returns-in-Done-clause-buried
 returns-in-Done-clause-buried g c =
     let stopped = subst (λ (o : Option Answer). IfSome o (HasStopped c.begin_call.new.world (record { number = c.next_call-call.result; key = c.args.key.now; program = keep_always }))) c.in-Some.is c.in_ok-told.ensures.stopped in
-    end_buried (meaning {S = g.row.S.Denot} g.S.Shelf.contents g.S.Shelf.tells g.S.Shelf.may_leave g.S.Shelf.fault_count g.V.Disk.tells g.V.Disk.may_leave g.V.Disk.fault_count) c.begin_call.new.world c.end_collect.new.self _ c.in-Some.told stopped c.end_collect.ensures.step (ap is_done (sym c.end_collect.ensures.same) ∙ ap is_done c.in-Done.is)
+    end_buried (meaning g.S.Shelf g.V.Disk) c.begin_call.new.world c.end_collect.new.self _ c.in-Some.told stopped c.end_collect.ensures.step (ap is_done (sym c.end_collect.ensures.same) ∙ ap is_done c.in-Done.is)
 
 pub returns-in-Done-clause-goes : goal.returns-in-Done-clause-goes
 returns-in-Done-clause-goes g c =
     let stopped = subst (λ (o : Option Answer). IfSome o (HasStopped c.begin_call.new.world (record { number = c.next_call-call.result; key = c.args.key.now; program = keep_always }))) c.in-Some.is c.in_ok-told.ensures.stopped in
-    leads_on c.args.world.now c.end_collect.new.self (then_leads c.args.world.now c.begin_call.new.world c.end_collect.new.self c.begin_call.ensures.leads (end_leads (meaning {S = g.row.S.Denot} g.S.Shelf.contents g.S.Shelf.tells g.S.Shelf.may_leave g.S.Shelf.fault_count g.V.Disk.tells g.V.Disk.may_leave g.V.Disk.fault_count) c.begin_call.new.world c.end_collect.new.self _ c.end_collect.ensures.step))
-    (end_idle (meaning {S = g.row.S.Denot} g.S.Shelf.contents g.S.Shelf.tells g.S.Shelf.may_leave g.S.Shelf.fault_count g.V.Disk.tells g.V.Disk.may_leave g.V.Disk.fault_count) c.begin_call.new.world c.end_collect.new.self _ c.in-Some.told stopped c.end_collect.ensures.step)
+    leads_on c.args.world.now c.end_collect.new.self (then_leads c.args.world.now c.begin_call.new.world c.end_collect.new.self c.begin_call.ensures.leads (end_leads (meaning g.S.Shelf g.V.Disk) c.begin_call.new.world c.end_collect.new.self _ c.end_collect.ensures.step))
+    (end_idle (meaning g.S.Shelf g.V.Disk) c.begin_call.new.world c.end_collect.new.self _ c.in-Some.told stopped c.end_collect.ensures.step)
 
 pub returns-in_default : goal.returns-in_default
 returns-in_default g c =
@@ -42,9 +42,9 @@ returns-in_default g c =
     record {
       buried = tt;
       told = subst (λ (a : Answer). WasToldOrder c.end_collect.new.self (op.Stopped a)) (sym c.end_collect.ensures.same)
-          (end_told (meaning {S = g.row.S.Denot} g.S.Shelf.contents g.S.Shelf.tells g.S.Shelf.may_leave g.S.Shelf.fault_count g.V.Disk.tells g.V.Disk.may_leave g.V.Disk.fault_count) c.begin_call.new.world c.end_collect.new.self _ c.in-Some.told stopped c.end_collect.ensures.step (ap is_done (sym c.end_collect.ensures.same) ∙ not_done c.end_collect.result c.in_default.not-Done));
-      goes = leads_on c.args.world.now c.end_collect.new.self (then_leads c.args.world.now c.begin_call.new.world c.end_collect.new.self c.begin_call.ensures.leads (end_leads (meaning {S = g.row.S.Denot} g.S.Shelf.contents g.S.Shelf.tells g.S.Shelf.may_leave g.S.Shelf.fault_count g.V.Disk.tells g.V.Disk.may_leave g.V.Disk.fault_count) c.begin_call.new.world c.end_collect.new.self _ c.end_collect.ensures.step))
-          (end_idle (meaning {S = g.row.S.Denot} g.S.Shelf.contents g.S.Shelf.tells g.S.Shelf.may_leave g.S.Shelf.fault_count g.V.Disk.tells g.V.Disk.may_leave g.V.Disk.fault_count) c.begin_call.new.world c.end_collect.new.self _ c.in-Some.told stopped c.end_collect.ensures.step);
+          (end_told (meaning g.S.Shelf g.V.Disk) c.begin_call.new.world c.end_collect.new.self _ c.in-Some.told stopped c.end_collect.ensures.step (ap is_done (sym c.end_collect.ensures.same) ∙ not_done c.end_collect.result c.in_default.not-Done));
+      goes = leads_on c.args.world.now c.end_collect.new.self (then_leads c.args.world.now c.begin_call.new.world c.end_collect.new.self c.begin_call.ensures.leads (end_leads (meaning g.S.Shelf g.V.Disk) c.begin_call.new.world c.end_collect.new.self _ c.end_collect.ensures.step))
+          (end_idle (meaning g.S.Shelf g.V.Disk) c.begin_call.new.world c.end_collect.new.self _ c.in-Some.told stopped c.end_collect.ensures.step);
     }
 
 pub returns-in-None-clause-buried : goal.returns-in-None-clause-buried

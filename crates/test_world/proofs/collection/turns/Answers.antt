@@ -23,7 +23,7 @@ loop-front-preserved g c =
       plays = λ asked proposed was. turn_plays _ c.loop-front.world c.turn.new.self 0 _ asked proposed (c.loop-front.invariant.plays asked proposed was) by;
       quiet = quiet_then c.loop-front.world c.turn.new.self 0 keeps c.loop-front.invariant.quiet;
       council = keeps.council c.loop-front.invariant.quiet ∙ c.loop-front.invariant.council;
-      leads = then_leads c.args.world.now c.loop-front.world c.turn.new.self c.loop-front.invariant.leads (others_lead (meaning {S = g.row.S.Denot} g.S.Shelf.contents g.S.Shelf.tells g.S.Shelf.may_leave g.S.Shelf.fault_count g.V.Disk.tells g.V.Disk.may_leave g.V.Disk.fault_count) c.loop-front.world c.turn.new.self (step.Turn 0 _) by keeps);
+      leads = then_leads c.args.world.now c.loop-front.world c.turn.new.self c.loop-front.invariant.leads (others_lead (meaning g.S.Shelf g.V.Disk) c.loop-front.world c.turn.new.self (step.Turn 0 _) by keeps);
     }
 
 pub returns-in_err-turn-clause-over : goal.returns-in_err-turn-clause-over
@@ -37,7 +37,7 @@ returns-in_err-turn-clause-council g c =
 pub returns-in_err-turn-clause-leads : goal.returns-in_err-turn-clause-leads
 returns-in_err-turn-clause-leads g c =
     let by = as_refusal _ c.loop-front.world c.turn.new.self 0 c.loop-front.invariant.quiet c.in_err-turn.ensures.err in
-    then_leads c.args.world.now c.loop-front.world c.turn.new.self c.loop-front.invariant.leads (others_lead (meaning {S = g.row.S.Denot} g.S.Shelf.contents g.S.Shelf.tells g.S.Shelf.may_leave g.S.Shelf.fault_count g.V.Disk.tells g.V.Disk.may_leave g.V.Disk.fault_count) c.loop-front.world c.turn.new.self (step.RefuseTurn 0) by (refuse_keeps _ c.loop-front.world c.turn.new.self 0 by))
+    then_leads c.args.world.now c.loop-front.world c.turn.new.self c.loop-front.invariant.leads (others_lead (meaning g.S.Shelf g.V.Disk) c.loop-front.world c.turn.new.self (step.RefuseTurn 0) by (refuse_keeps _ c.loop-front.world c.turn.new.self 0 by))
 
 pub returns-clause-through : goal.returns-clause-through
 returns-clause-through g c = none_waits (queue_at c.loop-front.world.flow 0).messages c.front.result (in_front c.loop-front.world 0 c.loop-front.invariant.quiet c.front.ensures) c.in_default.is

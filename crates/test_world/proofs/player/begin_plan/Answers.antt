@@ -12,7 +12,7 @@ take_up-requires-clause-ordered g c = subst (IsOrdered c.order.new.self) c.asked
 
 pub take_up-requires-clause-safe : goal.take_up-requires-clause-safe
 take_up-requires-clause-safe g c =
-    steps_are_safe (meaning {S = g.row.S.Denot} g.S.Shelf.contents g.S.Shelf.tells g.S.Shelf.may_leave g.S.Shelf.fault_count g.V.Disk.tells g.V.Disk.may_leave g.V.Disk.fault_count) c.args.world.now (step.Order c.asked-asked.result) c.order.new.self c.requires.safe
+    steps_are_safe (meaning g.S.Shelf g.V.Disk) c.args.world.now (step.Order c.asked-asked.result) c.order.new.self c.requires.safe
     c.in-Ok.ensures.ok
 
 pub returns-in-Ok-clause-idle : goal.returns-in-Ok-clause-idle
@@ -23,5 +23,5 @@ returns-in-Ok-clause-idle g c =
 
 pub returns-in-Ok-clause-safe : goal.returns-in-Ok-clause-safe
 returns-in-Ok-clause-safe g c =
-    steps_are_safe (meaning {S = g.row.S.Denot} g.S.Shelf.contents g.S.Shelf.tells g.S.Shelf.may_leave g.S.Shelf.fault_count g.V.Disk.tells g.V.Disk.may_leave g.V.Disk.fault_count) c.take_up.new.world (step.Tell c.in-Err-take_up.told) c.tell.new.self c.take_up.ensures.safe
+    steps_are_safe (meaning g.S.Shelf g.V.Disk) c.take_up.new.world (step.Tell c.in-Err-take_up.told) c.tell.new.self c.take_up.ensures.safe
     c.tell.ensures.step

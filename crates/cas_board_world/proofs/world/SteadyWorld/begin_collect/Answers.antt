@@ -5,7 +5,7 @@ use Rattle.cas_board_world.proofs.Steps.{steady_then}
 use Rattle.cas_board_world.proofs.world.SteadyWorld.begin_collect.Goals as goal
 
 pub invariant_of-self : goal.invariant_of-self
-invariant_of-self g c = steady_then (meaning g.S.Shelf.contents g.S.Shelf.tells g.S.Shelf.may_leave g.S.Shelf.fault_count g.V.Disk.tells g.V.Disk.may_leave g.V.Disk.fault_count) c.self.inside.world (step.BeginCollect c.args.key.now) c.begin_collect.new.self refl c.self.invariant c.begin_collect.ensures.step
+invariant_of-self g c = steady_then (meaning g.S.Shelf g.V.Disk) c.self.inside.world (step.BeginCollect c.args.key.now) c.begin_collect.new.self refl c.self.invariant c.begin_collect.ensures.step
 
 pub begin_collect-requires-clause-may : goal.begin_collect-requires-clause-may
 begin_collect-requires-clause-may g c = rw c.self.view_is c.requires.may

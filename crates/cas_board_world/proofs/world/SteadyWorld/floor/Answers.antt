@@ -5,4 +5,4 @@ use Rattle.cas_board_world.proofs.Steps.{steady_then}
 use Rattle.cas_board_world.proofs.world.SteadyWorld.floor.Goals as goal
 
 pub invariant_of-self : goal.invariant_of-self
-invariant_of-self g c = steady_then (meaning g.S.Shelf.contents g.S.Shelf.tells g.S.Shelf.may_leave g.S.Shelf.fault_count g.V.Disk.tells g.V.Disk.may_leave g.V.Disk.fault_count) c.self.inside.world step.MakeFloor c.floor.new.self refl c.self.invariant c.floor.ensures.step
+invariant_of-self g c = steady_then (meaning g.S.Shelf g.V.Disk) c.self.inside.world step.MakeFloor c.floor.new.self refl c.self.invariant c.floor.ensures.step

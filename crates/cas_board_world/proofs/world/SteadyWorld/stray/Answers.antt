@@ -5,4 +5,4 @@ use Rattle.cas_board_world.proofs.Forwards.{either_steady}
 use Rattle.cas_board_world.proofs.world.SteadyWorld.stray.Goals as goal
 
 pub invariant_of-self : goal.invariant_of-self
-invariant_of-self g c = either_steady (meaning g.S.Shelf.contents g.S.Shelf.tells g.S.Shelf.may_leave g.S.Shelf.fault_count g.V.Disk.tells g.V.Disk.may_leave g.V.Disk.fault_count) c.self.inside.world c.stray.result (step.Stray c.args.index) step.RefuseStray c.stray.new.self refl refl c.self.invariant c.stray.ensures.ok c.stray.ensures.err
+invariant_of-self g c = either_steady (meaning g.S.Shelf g.V.Disk) c.self.inside.world c.stray.result (step.Stray c.args.index) step.RefuseStray c.stray.new.self refl refl c.self.invariant c.stray.ensures.ok c.stray.ensures.err

@@ -4,12 +4,11 @@ use Rattle.cas_world.proofs.Calls.Told.{begin_cause}
 use Rattle.cas_record.specs.declared.answer.Answer.{Answer}
 use Rattle.cas_record.specs.declared.mark.Mark.{Mark}
 use Rattle.cas_model.specs.Calls.Step.{round_marks}
-use Rattle.cas_model.specs.View.{View, IsAt, meaning, new_caller, era_at, era_in, reserved_of as seen_reserved}
+use Rattle.cas_model.specs.View.{View, IsAt, meaning, new_caller, era_at, era_in, reserved_of as seen_reserved, disk_meaning}
 use Rattle.cas_record.specs.declared.answer.Answer.TheVariants as answer
 use Rattle.cas_quorum.specs.declared.era.Era.{Era}
 use Rattle.cas_model.specs.Council.{reserved_by}
 use Rattle.cas_world_calls.specs.Council.{council_view}
-use Rattle.cas_world_calls.specs.Proposing.{disks}
 use Rattle.cas_world.specs.Calls.Beginning.{OpensRound, refused, reserved_beside, settled_marks, BeginsOrNot, Heeds, HeedsLoss}
 use Rattle.cas_model.specs.Safe.{IsSafe}
 use Rattle.cas_model.proofs.Places.{some_is}
@@ -41,19 +40,19 @@ heeded g c =
     let at = found_caller c.self.inside.setup.proposers c.self.inside.council c.self.inside.acceptors.items c.self.inside.desks.items c.self.inside.callers.items c.self.inside.flow c.self.inside.record c.args.self.now c.from-place.result c.args.caller c.args.call c.args.key.now c.args.program.now c.from-place.ensures c.self.view_is c.requires.known c.self.invariant.safe c.requires.may c.index_mut.result.now c.index_mut.ensures.value in
     subst (λ (x : Caller). Heeds x.call (council_view c.self.inside.council) c.args.caller c.args.key.now c.in-Err.refusal (council_view c.heed.new.council)) (some_is (sym asking.1.at_caller ∙ at.1.at_caller)) c.heed.ensures.heeds
 
-not_begun : (g : Over) (c : goal.After-self-1 g) → Settles {A = ⊤} (meaning g.S.Shelf.contents g.S.Shelf.tells g.S.Shelf.may_leave g.S.Shelf.fault_count g.V.Disk.tells g.V.Disk.may_leave g.V.Disk.fault_count) (view_of c.self.inside.setup.proposers c.self.inside.council c.self.inside.acceptors.items c.self.inside.desks.items c.self.inside.callers.items c.self.inside.flow c.self.inside.record) c.args.caller c.args.call c.args.key.now c.args.program.now (view_of c.self.inside.setup.proposers c.heed.new.council c.self.inside.acceptors.items c.self.inside.desks.items (slice_set c.self.inside.callers.items c.from-place.result c.refuse.new.caller) c.self.inside.flow c.make_room.new.record) (slice_set c.self.inside.callers.items c.from-place.result c.refuse.new.caller) c.make_room.new.record.room (Err c.refuse.result)
+not_begun : (g : Over) (c : goal.After-self-1 g) → Settles {A = ⊤} (meaning g.S.Shelf g.V.Disk) (view_of c.self.inside.setup.proposers c.self.inside.council c.self.inside.acceptors.items c.self.inside.desks.items c.self.inside.callers.items c.self.inside.flow c.self.inside.record) c.args.caller c.args.call c.args.key.now c.args.program.now (view_of c.self.inside.setup.proposers c.heed.new.council c.self.inside.acceptors.items c.self.inside.desks.items (slice_set c.self.inside.callers.items c.from-place.result c.refuse.new.caller) c.self.inside.flow c.make_room.new.record) (slice_set c.self.inside.callers.items c.from-place.result c.refuse.new.caller) c.make_room.new.record.room (Err c.refuse.result)
 not_begun g c =
     let at = found_caller c.self.inside.setup.proposers c.self.inside.council c.self.inside.acceptors.items c.self.inside.desks.items c.self.inside.callers.items c.self.inside.flow c.self.inside.record c.args.self.now c.from-place.result c.args.caller c.args.call c.args.key.now c.args.program.now c.from-place.ensures c.self.view_is c.requires.known c.self.invariant.safe c.requires.may c.index_mut.result.now c.index_mut.ensures.value in
-    subst (λ (i : ℕ). Settles {A = ⊤} (meaning g.S.Shelf.contents g.S.Shelf.tells g.S.Shelf.may_leave g.S.Shelf.fault_count g.V.Disk.tells g.V.Disk.may_leave g.V.Disk.fault_count) (view_of c.self.inside.setup.proposers c.self.inside.council c.self.inside.acceptors.items c.self.inside.desks.items c.self.inside.callers.items c.self.inside.flow c.self.inside.record) c.args.caller c.args.call c.args.key.now c.args.program.now (view_of c.self.inside.setup.proposers c.heed.new.council c.self.inside.acceptors.items c.self.inside.desks.items (slice_set c.self.inside.callers.items i c.refuse.new.caller) c.self.inside.flow c.make_room.new.record) (slice_set c.self.inside.callers.items i c.refuse.new.caller) c.make_room.new.record.room (Err c.refuse.result)) (sym c.from-place.ensures)
-    (subst (λ (x : Caller). Settles {A = ⊤} (meaning g.S.Shelf.contents g.S.Shelf.tells g.S.Shelf.may_leave g.S.Shelf.fault_count g.V.Disk.tells g.V.Disk.may_leave g.V.Disk.fault_count) (view_of c.self.inside.setup.proposers c.self.inside.council c.self.inside.acceptors.items c.self.inside.desks.items c.self.inside.callers.items c.self.inside.flow c.self.inside.record) c.args.caller c.args.call c.args.key.now c.args.program.now (view_of c.self.inside.setup.proposers c.heed.new.council c.self.inside.acceptors.items c.self.inside.desks.items (slice_set c.self.inside.callers.items c.args.caller x) c.self.inside.flow c.make_room.new.record) (slice_set c.self.inside.callers.items c.args.caller x) c.make_room.new.record.room (Err c.refuse.result)) (sym c.refuse.ensures.caller)
-    (subst (λ (r : Answer). Settles {A = ⊤} (meaning g.S.Shelf.contents g.S.Shelf.tells g.S.Shelf.may_leave g.S.Shelf.fault_count g.V.Disk.tells g.V.Disk.may_leave g.V.Disk.fault_count) (view_of c.self.inside.setup.proposers c.self.inside.council c.self.inside.acceptors.items c.self.inside.desks.items c.self.inside.callers.items c.self.inside.flow c.self.inside.record) c.args.caller c.args.call c.args.key.now c.args.program.now (view_of c.self.inside.setup.proposers c.heed.new.council c.self.inside.acceptors.items c.self.inside.desks.items (slice_set c.self.inside.callers.items c.args.caller (refused c.index_mut.result.now c.in-Err.refusal)) c.self.inside.flow c.make_room.new.record) (slice_set c.self.inside.callers.items c.args.caller (refused c.index_mut.result.now c.in-Err.refusal)) c.make_room.new.record.room (Err r)) (sym c.refuse.ensures.answer)
-    (not_made ⊤ (meaning g.S.Shelf.contents g.S.Shelf.tells g.S.Shelf.may_leave g.S.Shelf.fault_count g.V.Disk.tells g.V.Disk.may_leave g.V.Disk.fault_count) c.self.inside.setup.proposers c.self.inside.council c.self.inside.acceptors.items c.self.inside.desks.items c.self.inside.callers.items c.self.inside.flow c.self.inside.record c.args.caller c.args.call c.args.key.now c.args.program.now at.0 c.index_mut.result.now c.self.invariant at.1.at_desk at.1.at_caller c.heed.new.council c.heed.ensures.eras c.in-Err.refusal c.make_room.new.record at.1.may c.in-Err.ensures.refused (heeded g c) (over_full g c) c.make_room.ensures.made c.make_room.ensures.grows)))
+    subst (λ (i : ℕ). Settles {A = ⊤} (meaning g.S.Shelf g.V.Disk) (view_of c.self.inside.setup.proposers c.self.inside.council c.self.inside.acceptors.items c.self.inside.desks.items c.self.inside.callers.items c.self.inside.flow c.self.inside.record) c.args.caller c.args.call c.args.key.now c.args.program.now (view_of c.self.inside.setup.proposers c.heed.new.council c.self.inside.acceptors.items c.self.inside.desks.items (slice_set c.self.inside.callers.items i c.refuse.new.caller) c.self.inside.flow c.make_room.new.record) (slice_set c.self.inside.callers.items i c.refuse.new.caller) c.make_room.new.record.room (Err c.refuse.result)) (sym c.from-place.ensures)
+    (subst (λ (x : Caller). Settles {A = ⊤} (meaning g.S.Shelf g.V.Disk) (view_of c.self.inside.setup.proposers c.self.inside.council c.self.inside.acceptors.items c.self.inside.desks.items c.self.inside.callers.items c.self.inside.flow c.self.inside.record) c.args.caller c.args.call c.args.key.now c.args.program.now (view_of c.self.inside.setup.proposers c.heed.new.council c.self.inside.acceptors.items c.self.inside.desks.items (slice_set c.self.inside.callers.items c.args.caller x) c.self.inside.flow c.make_room.new.record) (slice_set c.self.inside.callers.items c.args.caller x) c.make_room.new.record.room (Err c.refuse.result)) (sym c.refuse.ensures.caller)
+    (subst (λ (r : Answer). Settles {A = ⊤} (meaning g.S.Shelf g.V.Disk) (view_of c.self.inside.setup.proposers c.self.inside.council c.self.inside.acceptors.items c.self.inside.desks.items c.self.inside.callers.items c.self.inside.flow c.self.inside.record) c.args.caller c.args.call c.args.key.now c.args.program.now (view_of c.self.inside.setup.proposers c.heed.new.council c.self.inside.acceptors.items c.self.inside.desks.items (slice_set c.self.inside.callers.items c.args.caller (refused c.index_mut.result.now c.in-Err.refusal)) c.self.inside.flow c.make_room.new.record) (slice_set c.self.inside.callers.items c.args.caller (refused c.index_mut.result.now c.in-Err.refusal)) c.make_room.new.record.room (Err r)) (sym c.refuse.ensures.answer)
+    (not_made ⊤ (meaning g.S.Shelf g.V.Disk) c.self.inside.setup.proposers c.self.inside.council c.self.inside.acceptors.items c.self.inside.desks.items c.self.inside.callers.items c.self.inside.flow c.self.inside.record c.args.caller c.args.call c.args.key.now c.args.program.now at.0 c.index_mut.result.now c.self.invariant at.1.at_desk at.1.at_caller c.heed.new.council c.heed.ensures.eras c.in-Err.refusal c.make_room.new.record at.1.may c.in-Err.ensures.refused (heeded g c) (over_full g c) c.make_room.ensures.made c.make_room.ensures.grows)))
 
 pub invariant_of-self : goal.invariant_of-self
 invariant_of-self g c = (not_begun g c).world
 
 pub returns-in-Err-clause-step : goal.returns-in-Err-clause-step
-returns-in-Err-clause-step g c = subst (λ (v : View _ _). BeginsOrNot {A = ⊤} (meaning g.S.Shelf.contents g.S.Shelf.tells g.S.Shelf.may_leave g.S.Shelf.fault_count g.V.Disk.tells g.V.Disk.may_leave g.V.Disk.fault_count) v c.args.caller c.args.call c.args.key.now c.args.program.now (Err c.refuse.result) (view_of c.self.inside.setup.proposers c.heed.new.council c.self.inside.acceptors.items c.self.inside.desks.items (slice_set c.self.inside.callers.items c.from-place.result c.refuse.new.caller) c.self.inside.flow c.make_room.new.record)) c.self.view_is (not_begun g c).answers
+returns-in-Err-clause-step g c = subst (λ (v : View _ _). BeginsOrNot {A = ⊤} (meaning g.S.Shelf g.V.Disk) v c.args.caller c.args.call c.args.key.now c.args.program.now (Err c.refuse.result) (view_of c.self.inside.setup.proposers c.heed.new.council c.self.inside.acceptors.items c.self.inside.desks.items (slice_set c.self.inside.callers.items c.from-place.result c.refuse.new.caller) c.self.inside.flow c.make_room.new.record)) c.self.view_is (not_begun g c).answers
 
 pub returns-in-Err-clause-full : goal.returns-in-Err-clause-full
 returns-in-Err-clause-full g c =
@@ -95,25 +94,25 @@ heeded_loss g c =
     let at = found_caller c.self.inside.setup.proposers c.self.inside.council c.self.inside.acceptors.items c.self.inside.desks.items c.self.inside.callers.items c.self.inside.flow c.self.inside.record c.args.self.now c.from-place.result c.args.caller c.args.call c.args.key.now c.args.program.now c.from-place.ensures c.self.view_is c.requires.known c.self.invariant.safe c.requires.may c.index_mut-caller.result.now c.index_mut-caller.ensures.value in
     subst (λ (x : Caller). HeedsLoss x.call (council_view c.self.inside.council) c.args.caller c.args.key.now c.open_round-begun.result (council_view c.heed_loss.new.council)) (some_is (sym asking.1.at_caller ∙ at.1.at_caller)) c.heed_loss.ensures.heeds
 
-begun : (g : Over) (c : goal.After-self-3-1 g) → Settles {A = ⊤} (meaning g.S.Shelf.contents g.S.Shelf.tells g.S.Shelf.may_leave g.S.Shelf.fault_count g.V.Disk.tells g.V.Disk.may_leave g.V.Disk.fault_count) (view_of c.self.inside.setup.proposers c.self.inside.council c.self.inside.acceptors.items c.self.inside.desks.items c.self.inside.callers.items c.self.inside.flow c.self.inside.record) c.args.caller c.args.call c.args.key.now c.args.program.now (view_of c.self.inside.setup.proposers c.heed_loss.new.council c.self.inside.acceptors.items (slice_set c.self.inside.desks.items c.from-place.result c.open_round-begun.new.desk) (slice_set c.self.inside.callers.items c.from-place.result c.settle.new.caller) c.open_round-begun.new.flow c.settle.new.record) (slice_set c.self.inside.callers.items c.from-place.result c.settle.new.caller) c.settle.new.record.room c.settle.result
+begun : (g : Over) (c : goal.After-self-3-1 g) → Settles {A = ⊤} (meaning g.S.Shelf g.V.Disk) (view_of c.self.inside.setup.proposers c.self.inside.council c.self.inside.acceptors.items c.self.inside.desks.items c.self.inside.callers.items c.self.inside.flow c.self.inside.record) c.args.caller c.args.call c.args.key.now c.args.program.now (view_of c.self.inside.setup.proposers c.heed_loss.new.council c.self.inside.acceptors.items (slice_set c.self.inside.desks.items c.from-place.result c.open_round-begun.new.desk) (slice_set c.self.inside.callers.items c.from-place.result c.settle.new.caller) c.open_round-begun.new.flow c.settle.new.record) (slice_set c.self.inside.callers.items c.from-place.result c.settle.new.caller) c.settle.new.record.room c.settle.result
 begun g c =
     let at = found c.self.inside.setup.proposers c.self.inside.council c.self.inside.acceptors.items c.self.inside.desks.items c.self.inside.callers.items c.self.inside.flow c.self.inside.record c.args.self.now c.from-place.result c.args.caller c.args.call c.args.key.now c.args.program.now c.from-place.ensures c.self.view_is c.requires.known c.self.invariant.safe c.requires.may c.index_mut-desk.result.now c.index_mut-caller.result.now c.index_mut-desk.ensures.value c.index_mut-caller.ensures.value in
     let there : IsAt c.deref.result.now c.args.caller c.index_mut-caller.result.now = subst (λ (l : List Caller). IsAt l c.args.caller c.index_mut-caller.result.now) (sym c.deref.ensures.value) at.at_caller in
     let beside : reserved_beside c.deref.result.now c.args.caller ≡ reserved_beside c.self.inside.callers.items c.args.caller = ap (λ (l : List Caller). reserved_beside l c.args.caller) c.deref.ensures.value in
     let few = not_more (length c.self.inside.record.marks + reserved_beside c.deref.result.now c.args.caller + c.reserved.result + c.round_marks-marks.result) (λ many. absurd (cc (c.in-Ok.ensures.full.1 many))) in
-    subst (λ (i : ℕ). Settles {A = ⊤} (meaning g.S.Shelf.contents g.S.Shelf.tells g.S.Shelf.may_leave g.S.Shelf.fault_count g.V.Disk.tells g.V.Disk.may_leave g.V.Disk.fault_count) (view_of c.self.inside.setup.proposers c.self.inside.council c.self.inside.acceptors.items c.self.inside.desks.items c.self.inside.callers.items c.self.inside.flow c.self.inside.record) c.args.caller c.args.call c.args.key.now c.args.program.now (view_of c.self.inside.setup.proposers c.heed_loss.new.council c.self.inside.acceptors.items (slice_set c.self.inside.desks.items i c.open_round-begun.new.desk) (slice_set c.self.inside.callers.items i c.settle.new.caller) c.open_round-begun.new.flow c.settle.new.record) (slice_set c.self.inside.callers.items i c.settle.new.caller) c.settle.new.record.room c.settle.result) (sym c.from-place.ensures)
-    (subst (λ (x : Caller). Settles {A = ⊤} (meaning g.S.Shelf.contents g.S.Shelf.tells g.S.Shelf.may_leave g.S.Shelf.fault_count g.V.Disk.tells g.V.Disk.may_leave g.V.Disk.fault_count) (view_of c.self.inside.setup.proposers c.self.inside.council c.self.inside.acceptors.items c.self.inside.desks.items c.self.inside.callers.items c.self.inside.flow c.self.inside.record) c.args.caller c.args.call c.args.key.now c.args.program.now (view_of c.self.inside.setup.proposers c.heed_loss.new.council c.self.inside.acceptors.items (slice_set c.self.inside.desks.items c.args.caller c.open_round-begun.new.desk) (slice_set c.self.inside.callers.items c.args.caller x) c.open_round-begun.new.flow c.settle.new.record) (slice_set c.self.inside.callers.items c.args.caller x) c.settle.new.record.room c.settle.result) (sym c.settle.ensures.caller)
-    (settles ⊤ (meaning g.S.Shelf.contents g.S.Shelf.tells g.S.Shelf.may_leave g.S.Shelf.fault_count g.V.Disk.tells g.V.Disk.may_leave g.V.Disk.fault_count) c.self.inside.setup.proposers c.self.inside.council c.self.inside.acceptors.items c.self.inside.desks.items c.self.inside.callers.items c.self.inside.flow c.self.inside.record c.args.caller c.args.call c.args.key.now c.args.program.now c.index_mut-desk.result.now c.index_mut-caller.result.now c.self.invariant at.at_desk at.at_caller
+    subst (λ (i : ℕ). Settles {A = ⊤} (meaning g.S.Shelf g.V.Disk) (view_of c.self.inside.setup.proposers c.self.inside.council c.self.inside.acceptors.items c.self.inside.desks.items c.self.inside.callers.items c.self.inside.flow c.self.inside.record) c.args.caller c.args.call c.args.key.now c.args.program.now (view_of c.self.inside.setup.proposers c.heed_loss.new.council c.self.inside.acceptors.items (slice_set c.self.inside.desks.items i c.open_round-begun.new.desk) (slice_set c.self.inside.callers.items i c.settle.new.caller) c.open_round-begun.new.flow c.settle.new.record) (slice_set c.self.inside.callers.items i c.settle.new.caller) c.settle.new.record.room c.settle.result) (sym c.from-place.ensures)
+    (subst (λ (x : Caller). Settles {A = ⊤} (meaning g.S.Shelf g.V.Disk) (view_of c.self.inside.setup.proposers c.self.inside.council c.self.inside.acceptors.items c.self.inside.desks.items c.self.inside.callers.items c.self.inside.flow c.self.inside.record) c.args.caller c.args.call c.args.key.now c.args.program.now (view_of c.self.inside.setup.proposers c.heed_loss.new.council c.self.inside.acceptors.items (slice_set c.self.inside.desks.items c.args.caller c.open_round-begun.new.desk) (slice_set c.self.inside.callers.items c.args.caller x) c.open_round-begun.new.flow c.settle.new.record) (slice_set c.self.inside.callers.items c.args.caller x) c.settle.new.record.room c.settle.result) (sym c.settle.ensures.caller)
+    (settles ⊤ (meaning g.S.Shelf g.V.Disk) c.self.inside.setup.proposers c.self.inside.council c.self.inside.acceptors.items c.self.inside.desks.items c.self.inside.callers.items c.self.inside.flow c.self.inside.record c.args.caller c.args.call c.args.key.now c.args.program.now c.index_mut-desk.result.now c.index_mut-caller.result.now c.self.invariant at.at_desk at.at_caller
     c.round_marks-marks.result (c.round_marks-marks.ensures.value ∙ ap round_marks c.of.ensures) (omega (arith, few, beside)) c.in-Ok.opening (λ none. c.in-Ok.ensures.first c.index_mut-caller.result.now there none) (λ some. c.in-Ok.ensures.again c.index_mut-caller.result.now there some)
     at.may c.open_round-begun.new.desk c.open_round-begun.new.flow c.settle.new.record c.make_room.new.record.room (omega (arith, beside, c.in-Ok.ensures.room)) c.make_room.ensures.grows c.heed_loss.new.council c.heed_loss.ensures.eras
-    c.open_round-begun.result (subst (λ (e : Era). IfOk c.open_round-begun.result (OpensRound (disks g.V.Disk.tells g.V.Disk.may_leave g.V.Disk.fault_count) e c.args.key.now c.args.program.now (record { caller = c.args.caller; call = c.args.call }) c.index_mut-desk.result.now c.open_round-begun.new.desk c.self.inside.flow c.open_round-begun.new.flow)) c.of.ensures c.open_round-begun.ensures.opens) c.open_round-begun.ensures.refused c.open_round-begun.ensures.not_sent (heeded_loss g c)
+    c.open_round-begun.result (subst (λ (e : Era). IfOk c.open_round-begun.result (OpensRound (disk_meaning g.V.Disk) e c.args.key.now c.args.program.now (record { caller = c.args.caller; call = c.args.call }) c.index_mut-desk.result.now c.open_round-begun.new.desk c.self.inside.flow c.open_round-begun.new.flow)) c.of.ensures c.open_round-begun.ensures.opens) c.open_round-begun.ensures.refused c.open_round-begun.ensures.not_sent (heeded_loss g c)
     (c.settle.ensures.marks ∙ ap (λ (l : List Mark). l ++ settled_marks c.in-Ok.opening c.open_round-begun.result) c.make_room.ensures.made) c.settle.ensures.left c.settle.result c.settle.ensures.refused c.settle.ensures.begun_))
 
 pub invariant_of-self-2 : goal.invariant_of-self-2
 invariant_of-self-2 g c = (begun g c).world
 
 pub returns-clause-step : goal.returns-clause-step
-returns-clause-step g c = subst (λ (v : View _ _). BeginsOrNot {A = ⊤} (meaning g.S.Shelf.contents g.S.Shelf.tells g.S.Shelf.may_leave g.S.Shelf.fault_count g.V.Disk.tells g.V.Disk.may_leave g.V.Disk.fault_count) v c.args.caller c.args.call c.args.key.now c.args.program.now c.settle.result
+returns-clause-step g c = subst (λ (v : View _ _). BeginsOrNot {A = ⊤} (meaning g.S.Shelf g.V.Disk) v c.args.caller c.args.call c.args.key.now c.args.program.now c.settle.result
     (view_of c.self.inside.setup.proposers c.heed_loss.new.council c.self.inside.acceptors.items (slice_set c.self.inside.desks.items c.from-place.result c.open_round-begun.new.desk) (slice_set c.self.inside.callers.items c.from-place.result c.settle.new.caller) c.open_round-begun.new.flow c.settle.new.record)) c.self.view_is (begun g c).answers
 
 pub returns-clause-full : goal.returns-clause-full
@@ -125,7 +124,7 @@ returns-clause-full g c =
     let beside : reserved_beside c.deref.result.now c.args.caller ≡ reserved_beside c.self.inside.callers.items c.args.caller = ap (λ (l : List Caller). reserved_beside l c.args.caller) c.deref.ensures.value in
     let aside : reserved_by c.args.self.now.council ≡ reserved_by (council_view c.self.inside.council) = ap (λ (v : View _ _). reserved_by v.council) (sym c.self.view_is) in
     let needs : round_marks (era_at c.args.self.now c.args.caller) ≡ c.round_marks-marks.result = ap (λ (v : View _ _). round_marks (era_at v c.args.caller)) (sym c.self.view_is) ∙ sym (c.round_marks-marks.ensures.value ∙ ap round_marks c.of.ensures) in (
-      λ full. absurd (never_full (record { tells = g.V.Disk.tells; may_leave = g.V.Disk.may_leave; faults = g.V.Disk.fault_count }) c.args.key.now c.index_mut-desk.result.now c.open_round-begun.new.desk c.open_round-begun.result c.settle.result c.open_round-begun.ensures.refused c.settle.ensures.refused c.settle.ensures.begun_ full),
+      λ full. absurd (never_full (disk_meaning g.V.Disk) c.args.key.now c.index_mut-desk.result.now c.open_round-begun.new.desk c.open_round-begun.result c.settle.result c.open_round-begun.ensures.refused c.settle.ensures.refused c.settle.ensures.begun_ full),
       λ many. absurd (cc (c.in-Ok.ensures.full.1 (omega (arith, many, counted, others, beside, needs, aside, c.reserved.ensures)))),
     )
 

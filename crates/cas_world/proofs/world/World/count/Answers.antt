@@ -10,7 +10,7 @@ use Rattle.cas_vault.specs.Vault.{counter_of}
 use Rattle.cas_model.specs.Step as step
 use Rattle.cas_model.specs.Step.{StepCount}
 use Rattle.cas_model.specs.Calls.Desks.{EndsRound}
-use Rattle.cas_model.specs.View.{View, IsAt, meaning}
+use Rattle.cas_model.specs.View.{View, IsAt, meaning, disk_meaning}
 use Rattle.cas_model.proofs.Safety.Steps.{steps_are_safe}
 use Rattle.cas_model.proofs.ViewLaws.{done_kept}
 use Rattle.cas_model.specs.Council.{reserved_by}
@@ -46,16 +46,16 @@ found g c = counting c.self.inside.setup.proposers c.self.inside.council c.self.
 none_waits : (g : Over) (c : goal.After-self-in-None-1 g) → (queue_at c.self.inside.flow c.args.proposer).messages ≡ []
 none_waits g c = ap (λ (v : View _ _). (queue_at v.flow c.args.proposer).messages) c.self.view_is ∙ c.requires.counting.none_waits
 
-counts : (g : Over) (c : goal.After-self-in-None-1 g) → Counts (record { tells = g.V.Disk.tells; may_leave = g.V.Disk.may_leave; faults = g.V.Disk.fault_count }) c.index_mut-desk.result.now c.acknowledge.new.desk (found g c).may.round c.index_mut-caller.result.now c.acknowledge.new.caller
+counts : (g : Over) (c : goal.After-self-in-None-1 g) → Counts (disk_meaning g.V.Disk) c.index_mut-desk.result.now c.acknowledge.new.desk (found g c).may.round c.index_mut-caller.result.now c.acknowledge.new.caller
     (found g c).may.call (found g c).may.outcome c.self.inside.record c.acknowledge.new.record c.acknowledge.result
 counts g c = c.acknowledge.ensures (found g c).may.round (found g c).may.is_round (found g c).may.call (found g c).may.is_open (found g c).may.outcome (found g c).may.proposed
 
-acknowledges : (g : Over) (c : goal.After-self-in-None-1 g) → StepCount (meaning g.S.Shelf.contents g.S.Shelf.tells g.S.Shelf.may_leave g.S.Shelf.fault_count g.V.Disk.tells g.V.Disk.may_leave g.V.Disk.fault_count) (view_of c.self.inside.setup.proposers c.self.inside.council c.self.inside.acceptors.items c.self.inside.desks.items c.self.inside.callers.items c.self.inside.flow c.self.inside.record) c.args.proposer
+acknowledges : (g : Over) (c : goal.After-self-in-None-1 g) → StepCount (meaning g.S.Shelf g.V.Disk) (view_of c.self.inside.setup.proposers c.self.inside.council c.self.inside.acceptors.items c.self.inside.desks.items c.self.inside.callers.items c.self.inside.flow c.self.inside.record) c.args.proposer
     (view_of c.self.inside.setup.proposers c.self.inside.council c.self.inside.acceptors.items (slice_set c.self.inside.desks.items c.from-place.result c.acknowledge.new.desk) (slice_set c.self.inside.callers.items c.from-place.result c.acknowledge.new.caller) c.self.inside.flow c.acknowledge.new.record)
 acknowledges g c =
-    subst (λ (i : ℕ). StepCount (meaning g.S.Shelf.contents g.S.Shelf.tells g.S.Shelf.may_leave g.S.Shelf.fault_count g.V.Disk.tells g.V.Disk.may_leave g.V.Disk.fault_count) (view_of c.self.inside.setup.proposers c.self.inside.council c.self.inside.acceptors.items c.self.inside.desks.items c.self.inside.callers.items c.self.inside.flow c.self.inside.record) c.args.proposer
+    subst (λ (i : ℕ). StepCount (meaning g.S.Shelf g.V.Disk) (view_of c.self.inside.setup.proposers c.self.inside.council c.self.inside.acceptors.items c.self.inside.desks.items c.self.inside.callers.items c.self.inside.flow c.self.inside.record) c.args.proposer
     (view_of c.self.inside.setup.proposers c.self.inside.council c.self.inside.acceptors.items (slice_set c.self.inside.desks.items i c.acknowledge.new.desk) (slice_set c.self.inside.callers.items i c.acknowledge.new.caller) c.self.inside.flow c.acknowledge.new.record)) (sym c.from-place.ensures)
-    (counted (meaning g.S.Shelf.contents g.S.Shelf.tells g.S.Shelf.may_leave g.S.Shelf.fault_count g.V.Disk.tells g.V.Disk.may_leave g.V.Disk.fault_count) c.self.inside.setup.proposers c.self.inside.council c.self.inside.acceptors.items c.self.inside.desks.items c.self.inside.callers.items c.self.inside.flow c.self.inside.record c.acknowledge.new.record c.args.proposer c.index_mut-desk.result.now c.acknowledge.new.desk c.index_mut-caller.result.now c.acknowledge.new.caller c.acknowledge.result
+    (counted (meaning g.S.Shelf g.V.Disk) c.self.inside.setup.proposers c.self.inside.council c.self.inside.acceptors.items c.self.inside.desks.items c.self.inside.callers.items c.self.inside.flow c.self.inside.record c.acknowledge.new.record c.args.proposer c.index_mut-desk.result.now c.acknowledge.new.desk c.index_mut-caller.result.now c.acknowledge.new.caller c.acknowledge.result
     (none_waits g c) (found g c) ((c.verdict.ensures.quorum (found g c).may.round (found g c).may.is_round).0 (quorum_of c.verdict.result (sym c.in-None.ensures))) (counts g c))
 
 pub invariant_of-self : goal.invariant_of-self
@@ -84,19 +84,19 @@ found_short : (g : Over) (c : goal.After-self-in-Some-2-1 g) → IsCounting c.se
 found_short g c = counting c.self.inside.setup.proposers c.self.inside.council c.self.inside.acceptors.items c.self.inside.desks.items c.self.inside.callers.items c.self.inside.flow c.self.inside.record c.args.self.now c.from-place.result c.args.proposer c.index_mut-desk.result.now c.index_mut-caller.result.now
     c.from-place.ensures c.self.view_is c.requires.known c.self.invariant c.index_mut-desk.ensures.value c.index_mut-caller.ensures.value c.requires.counting
 
-ends : (g : Over) (c : goal.After-self-in-Some-2-1 g) → EndsRound (record { tells = g.V.Disk.tells; may_leave = g.V.Disk.may_leave; faults = g.V.Disk.fault_count }) c.index_mut-desk.result.now c.end.new.self (found_short g c).may.round None
+ends : (g : Over) (c : goal.After-self-in-Some-2-1 g) → EndsRound (disk_meaning g.V.Disk) c.index_mut-desk.result.now c.end.new.self (found_short g c).may.round None
 ends g c = record {
   desk = c.end.ensures.desk (found_short g c).may.round (found_short g c).may.is_round;
   counter = c.end.ensures.counter ∙ ap (λ (r : Option Round). counter_without r (counter_of c.index_mut-desk.result.now.vault)) (found_short g c).may.is_round;
   goes_on = end_goes_on _ c.index_mut-desk.result.now.vault c.end.new.self.vault c.end.ensures.kept c.end.ensures.disk c.end.ensures.still_past;
 }
 
-falls_short : (g : Over) (c : goal.After-self-in-Some-2-1 g) → StepCount (meaning g.S.Shelf.contents g.S.Shelf.tells g.S.Shelf.may_leave g.S.Shelf.fault_count g.V.Disk.tells g.V.Disk.may_leave g.V.Disk.fault_count) (view_of c.self.inside.setup.proposers c.self.inside.council c.self.inside.acceptors.items c.self.inside.desks.items c.self.inside.callers.items c.self.inside.flow c.self.inside.record) c.args.proposer
+falls_short : (g : Over) (c : goal.After-self-in-Some-2-1 g) → StepCount (meaning g.S.Shelf g.V.Disk) (view_of c.self.inside.setup.proposers c.self.inside.council c.self.inside.acceptors.items c.self.inside.desks.items c.self.inside.callers.items c.self.inside.flow c.self.inside.record) c.args.proposer
     (view_of c.self.inside.setup.proposers c.self.inside.council c.self.inside.acceptors.items (slice_set c.self.inside.desks.items c.from-place.result c.end.new.self) (slice_set c.self.inside.callers.items c.from-place.result c.end_round.new.self) c.self.inside.flow c.self.inside.record)
 falls_short g c =
-    subst (λ (i : ℕ). StepCount (meaning g.S.Shelf.contents g.S.Shelf.tells g.S.Shelf.may_leave g.S.Shelf.fault_count g.V.Disk.tells g.V.Disk.may_leave g.V.Disk.fault_count) (view_of c.self.inside.setup.proposers c.self.inside.council c.self.inside.acceptors.items c.self.inside.desks.items c.self.inside.callers.items c.self.inside.flow c.self.inside.record) c.args.proposer
+    subst (λ (i : ℕ). StepCount (meaning g.S.Shelf g.V.Disk) (view_of c.self.inside.setup.proposers c.self.inside.council c.self.inside.acceptors.items c.self.inside.desks.items c.self.inside.callers.items c.self.inside.flow c.self.inside.record) c.args.proposer
     (view_of c.self.inside.setup.proposers c.self.inside.council c.self.inside.acceptors.items (slice_set c.self.inside.desks.items i c.end.new.self) (slice_set c.self.inside.callers.items i c.end_round.new.self) c.self.inside.flow c.self.inside.record)) (sym c.from-place.ensures)
-    (fell_short (meaning g.S.Shelf.contents g.S.Shelf.tells g.S.Shelf.may_leave g.S.Shelf.fault_count g.V.Disk.tells g.V.Disk.may_leave g.V.Disk.fault_count) c.self.inside.setup.proposers c.self.inside.council c.self.inside.acceptors.items c.self.inside.desks.items c.self.inside.callers.items c.self.inside.flow c.self.inside.record c.args.proposer c.index_mut-desk.result.now c.end.new.self c.index_mut-caller.result.now c.end_round.new.self c.verdict.result c.in-Some.why
+    (fell_short (meaning g.S.Shelf g.V.Disk) c.self.inside.setup.proposers c.self.inside.council c.self.inside.acceptors.items c.self.inside.desks.items c.self.inside.callers.items c.self.inside.flow c.self.inside.record c.args.proposer c.index_mut-desk.result.now c.end.new.self c.index_mut-caller.result.now c.end_round.new.self c.verdict.result c.in-Some.why
     (ap (λ (v : View _ _). (queue_at v.flow c.args.proposer).messages) c.self.view_is ∙ c.requires.counting.none_waits) (found_short g c)
     (c.verdict.ensures.verdict (found_short g c).may.round (found_short g c).may.is_round) (sym c.in-Some.ensures) (ends g c) c.end_round.ensures)
 
@@ -125,15 +125,15 @@ pub returns-in-Some-clause-kept : goal.returns-in-Some-clause-kept
 returns-in-Some-clause-kept g c shelves vaults a stands above = done_kept _ shelves _ a (remembered_then _ (step.Count c.args.proposer) (falls_short g c) c.self.invariant.remembered shelves vaults) stands above
 
 pub returns-in-None-clause-cause : goal.returns-in-None-clause-cause
-returns-in-None-clause-cause g c = count_cause (meaning g.S.Shelf.contents g.S.Shelf.tells g.S.Shelf.may_leave g.S.Shelf.fault_count g.V.Disk.tells g.V.Disk.may_leave g.V.Disk.fault_count) c.args.self.now _ c.args.proposer c.acknowledge.result (returns-in-None-clause-step g c) (returns-in-None-clause-told g c)
+returns-in-None-clause-cause g c = count_cause (meaning g.S.Shelf g.V.Disk) c.args.self.now _ c.args.proposer c.acknowledge.result (returns-in-None-clause-step g c) (returns-in-None-clause-told g c)
 
 pub returns-in-None-clause-above : goal.returns-in-None-clause-above
-returns-in-None-clause-above g c shelves vaults = count_above (meaning g.S.Shelf.contents g.S.Shelf.tells g.S.Shelf.may_leave g.S.Shelf.fault_count g.V.Disk.tells g.V.Disk.may_leave g.V.Disk.fault_count) c.args.self.now _ c.args.proposer c.acknowledge.result (returns-in-None-clause-step g c) (returns-in-None-clause-told g c) shelves vaults
-    (subst (λ (v : View _ _). IsRemembered (meaning g.S.Shelf.contents g.S.Shelf.tells g.S.Shelf.may_leave g.S.Shelf.fault_count g.V.Disk.tells g.V.Disk.may_leave g.V.Disk.fault_count) v) c.self.view_is (c.self.invariant.remembered shelves vaults))
+returns-in-None-clause-above g c shelves vaults = count_above (meaning g.S.Shelf g.V.Disk) c.args.self.now _ c.args.proposer c.acknowledge.result (returns-in-None-clause-step g c) (returns-in-None-clause-told g c) shelves vaults
+    (subst (λ (v : View _ _). IsRemembered (meaning g.S.Shelf g.V.Disk) v) c.self.view_is (c.self.invariant.remembered shelves vaults))
 
 pub returns-in-Some-clause-cause : goal.returns-in-Some-clause-cause
-returns-in-Some-clause-cause g c = count_cause (meaning g.S.Shelf.contents g.S.Shelf.tells g.S.Shelf.may_leave g.S.Shelf.fault_count g.V.Disk.tells g.V.Disk.may_leave g.V.Disk.fault_count) c.args.self.now _ c.args.proposer (answer.Unsettled c.in-Some.why) (returns-in-Some-clause-step g c) (returns-in-Some-clause-told g c)
+returns-in-Some-clause-cause g c = count_cause (meaning g.S.Shelf g.V.Disk) c.args.self.now _ c.args.proposer (answer.Unsettled c.in-Some.why) (returns-in-Some-clause-step g c) (returns-in-Some-clause-told g c)
 
 pub returns-in-Some-clause-above : goal.returns-in-Some-clause-above
-returns-in-Some-clause-above g c shelves vaults = count_above (meaning g.S.Shelf.contents g.S.Shelf.tells g.S.Shelf.may_leave g.S.Shelf.fault_count g.V.Disk.tells g.V.Disk.may_leave g.V.Disk.fault_count) c.args.self.now _ c.args.proposer (answer.Unsettled c.in-Some.why) (returns-in-Some-clause-step g c) (returns-in-Some-clause-told g c) shelves vaults
-    (subst (λ (v : View _ _). IsRemembered (meaning g.S.Shelf.contents g.S.Shelf.tells g.S.Shelf.may_leave g.S.Shelf.fault_count g.V.Disk.tells g.V.Disk.may_leave g.V.Disk.fault_count) v) c.self.view_is (c.self.invariant.remembered shelves vaults))
+returns-in-Some-clause-above g c shelves vaults = count_above (meaning g.S.Shelf g.V.Disk) c.args.self.now _ c.args.proposer (answer.Unsettled c.in-Some.why) (returns-in-Some-clause-step g c) (returns-in-Some-clause-told g c) shelves vaults
+    (subst (λ (v : View _ _). IsRemembered (meaning g.S.Shelf g.V.Disk) v) c.self.view_is (c.self.invariant.remembered shelves vaults))

@@ -8,7 +8,7 @@ use Rattle.cas_world.proofs.Parts.{at_place, same_but, seen_from, remembered_the
 use Rattle.cas_world.proofs.world.World.crash_acceptor.Given.{Over}
 use Rattle.cas_world.proofs.world.World.crash_acceptor.Goals as goal
 
-crashes : (g : Over) (c : goal.After-self-1 g) → StepCrashAcceptor (meaning g.S.Shelf.contents g.S.Shelf.tells g.S.Shelf.may_leave g.S.Shelf.fault_count g.V.Disk.tells g.V.Disk.may_leave g.V.Disk.fault_count)
+crashes : (g : Over) (c : goal.After-self-1 g) → StepCrashAcceptor (meaning g.S.Shelf g.V.Disk)
     (view_of c.self.inside.setup.proposers c.self.inside.council c.self.inside.acceptors.items c.self.inside.desks.items c.self.inside.callers.items c.self.inside.flow c.self.inside.record) c.args.id
     (view_of c.self.inside.setup.proposers c.self.inside.council (slice_set c.self.inside.acceptors.items c.from.result c.crash.new.self) c.self.inside.desks.items c.self.inside.callers.items c.self.inside.flow c.self.inside.record)
 crashes g c =

@@ -31,17 +31,17 @@ none_open g c =
     (omega (arith, c.self.invariant.safe.sound.desks, c.requires, ap (λ (v : View _ _). v.last_proposer) c.self.view_is)) c.index.ensures in
     ap (λ (d : DeskView _). d.round) (at_one c.self.inside.desks.items c.args.proposer (at_desk g c) at_index) ∙ not_lent (λ one. one.now) c.round.result c.index.result.now.round c.round.ensures (sym c.if-closes.ensures)
 
-crashes : (g : Over) (c : goal.Else-closes g) → Crashes (meaning {S = g.row.S.Denot} g.S.Shelf.contents g.S.Shelf.tells g.S.Shelf.may_leave g.S.Shelf.fault_count g.V.Disk.tells g.V.Disk.may_leave g.V.Disk.fault_count).disks c.index_mut.result.now c.crash.new.self
+crashes : (g : Over) (c : goal.Else-closes g) → Crashes (meaning g.S.Shelf g.V.Disk).disks c.index_mut.result.now c.crash.new.self
 crashes g c = record {
   crashed = c.crash.ensures.crashed;
   goes_on = crash_goes_on _ c.index_mut.result.now.vault c.crash.new.self.vault (g.V.Disk.seen (disk_of c.crash.new.self.vault)) c.crash.ensures.vault.kept c.crash.ensures.image c.crash.ensures.settled c.crash.ensures.still_past c.crash.ensures.never_falls;
 }
 
-idles : (g : Over) (c : goal.Else-closes g) → CrashesDesk (meaning g.S.Shelf.contents g.S.Shelf.tells g.S.Shelf.may_leave g.S.Shelf.fault_count g.V.Disk.tells g.V.Disk.may_leave g.V.Disk.fault_count)
+idles : (g : Over) (c : goal.Else-closes g) → CrashesDesk (meaning g.S.Shelf g.V.Disk)
     (view_of c.self.inside.setup.proposers c.self.inside.council c.self.inside.acceptors.items c.self.inside.desks.items c.self.inside.callers.items c.self.inside.flow c.self.inside.record) c.args.proposer
     (view_of c.self.inside.setup.proposers c.self.inside.council c.self.inside.acceptors.items (slice_set c.self.inside.desks.items c.from-place.result c.crash.new.self) c.self.inside.callers.items c.abandon.new.self c.self.inside.record)
 idles g c =
-    let m = meaning g.S.Shelf.contents g.S.Shelf.tells g.S.Shelf.may_leave g.S.Shelf.fault_count g.V.Disk.tells g.V.Disk.may_leave g.V.Disk.fault_count in
+    let m = meaning g.S.Shelf g.V.Disk in
     let old = view_of c.self.inside.setup.proposers c.self.inside.council c.self.inside.acceptors.items c.self.inside.desks.items c.self.inside.callers.items c.self.inside.flow c.self.inside.record in
     subst (λ (f : FlowView). CrashesDesk m old c.args.proposer
     (view_of c.self.inside.setup.proposers c.self.inside.council c.self.inside.acceptors.items (slice_set c.self.inside.desks.items c.from-place.result c.crash.new.self) c.self.inside.callers.items f c.self.inside.record)) (sym c.abandon.ensures)
@@ -69,11 +69,11 @@ new_caller g c =
     closed_is c.index_mut-then-closes.result.now c.index-then-closes.result.now c.close_round.new.self (found g c).call c.crash_answer.result c.has_proposed-proposed.result (found g c).is_open
     (at_one c.self.inside.callers.items c.args.proposer at_read (found g c).at_caller) c.has_proposed-proposed.ensures c.crash_answer.ensures c.close_round.ensures
 
-closes : (g : Over) (c : goal.After-self-then-closes-1 g) → CrashesDesk (meaning g.S.Shelf.contents g.S.Shelf.tells g.S.Shelf.may_leave g.S.Shelf.fault_count g.V.Disk.tells g.V.Disk.may_leave g.V.Disk.fault_count)
+closes : (g : Over) (c : goal.After-self-then-closes-1 g) → CrashesDesk (meaning g.S.Shelf g.V.Disk)
     (view_of c.self.inside.setup.proposers c.self.inside.council c.self.inside.acceptors.items c.self.inside.desks.items c.self.inside.callers.items c.self.inside.flow c.self.inside.record) c.args.proposer
     (view_of c.self.inside.setup.proposers c.self.inside.council c.self.inside.acceptors.items (slice_set c.self.inside.desks.items c.from-place.result c.crash.new.self) (slice_set c.self.inside.callers.items c.from-place.result c.close_round.new.self) c.abandon.new.self c.self.inside.record)
 closes g c =
-    let m = meaning g.S.Shelf.contents g.S.Shelf.tells g.S.Shelf.may_leave g.S.Shelf.fault_count g.V.Disk.tells g.V.Disk.may_leave g.V.Disk.fault_count in
+    let m = meaning g.S.Shelf g.V.Disk in
     let old = view_of c.self.inside.setup.proposers c.self.inside.council c.self.inside.acceptors.items c.self.inside.desks.items c.self.inside.callers.items c.self.inside.flow c.self.inside.record in
     subst (λ (f : FlowView). CrashesDesk m old c.args.proposer
     (view_of c.self.inside.setup.proposers c.self.inside.council c.self.inside.acceptors.items (slice_set c.self.inside.desks.items c.from-place.result c.crash.new.self) (slice_set c.self.inside.callers.items c.from-place.result c.close_round.new.self) f c.self.inside.record)) (sym c.abandon.ensures)
@@ -90,8 +90,8 @@ closes g c =
 
 pub invariant_of-self : goal.invariant_of-self
 invariant_of-self g c = record {
-  safe = crashed_desk_safe (meaning g.S.Shelf.contents g.S.Shelf.tells g.S.Shelf.may_leave g.S.Shelf.fault_count g.V.Disk.tells g.V.Disk.may_leave g.V.Disk.fault_count) _ c.args.proposer _ c.self.invariant.safe (closes g c);
-  remembered = λ shelves disks. crashed_desk (meaning g.S.Shelf.contents g.S.Shelf.tells g.S.Shelf.may_leave g.S.Shelf.fault_count g.V.Disk.tells g.V.Disk.may_leave g.V.Disk.fault_count) _ c.args.proposer _ disks (c.self.invariant.remembered shelves disks) (closes g c);
+  safe = crashed_desk_safe (meaning g.S.Shelf g.V.Disk) _ c.args.proposer _ c.self.invariant.safe (closes g c);
+  remembered = λ shelves disks. crashed_desk (meaning g.S.Shelf g.V.Disk) _ c.args.proposer _ disks (c.self.invariant.remembered shelves disks) (closes g c);
   room = omega (
     arith,
     c.self.invariant.room,
@@ -106,14 +106,14 @@ invariant_of-self g c = record {
 
 pub invariant_of-self-else-closes : goal.invariant_of-self-else-closes
 invariant_of-self-else-closes g c = record {
-  safe = crashed_desk_safe (meaning g.S.Shelf.contents g.S.Shelf.tells g.S.Shelf.may_leave g.S.Shelf.fault_count g.V.Disk.tells g.V.Disk.may_leave g.V.Disk.fault_count) _ c.args.proposer _ c.self.invariant.safe (idles g c);
-  remembered = λ shelves disks. crashed_desk (meaning g.S.Shelf.contents g.S.Shelf.tells g.S.Shelf.may_leave g.S.Shelf.fault_count g.V.Disk.tells g.V.Disk.may_leave g.V.Disk.fault_count) _ c.args.proposer _ disks (c.self.invariant.remembered shelves disks) (idles g c);
+  safe = crashed_desk_safe (meaning g.S.Shelf g.V.Disk) _ c.args.proposer _ c.self.invariant.safe (idles g c);
+  remembered = λ shelves disks. crashed_desk (meaning g.S.Shelf g.V.Disk) _ c.args.proposer _ disks (c.self.invariant.remembered shelves disks) (idles g c);
   room = c.self.invariant.room;
   copies = copies_closed c.self.inside.desks.items c.self.inside.callers.items c.from-place.result c.crash.new.self (ap (λ (d : DeskView _). d.round) c.crash.ensures.crashed) c.self.invariant.copies;
 }
 
 pub returns-then-closes : goal.returns-then-closes
-returns-then-closes g c = crash_seen (meaning g.S.Shelf.contents g.S.Shelf.tells g.S.Shelf.may_leave g.S.Shelf.fault_count g.V.Disk.tells g.V.Disk.may_leave g.V.Disk.fault_count) c.args.proposer c.self.view_is (closes g c)
+returns-then-closes g c = crash_seen (meaning g.S.Shelf g.V.Disk) c.args.proposer c.self.view_is (closes g c)
 
 pub returns-else-closes : goal.returns-else-closes
-returns-else-closes g c = crash_seen (meaning g.S.Shelf.contents g.S.Shelf.tells g.S.Shelf.may_leave g.S.Shelf.fault_count g.V.Disk.tells g.V.Disk.may_leave g.V.Disk.fault_count) c.args.proposer c.self.view_is (idles g c)
+returns-else-closes g c = crash_seen (meaning g.S.Shelf g.V.Disk) c.args.proposer c.self.view_is (idles g c)

@@ -6,7 +6,7 @@ use Rattle.cas_record.specs.declared.mark.Mark.TheVariants.{Ended}
 use Rattle.cas_model.specs.Step as step
 use Rattle.cas_model.specs.Step.{StepEnd}
 use Rattle.cas_model.specs.Calls.Desks.{EndsRound}
-use Rattle.cas_model.specs.View.{IsAt, meaning, reserved_of}
+use Rattle.cas_model.specs.View.{IsAt, meaning, reserved_of, disk_meaning}
 use Rattle.cas_model.proofs.Safety.Steps.{steps_are_safe}
 use Rattle.cas_model.specs.Council.{reserved_by}
 use Rattle.cas_world_calls.specs.Council.{council_view}
@@ -37,16 +37,16 @@ found g c = ending c.self.inside.setup.proposers c.self.inside.council c.self.in
     c.from-place.result c.args.caller c.args.call c.args.answer c.index_mut.result.now c.index_mut-2.result.now c.from-place.ensures c.self.view_is c.requires.known c.self.invariant.safe c.index_mut.ensures.value c.index_mut-2.ensures.value c.requires.told
 
 closed : (g : Over) (c : goal.After-drop-ended g) → ((c.index_mut.result.now.round ≡ None) × (c.close.new.desk ≡ c.index_mut.result.now))
-    ⊎ ((r : Round) × (c.index_mut.result.now.round ≡ Some r) × EndsRound (record { tells = g.V.Disk.tells; may_leave = g.V.Disk.may_leave; faults = g.V.Disk.fault_count }) c.index_mut.result.now c.close.new.desk r None)
-closed g c = closed_or (record { tells = g.V.Disk.tells; may_leave = g.V.Disk.may_leave; faults = g.V.Disk.fault_count }) c.index_mut.result.now c.close.new.desk c.index_mut.result.now.round refl c.close.ensures.idle c.close.ensures.ends
+    ⊎ ((r : Round) × (c.index_mut.result.now.round ≡ Some r) × EndsRound (disk_meaning g.V.Disk) c.index_mut.result.now c.close.new.desk r None)
+closed g c = closed_or (disk_meaning g.V.Disk) c.index_mut.result.now c.close.new.desk c.index_mut.result.now.round refl c.close.ensures.idle c.close.ensures.ends
 
 ended_is : (g : Over) (c : goal.After-drop-ended g) → c.end_call-ended.result ≡ record { key = (found g c).told.call.key; rounds = (found g c).told.call.rounds; told = c.args.answer }
 ended_is g c = ended_as c.index_mut-2.result.now (found g c).told.call c.args.answer c.end_call-ended.result (found g c).told.is_open (found g c).told.told c.end_call-ended.ensures.told
 
-ends_it : (g : Over) (c : goal.After-drop-ended g) → StepEnd (meaning g.S.Shelf.contents g.S.Shelf.tells g.S.Shelf.may_leave g.S.Shelf.fault_count g.V.Disk.tells g.V.Disk.may_leave g.V.Disk.fault_count) (view_of c.self.inside.setup.proposers c.self.inside.council c.self.inside.acceptors.items c.self.inside.desks.items c.self.inside.callers.items c.self.inside.flow c.self.inside.record) c.args.caller c.args.answer
+ends_it : (g : Over) (c : goal.After-drop-ended g) → StepEnd (meaning g.S.Shelf g.V.Disk) (view_of c.self.inside.setup.proposers c.self.inside.council c.self.inside.acceptors.items c.self.inside.desks.items c.self.inside.callers.items c.self.inside.flow c.self.inside.record) c.args.caller c.args.answer
     (view_of c.self.inside.setup.proposers c.end.new.self c.self.inside.acceptors.items (slice_set c.self.inside.desks.items c.from-place.result c.close.new.desk) (slice_set c.self.inside.callers.items c.from-place.result c.end_call-ended.new.self) c.abandon.new.self c.push.new.self)
 ends_it g c =
-    let m = meaning g.S.Shelf.contents g.S.Shelf.tells g.S.Shelf.may_leave g.S.Shelf.fault_count g.V.Disk.tells g.V.Disk.may_leave g.V.Disk.fault_count in
+    let m = meaning g.S.Shelf g.V.Disk in
     let old = view_of c.self.inside.setup.proposers c.self.inside.council c.self.inside.acceptors.items c.self.inside.desks.items c.self.inside.callers.items c.self.inside.flow c.self.inside.record in
     subst (λ (f : FlowView). StepEnd m old c.args.caller c.args.answer
     (view_of c.self.inside.setup.proposers c.end.new.self c.self.inside.acceptors.items (slice_set c.self.inside.desks.items c.from-place.result c.close.new.desk) (slice_set c.self.inside.callers.items c.from-place.result c.end_call-ended.new.self) f c.push.new.self)) (sym c.abandon.ensures)
@@ -69,7 +69,7 @@ invariant_of-self g c = record {
       (room_ended (reserved_by (council_view c.self.inside.council)) c.self.inside.callers.items c.from-place.result c.index_mut-2.result.now (found g c).told.call c.self.inside.record.room c.push.new.self.room
       (subst (λ (i : ℕ). IsAt c.self.inside.callers.items i c.index_mut-2.result.now) (sym c.from-place.ensures) (found g c).at_caller) (found g c).told.is_open (found g c).some c.push.ensures.room c.self.invariant.room));
   copies = copies_idle c.self.inside.desks.items c.self.inside.callers.items c.from-place.result c.close.new.desk c.end_call-ended.new.self
-      (none_after (record { tells = g.V.Disk.tells; may_leave = g.V.Disk.may_leave; faults = g.V.Disk.fault_count }) c.index_mut.result.now c.close.new.desk (closed g c)) c.self.invariant.copies;
+      (none_after (disk_meaning g.V.Disk) c.index_mut.result.now c.close.new.desk (closed g c)) c.self.invariant.copies;
 }
 
 pub returns-clause-step : goal.returns-clause-step

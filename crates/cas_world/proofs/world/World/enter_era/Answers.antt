@@ -46,7 +46,7 @@ pub returns-then-marks-reserved-ge-MOST_MARKS-clause-step : goal.returns-then-ma
 returns-then-marks-reserved-ge-MOST_MARKS-clause-step g c =
     let desk = (at_low c.self.inside.desks.items c.args.proposer (omega (arith, c.self.invariant.safe.sound.desks, entrant_known c.args.self.now c.args.proposer (subst (λ (v : View g.row.S.Denot g.row.V.Denot). IsSafe v) c.self.view_is c.self.invariant.safe) c.requires, ap (λ (v : View g.row.S.Denot g.row.V.Denot). v.last_proposer) c.self.view_is))) in
     let caller = (at_low (map caller_view c.self.inside.callers.items) c.args.proposer (omega (arith, c.self.invariant.safe.sound.callers, entrant_known c.args.self.now c.args.proposer (subst (λ (v : View g.row.S.Denot g.row.V.Denot). IsSafe v) c.self.view_is c.self.invariant.safe) c.requires, ap (λ (v : View g.row.S.Denot g.row.V.Denot). v.last_proposer) c.self.view_is))) in
-    enters_next (meaning g.S.Shelf.contents g.S.Shelf.tells g.S.Shelf.may_leave g.S.Shelf.fault_count g.V.Disk.tells g.V.Disk.may_leave g.V.Disk.fault_count) c.args.self.now c.refuse.new.self c.args.proposer desk.0 caller.0 c.requires (subst (λ (v : View g.row.S.Denot g.row.V.Denot). IsAt v.desks c.args.proposer desk.0) c.self.view_is desk.1) (subst (λ (v : View g.row.S.Denot g.row.V.Denot). IsAt v.callers c.args.proposer caller.0) c.self.view_is caller.1)
+    enters_next (meaning g.S.Shelf g.V.Disk) c.args.self.now c.refuse.new.self c.args.proposer desk.0 caller.0 c.requires (subst (λ (v : View g.row.S.Denot g.row.V.Denot). IsAt v.desks c.args.proposer desk.0) c.self.view_is desk.1) (subst (λ (v : View g.row.S.Denot g.row.V.Denot). IsAt v.callers c.args.proposer caller.0) c.self.view_is caller.1)
     (plans.is_full (omega (arith, c.if-marks-reserved-ge-MOST_MARKS.true, ap (λ (v : View g.row.S.Denot g.row.V.Denot). length v.marks + reserved_in_all v) c.self.view_is, c.self.invariant.safe.sound.room, reserved_fits c.self.inside.setup.proposers c.self.inside.council c.self.inside.acceptors.items c.self.inside.desks.items c.self.inside.callers.items c.self.inside.flow c.self.inside.record c.self.invariant.safe, c.reserved_in_all-reserved.ensures, ap (λ (l : List Mark). length l) c.marks.ensures, ap (sum_by reserved_of) c.deref.ensures.value, sum_seen c.self.inside.callers.items)) c.refuse.ensures.told)
 
 pub returns-then-marks-reserved-ge-MOST_MARKS-clause-err : goal.returns-then-marks-reserved-ge-MOST_MARKS-clause-err
@@ -55,7 +55,7 @@ returns-then-marks-reserved-ge-MOST_MARKS-clause-err g c = told_last c.args.self
 pub returns-then-is_down-clause-step : goal.returns-then-is_down-clause-step
 returns-then-is_down-clause-step g c =
     let caller = (at_low (map caller_view c.self.inside.callers.items) c.args.proposer (omega (arith, c.self.invariant.safe.sound.callers, entrant_known c.args.self.now c.args.proposer (subst (λ (v : View g.row.S.Denot g.row.V.Denot). IsSafe v) c.self.view_is c.self.invariant.safe) c.requires, ap (λ (v : View g.row.S.Denot g.row.V.Denot). v.last_proposer) c.self.view_is))) in
-    enters_next (meaning g.S.Shelf.contents g.S.Shelf.tells g.S.Shelf.may_leave g.S.Shelf.fault_count g.V.Disk.tells g.V.Disk.may_leave g.V.Disk.fault_count) c.args.self.now c.refuse-then-is_down.new.self c.args.proposer c.index.result.now caller.0 c.requires (subst (λ (v : View g.row.S.Denot g.row.V.Denot). IsAt v.desks c.args.proposer c.index.result.now) c.self.view_is (at_place c.self.inside.desks.items c.from-place.result c.args.proposer c.index.result.now c.from-place.ensures (omega (arith, c.self.invariant.safe.sound.desks, entrant_known c.args.self.now c.args.proposer (subst (λ (v : View g.row.S.Denot g.row.V.Denot). IsSafe v) c.self.view_is c.self.invariant.safe) c.requires, ap (λ (v : View g.row.S.Denot g.row.V.Denot). v.last_proposer) c.self.view_is)) c.index.ensures)) (subst (λ (v : View g.row.S.Denot g.row.V.Denot). IsAt v.callers c.args.proposer caller.0) c.self.view_is caller.1)
+    enters_next (meaning g.S.Shelf g.V.Disk) c.args.self.now c.refuse-then-is_down.new.self c.args.proposer c.index.result.now caller.0 c.requires (subst (λ (v : View g.row.S.Denot g.row.V.Denot). IsAt v.desks c.args.proposer c.index.result.now) c.self.view_is (at_place c.self.inside.desks.items c.from-place.result c.args.proposer c.index.result.now c.from-place.ensures (omega (arith, c.self.invariant.safe.sound.desks, entrant_known c.args.self.now c.args.proposer (subst (λ (v : View g.row.S.Denot g.row.V.Denot). IsSafe v) c.self.view_is c.self.invariant.safe) c.requires, ap (λ (v : View g.row.S.Denot g.row.V.Denot). v.last_proposer) c.self.view_is)) c.index.ensures)) (subst (λ (v : View g.row.S.Denot g.row.V.Denot). IsAt v.callers c.args.proposer caller.0) c.self.view_is caller.1)
     (plans.is_down (omega (arith, c.if-marks-reserved-ge-MOST_MARKS.false, ap (λ (v : View g.row.S.Denot g.row.V.Denot). length v.marks + reserved_in_all v) c.self.view_is, reserved_fits c.self.inside.setup.proposers c.self.inside.council c.self.inside.acceptors.items c.self.inside.desks.items c.self.inside.callers.items c.self.inside.flow c.self.inside.record c.self.invariant.safe, c.reserved_in_all-reserved.ensures, ap (λ (l : List Mark). length l) c.marks.ensures, ap (sum_by reserved_of) c.deref.ensures.value, sum_seen c.self.inside.callers.items)) (sym c.is_down.ensures ∙ c.if-is_down.true)
     (c.refuse-then-is_down.ensures.told ∙ ap (λ (n : ℕ). told_view c.args.self.now (op.ProposerDown n)) (sym c.requires.is_due)))
 
@@ -69,7 +69,7 @@ pub returns-then-is_err-clause-step : goal.returns-then-is_err-clause-step
 returns-then-is_err-clause-step g c =
     let caller = (at_low (map caller_view c.self.inside.callers.items) c.args.proposer (omega (arith, c.self.invariant.safe.sound.callers, entrant_known c.args.self.now c.args.proposer (subst (λ (v : View g.row.S.Denot g.row.V.Denot). IsSafe v) c.self.view_is c.self.invariant.safe) c.requires, ap (λ (v : View g.row.S.Denot g.row.V.Denot). v.last_proposer) c.self.view_is))) in
     let at : IsAt c.args.self.now.desks c.args.proposer c.index.result.now = (subst (λ (v : View g.row.S.Denot g.row.V.Denot). IsAt v.desks c.args.proposer c.index.result.now) c.self.view_is (at_place c.self.inside.desks.items c.from-place.result c.args.proposer c.index.result.now c.from-place.ensures (omega (arith, c.self.invariant.safe.sound.desks, entrant_known c.args.self.now c.args.proposer (subst (λ (v : View g.row.S.Denot g.row.V.Denot). IsSafe v) c.self.view_is c.self.invariant.safe) c.requires, ap (λ (v : View g.row.S.Denot g.row.V.Denot). v.last_proposer) c.self.view_is)) c.index.ensures)) in
-    enters_next (meaning g.S.Shelf.contents g.S.Shelf.tells g.S.Shelf.may_leave g.S.Shelf.fault_count g.V.Disk.tells g.V.Disk.may_leave g.V.Disk.fault_count) c.args.self.now c.refuse-then-is_err.new.self c.args.proposer c.index.result.now caller.0 c.requires at (subst (λ (v : View g.row.S.Denot g.row.V.Denot). IsAt v.callers c.args.proposer caller.0) c.self.view_is caller.1)
+    enters_next (meaning g.S.Shelf g.V.Disk) c.args.self.now c.refuse-then-is_err.new.self c.args.proposer c.index.result.now caller.0 c.requires at (subst (λ (v : View g.row.S.Denot g.row.V.Denot). IsAt v.callers c.args.proposer caller.0) c.self.view_is caller.1)
     (plans.no_memory c.index.result.now (omega (arith, c.if-marks-reserved-ge-MOST_MARKS.false, ap (λ (v : View g.row.S.Denot g.row.V.Denot). length v.marks + reserved_in_all v) c.self.view_is, reserved_fits c.self.inside.setup.proposers c.self.inside.council c.self.inside.acceptors.items c.self.inside.desks.items c.self.inside.callers.items c.self.inside.flow c.self.inside.record c.self.invariant.safe, c.reserved_in_all-reserved.ensures, ap (λ (l : List Mark). length l) c.marks.ensures, ap (sum_by reserved_of) c.deref.ensures.value, sum_seen c.self.inside.callers.items)) (sym c.is_down.ensures ∙ c.if-is_down.false)
     (record { shows = record { counter = refl; kept = refl }; goes_on = goes_on_same g.V.Disk.tells g.V.Disk.may_leave g.V.Disk.fault_count c.index.result.now.vault }) refl
     (c.refuse-then-is_err.ensures.told ∙ ap (told_view (view_of c.self.inside.setup.proposers c.self.inside.council c.self.inside.acceptors.items c.self.inside.desks.items c.self.inside.callers.items c.self.inside.flow c.reserve.new.self)) c.no_memory.ensures
@@ -108,13 +108,13 @@ fits g c = omega (arith, c.if-marks-reserved-ge-MOST_MARKS.false, reserved_fits 
 next_is : (g : Over) (c : After-mark_move g) → c.in-Some.next ≡ c.requires.next
 next_is g c = some_is (sym c.in-Some.is ∙ c.next_era.ensures ∙ ap (λ (v : View g.row.S.Denot g.row.V.Denot). next_era v.council.plan) c.self.view_is ∙ c.requires.is_next)
 
-step_at : (g : Over) (c : After-mark_move g) → StepEnterEra (meaning g.S.Shelf.contents g.S.Shelf.tells g.S.Shelf.may_leave g.S.Shelf.fault_count g.V.Disk.tells g.V.Disk.may_leave g.V.Disk.fault_count) c.args.self.now c.args.proposer (view_of c.self.inside.setup.proposers c.mark_move.new.council c.self.inside.acceptors.items (slice_set c.self.inside.desks.items c.args.proposer c.move_on-moved.new.desk) (slice_set c.self.inside.callers.items c.args.proposer c.move_on-moved.new.caller) c.mark_move.new.flow c.mark_move.new.record)
+step_at : (g : Over) (c : After-mark_move g) → StepEnterEra (meaning g.S.Shelf g.V.Disk) c.args.self.now c.args.proposer (view_of c.self.inside.setup.proposers c.mark_move.new.council c.self.inside.acceptors.items (slice_set c.self.inside.desks.items c.args.proposer c.move_on-moved.new.desk) (slice_set c.self.inside.callers.items c.args.proposer c.move_on-moved.new.caller) c.mark_move.new.flow c.mark_move.new.record)
 step_at g c =
-    enters_next (meaning g.S.Shelf.contents g.S.Shelf.tells g.S.Shelf.may_leave g.S.Shelf.fault_count g.V.Disk.tells g.V.Disk.may_leave g.V.Disk.fault_count) c.args.self.now (view_of c.self.inside.setup.proposers c.mark_move.new.council c.self.inside.acceptors.items (slice_set c.self.inside.desks.items c.args.proposer c.move_on-moved.new.desk) (slice_set c.self.inside.callers.items c.args.proposer c.move_on-moved.new.caller) c.mark_move.new.flow c.mark_move.new.record) c.args.proposer c.index_mut-desk.result.now (caller_view c.index_mut-caller.result.now) c.requires
+    enters_next (meaning g.S.Shelf g.V.Disk) c.args.self.now (view_of c.self.inside.setup.proposers c.mark_move.new.council c.self.inside.acceptors.items (slice_set c.self.inside.desks.items c.args.proposer c.move_on-moved.new.desk) (slice_set c.self.inside.callers.items c.args.proposer c.move_on-moved.new.caller) c.mark_move.new.flow c.mark_move.new.record) c.args.proposer c.index_mut-desk.result.now (caller_view c.index_mut-caller.result.now) c.requires
     (subst (λ (v : View g.row.S.Denot g.row.V.Denot). IsAt v.desks c.args.proposer c.index_mut-desk.result.now) c.self.view_is (at_desk g c)) (subst (λ (v : View g.row.S.Denot g.row.V.Denot). IsAt v.callers c.args.proposer (caller_view c.index_mut-caller.result.now)) c.self.view_is (at_map caller_view c.self.inside.callers.items c.args.proposer c.index_mut-caller.result.now (at_caller g c)))
-    (subst (λ (v : View g.row.S.Denot g.row.V.Denot). EntersNext (meaning g.S.Shelf.contents g.S.Shelf.tells g.S.Shelf.may_leave g.S.Shelf.fault_count g.V.Disk.tells g.V.Disk.may_leave g.V.Disk.fault_count) v c.requires.plan c.requires.next c.index_mut-desk.result.now (view_of c.self.inside.setup.proposers c.mark_move.new.council c.self.inside.acceptors.items (slice_set c.self.inside.desks.items c.args.proposer c.move_on-moved.new.desk) (slice_set c.self.inside.callers.items c.args.proposer c.move_on-moved.new.caller) c.mark_move.new.flow c.mark_move.new.record)) c.self.view_is
-    (subst (λ (e : Era). EntersNext (meaning g.S.Shelf.contents g.S.Shelf.tells g.S.Shelf.may_leave g.S.Shelf.fault_count g.V.Disk.tells g.V.Disk.may_leave g.V.Disk.fault_count) (view_of c.self.inside.setup.proposers c.self.inside.council c.self.inside.acceptors.items c.self.inside.desks.items c.self.inside.callers.items c.self.inside.flow c.self.inside.record) c.requires.plan e c.index_mut-desk.result.now (view_of c.self.inside.setup.proposers c.mark_move.new.council c.self.inside.acceptors.items (slice_set c.self.inside.desks.items c.args.proposer c.move_on-moved.new.desk) (slice_set c.self.inside.callers.items c.args.proposer c.move_on-moved.new.caller) c.mark_move.new.flow c.mark_move.new.record)) (next_is g c)
-    (entered_so (meaning g.S.Shelf.contents g.S.Shelf.tells g.S.Shelf.may_leave g.S.Shelf.fault_count g.V.Disk.tells g.V.Disk.may_leave g.V.Disk.fault_count) c.self.inside.setup.proposers c.self.inside.council c.mark_move.new.council c.self.inside.acceptors.items c.self.inside.desks.items c.self.inside.callers.items c.self.inside.flow c.move_on-moved.new.flow c.mark_move.new.flow c.self.inside.record c.reserve.new.self c.mark_move.new.record c.args.proposer c.index_mut-desk.result.now c.move_on-moved.new.desk c.index_mut-caller.result.now c.move_on-moved.new.caller c.requires.plan c.in-Some.next (at_desk g c) (at_caller g c) c.requires.is_due (is_plan g c) (same_marks g c) (is_up g c) (fits g c) c.move_on-moved.result c.mark_move.result c.move_on-moved.ensures.ok c.move_on-moved.ensures.fault c.move_on-moved.ensures.no_memory c.mark_move.ensures.moves)))
+    (subst (λ (v : View g.row.S.Denot g.row.V.Denot). EntersNext (meaning g.S.Shelf g.V.Disk) v c.requires.plan c.requires.next c.index_mut-desk.result.now (view_of c.self.inside.setup.proposers c.mark_move.new.council c.self.inside.acceptors.items (slice_set c.self.inside.desks.items c.args.proposer c.move_on-moved.new.desk) (slice_set c.self.inside.callers.items c.args.proposer c.move_on-moved.new.caller) c.mark_move.new.flow c.mark_move.new.record)) c.self.view_is
+    (subst (λ (e : Era). EntersNext (meaning g.S.Shelf g.V.Disk) (view_of c.self.inside.setup.proposers c.self.inside.council c.self.inside.acceptors.items c.self.inside.desks.items c.self.inside.callers.items c.self.inside.flow c.self.inside.record) c.requires.plan e c.index_mut-desk.result.now (view_of c.self.inside.setup.proposers c.mark_move.new.council c.self.inside.acceptors.items (slice_set c.self.inside.desks.items c.args.proposer c.move_on-moved.new.desk) (slice_set c.self.inside.callers.items c.args.proposer c.move_on-moved.new.caller) c.mark_move.new.flow c.mark_move.new.record)) (next_is g c)
+    (entered_so (meaning g.S.Shelf g.V.Disk) c.self.inside.setup.proposers c.self.inside.council c.mark_move.new.council c.self.inside.acceptors.items c.self.inside.desks.items c.self.inside.callers.items c.self.inside.flow c.move_on-moved.new.flow c.mark_move.new.flow c.self.inside.record c.reserve.new.self c.mark_move.new.record c.args.proposer c.index_mut-desk.result.now c.move_on-moved.new.desk c.index_mut-caller.result.now c.move_on-moved.new.caller c.requires.plan c.in-Some.next (at_desk g c) (at_caller g c) c.requires.is_due (is_plan g c) (same_marks g c) (is_up g c) (fits g c) c.move_on-moved.result c.mark_move.result c.move_on-moved.ensures.ok c.move_on-moved.ensures.fault c.move_on-moved.ensures.no_memory c.mark_move.ensures.moves)))
 
 -- each mark that may be made has memory
 has_room : (g : Over) (c : After-mark_move g) → reserved_in_all (view_of c.self.inside.setup.proposers c.self.inside.council c.self.inside.acceptors.items c.self.inside.desks.items c.self.inside.callers.items c.self.inside.flow c.self.inside.record) < c.reserve.new.self.room
@@ -128,23 +128,23 @@ some_reserved g c call is =
 
 pub invariant_of-self-2 : goal.invariant_of-self-2
 invariant_of-self-2 g c =
-    subst (λ (i : ℕ). IsWorld (meaning g.S.Shelf.contents g.S.Shelf.tells g.S.Shelf.may_leave g.S.Shelf.fault_count g.V.Disk.tells g.V.Disk.may_leave g.V.Disk.fault_count) (view_of c.self.inside.setup.proposers c.mark_move.new.council c.self.inside.acceptors.items (slice_set c.self.inside.desks.items i c.move_on-moved.new.desk) (slice_set c.self.inside.callers.items i c.move_on-moved.new.caller) c.mark_move.new.flow c.mark_move.new.record) (slice_set c.self.inside.callers.items i c.move_on-moved.new.caller) c.mark_move.new.record.room) (sym c.from-place.ensures) (record {
-      safe = steps_are_safe (meaning g.S.Shelf.contents g.S.Shelf.tells g.S.Shelf.may_leave g.S.Shelf.fault_count g.V.Disk.tells g.V.Disk.may_leave g.V.Disk.fault_count) c.args.self.now (step.EnterEra c.args.proposer) (view_of c.self.inside.setup.proposers c.mark_move.new.council c.self.inside.acceptors.items (slice_set c.self.inside.desks.items c.args.proposer c.move_on-moved.new.desk) (slice_set c.self.inside.callers.items c.args.proposer c.move_on-moved.new.caller) c.mark_move.new.flow c.mark_move.new.record) (subst (λ (v : View g.row.S.Denot g.row.V.Denot). IsSafe v) c.self.view_is c.self.invariant.safe) (step_at g c);
-      room = entered_room (meaning g.S.Shelf.contents g.S.Shelf.tells g.S.Shelf.may_leave g.S.Shelf.fault_count g.V.Disk.tells g.V.Disk.may_leave g.V.Disk.fault_count) c.self.inside.setup.proposers c.self.inside.council c.mark_move.new.council c.self.inside.acceptors.items c.self.inside.desks.items c.self.inside.callers.items c.self.inside.flow c.move_on-moved.new.flow c.mark_move.new.flow c.self.inside.record c.reserve.new.self c.mark_move.new.record c.args.proposer c.index_mut-desk.result.now c.move_on-moved.new.desk c.index_mut-caller.result.now c.move_on-moved.new.caller c.requires.plan c.in-Some.next (at_desk g c) (at_caller g c) c.requires.is_due (is_plan g c) (same_marks g c) (is_up g c) (fits g c) c.move_on-moved.result c.mark_move.result c.move_on-moved.ensures.ok c.move_on-moved.ensures.fault c.move_on-moved.ensures.no_memory c.mark_move.ensures.moves (some_reserved g c) (has_room g c);
-      copies = entered_copies (meaning g.S.Shelf.contents g.S.Shelf.tells g.S.Shelf.may_leave g.S.Shelf.fault_count g.V.Disk.tells g.V.Disk.may_leave g.V.Disk.fault_count) c.self.inside.setup.proposers c.self.inside.council c.mark_move.new.council c.self.inside.acceptors.items c.self.inside.desks.items c.self.inside.callers.items c.self.inside.flow c.move_on-moved.new.flow c.mark_move.new.flow c.self.inside.record c.reserve.new.self c.mark_move.new.record c.args.proposer c.index_mut-desk.result.now c.move_on-moved.new.desk c.index_mut-caller.result.now c.move_on-moved.new.caller c.requires.plan c.in-Some.next (at_desk g c) (at_caller g c) c.requires.is_due (is_plan g c) (same_marks g c) (is_up g c) (fits g c) c.move_on-moved.result c.mark_move.result c.move_on-moved.ensures.ok c.move_on-moved.ensures.fault c.move_on-moved.ensures.no_memory c.mark_move.ensures.moves c.self.invariant.copies;
-      remembered = remembered_then (meaning g.S.Shelf.contents g.S.Shelf.tells g.S.Shelf.may_leave g.S.Shelf.fault_count g.V.Disk.tells g.V.Disk.may_leave g.V.Disk.fault_count) (step.EnterEra c.args.proposer) (step_at g c) (subst (λ (v : View g.row.S.Denot g.row.V.Denot). Remembers (meaning g.S.Shelf.contents g.S.Shelf.tells g.S.Shelf.may_leave g.S.Shelf.fault_count g.V.Disk.tells g.V.Disk.may_leave g.V.Disk.fault_count) v) c.self.view_is c.self.invariant.remembered);
+    subst (λ (i : ℕ). IsWorld (meaning g.S.Shelf g.V.Disk) (view_of c.self.inside.setup.proposers c.mark_move.new.council c.self.inside.acceptors.items (slice_set c.self.inside.desks.items i c.move_on-moved.new.desk) (slice_set c.self.inside.callers.items i c.move_on-moved.new.caller) c.mark_move.new.flow c.mark_move.new.record) (slice_set c.self.inside.callers.items i c.move_on-moved.new.caller) c.mark_move.new.record.room) (sym c.from-place.ensures) (record {
+      safe = steps_are_safe (meaning g.S.Shelf g.V.Disk) c.args.self.now (step.EnterEra c.args.proposer) (view_of c.self.inside.setup.proposers c.mark_move.new.council c.self.inside.acceptors.items (slice_set c.self.inside.desks.items c.args.proposer c.move_on-moved.new.desk) (slice_set c.self.inside.callers.items c.args.proposer c.move_on-moved.new.caller) c.mark_move.new.flow c.mark_move.new.record) (subst (λ (v : View g.row.S.Denot g.row.V.Denot). IsSafe v) c.self.view_is c.self.invariant.safe) (step_at g c);
+      room = entered_room (meaning g.S.Shelf g.V.Disk) c.self.inside.setup.proposers c.self.inside.council c.mark_move.new.council c.self.inside.acceptors.items c.self.inside.desks.items c.self.inside.callers.items c.self.inside.flow c.move_on-moved.new.flow c.mark_move.new.flow c.self.inside.record c.reserve.new.self c.mark_move.new.record c.args.proposer c.index_mut-desk.result.now c.move_on-moved.new.desk c.index_mut-caller.result.now c.move_on-moved.new.caller c.requires.plan c.in-Some.next (at_desk g c) (at_caller g c) c.requires.is_due (is_plan g c) (same_marks g c) (is_up g c) (fits g c) c.move_on-moved.result c.mark_move.result c.move_on-moved.ensures.ok c.move_on-moved.ensures.fault c.move_on-moved.ensures.no_memory c.mark_move.ensures.moves (some_reserved g c) (has_room g c);
+      copies = entered_copies (meaning g.S.Shelf g.V.Disk) c.self.inside.setup.proposers c.self.inside.council c.mark_move.new.council c.self.inside.acceptors.items c.self.inside.desks.items c.self.inside.callers.items c.self.inside.flow c.move_on-moved.new.flow c.mark_move.new.flow c.self.inside.record c.reserve.new.self c.mark_move.new.record c.args.proposer c.index_mut-desk.result.now c.move_on-moved.new.desk c.index_mut-caller.result.now c.move_on-moved.new.caller c.requires.plan c.in-Some.next (at_desk g c) (at_caller g c) c.requires.is_due (is_plan g c) (same_marks g c) (is_up g c) (fits g c) c.move_on-moved.result c.mark_move.result c.move_on-moved.ensures.ok c.move_on-moved.ensures.fault c.move_on-moved.ensures.no_memory c.mark_move.ensures.moves c.self.invariant.copies;
+      remembered = remembered_then (meaning g.S.Shelf g.V.Disk) (step.EnterEra c.args.proposer) (step_at g c) (subst (λ (v : View g.row.S.Denot g.row.V.Denot). Remembers (meaning g.S.Shelf g.V.Disk) v) c.self.view_is c.self.invariant.remembered);
     })
 
 pub returns-clause-step : goal.returns-clause-step
-returns-clause-step g c = subst (λ (i : ℕ). StepEnterEra (meaning g.S.Shelf.contents g.S.Shelf.tells g.S.Shelf.may_leave g.S.Shelf.fault_count g.V.Disk.tells g.V.Disk.may_leave g.V.Disk.fault_count) c.args.self.now c.args.proposer (view_of c.self.inside.setup.proposers c.mark_move.new.council c.self.inside.acceptors.items (slice_set c.self.inside.desks.items i c.move_on-moved.new.desk) (slice_set c.self.inside.callers.items i c.move_on-moved.new.caller) c.mark_move.new.flow c.mark_move.new.record)) (sym c.from-place.ensures) (step_at g c)
+returns-clause-step g c = subst (λ (i : ℕ). StepEnterEra (meaning g.S.Shelf g.V.Disk) c.args.self.now c.args.proposer (view_of c.self.inside.setup.proposers c.mark_move.new.council c.self.inside.acceptors.items (slice_set c.self.inside.desks.items i c.move_on-moved.new.desk) (slice_set c.self.inside.callers.items i c.move_on-moved.new.caller) c.mark_move.new.flow c.mark_move.new.record)) (sym c.from-place.ensures) (step_at g c)
 
 pub returns-clause-ok : goal.returns-clause-ok
 returns-clause-ok g c =
     subst (λ (i : ℕ). OnOk c.mark_move.result ((order : OrderView) → c.args.self.now.council.order ≡ Some order → IsUnderWay (view_of c.self.inside.setup.proposers c.mark_move.new.council c.self.inside.acceptors.items (slice_set c.self.inside.desks.items i c.move_on-moved.new.desk) (slice_set c.self.inside.callers.items i c.move_on-moved.new.caller) c.mark_move.new.flow c.mark_move.new.record) order.asked)) (sym c.from-place.ensures)
     (by_order c.mark_move.result c.requires.order (λ (order : OrderView). IsUnderWay (view_of c.self.inside.setup.proposers c.mark_move.new.council c.self.inside.acceptors.items (slice_set c.self.inside.desks.items c.args.proposer c.move_on-moved.new.desk) (slice_set c.self.inside.callers.items c.args.proposer c.move_on-moved.new.caller) c.mark_move.new.flow c.mark_move.new.record) order.asked) c.requires.is_order
-    (entered_ok (meaning g.S.Shelf.contents g.S.Shelf.tells g.S.Shelf.may_leave g.S.Shelf.fault_count g.V.Disk.tells g.V.Disk.may_leave g.V.Disk.fault_count) c.self.inside.setup.proposers c.self.inside.council c.mark_move.new.council c.self.inside.acceptors.items c.self.inside.desks.items c.self.inside.callers.items c.self.inside.flow c.move_on-moved.new.flow c.mark_move.new.flow c.self.inside.record c.reserve.new.self c.mark_move.new.record c.args.proposer c.index_mut-desk.result.now c.move_on-moved.new.desk c.index_mut-caller.result.now c.move_on-moved.new.caller c.requires.plan c.in-Some.next (at_desk g c) (at_caller g c) c.requires.is_due (is_plan g c) (same_marks g c) (is_up g c) (fits g c) c.move_on-moved.result c.mark_move.result c.requires.order c.mark_move.ensures.moves (ap (λ (v : View g.row.S.Denot g.row.V.Denot). v.council.order) c.self.view_is ∙ c.requires.is_order) c.requires.is_for))
+    (entered_ok (meaning g.S.Shelf g.V.Disk) c.self.inside.setup.proposers c.self.inside.council c.mark_move.new.council c.self.inside.acceptors.items c.self.inside.desks.items c.self.inside.callers.items c.self.inside.flow c.move_on-moved.new.flow c.mark_move.new.flow c.self.inside.record c.reserve.new.self c.mark_move.new.record c.args.proposer c.index_mut-desk.result.now c.move_on-moved.new.desk c.index_mut-caller.result.now c.move_on-moved.new.caller c.requires.plan c.in-Some.next (at_desk g c) (at_caller g c) c.requires.is_due (is_plan g c) (same_marks g c) (is_up g c) (fits g c) c.move_on-moved.result c.mark_move.result c.requires.order c.mark_move.ensures.moves (ap (λ (v : View g.row.S.Denot g.row.V.Denot). v.council.order) c.self.view_is ∙ c.requires.is_order) c.requires.is_for))
 
 pub returns-clause-err : goal.returns-clause-err
 returns-clause-err g c =
     subst (λ (i : ℕ). IfErr c.mark_move.result (WasToldOrder (view_of c.self.inside.setup.proposers c.mark_move.new.council c.self.inside.acceptors.items (slice_set c.self.inside.desks.items i c.move_on-moved.new.desk) (slice_set c.self.inside.callers.items i c.move_on-moved.new.caller) c.mark_move.new.flow c.mark_move.new.record))) (sym c.from-place.ensures)
-    (entered_err (meaning g.S.Shelf.contents g.S.Shelf.tells g.S.Shelf.may_leave g.S.Shelf.fault_count g.V.Disk.tells g.V.Disk.may_leave g.V.Disk.fault_count) c.self.inside.setup.proposers c.self.inside.council c.mark_move.new.council c.self.inside.acceptors.items c.self.inside.desks.items c.self.inside.callers.items c.self.inside.flow c.move_on-moved.new.flow c.mark_move.new.flow c.self.inside.record c.reserve.new.self c.mark_move.new.record c.args.proposer c.index_mut-desk.result.now c.move_on-moved.new.desk c.index_mut-caller.result.now c.move_on-moved.new.caller c.requires.plan c.in-Some.next (at_desk g c) (at_caller g c) c.requires.is_due (is_plan g c) (same_marks g c) (is_up g c) (fits g c) c.move_on-moved.result c.mark_move.result c.requires.order c.mark_move.ensures.moves (ap (λ (v : View g.row.S.Denot g.row.V.Denot). v.council.order) c.self.view_is ∙ c.requires.is_order))
+    (entered_err (meaning g.S.Shelf g.V.Disk) c.self.inside.setup.proposers c.self.inside.council c.mark_move.new.council c.self.inside.acceptors.items c.self.inside.desks.items c.self.inside.callers.items c.self.inside.flow c.move_on-moved.new.flow c.mark_move.new.flow c.self.inside.record c.reserve.new.self c.mark_move.new.record c.args.proposer c.index_mut-desk.result.now c.move_on-moved.new.desk c.index_mut-caller.result.now c.move_on-moved.new.caller c.requires.plan c.in-Some.next (at_desk g c) (at_caller g c) c.requires.is_due (is_plan g c) (same_marks g c) (is_up g c) (fits g c) c.move_on-moved.result c.mark_move.result c.requires.order c.mark_move.ensures.moves (ap (λ (v : View g.row.S.Denot g.row.V.Denot). v.council.order) c.self.view_is ∙ c.requires.is_order))

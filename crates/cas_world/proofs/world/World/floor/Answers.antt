@@ -47,7 +47,7 @@ step_so g c = makes_floor (view_of c.self.inside.setup.proposers c.self.inside.c
 pub invariant_of-self : goal.invariant_of-self
 invariant_of-self g c =
     council_world (view_of c.self.inside.setup.proposers c.self.inside.council c.self.inside.acceptors.items c.self.inside.desks.items c.self.inside.callers.items c.self.inside.flow c.self.inside.record) _ c.self.inside.callers.items c.self.inside.record.room c.push.new.self.room c.self.invariant refl
-    (steps_are_safe (meaning g.S.Shelf.contents g.S.Shelf.tells g.S.Shelf.may_leave g.S.Shelf.fault_count g.V.Disk.tells g.V.Disk.may_leave g.V.Disk.fault_count) _ step.MakeFloor _ c.self.invariant.safe (step_so g c)) (remembered_then (meaning g.S.Shelf.contents g.S.Shelf.tells g.S.Shelf.may_leave g.S.Shelf.fault_count g.V.Disk.tells g.V.Disk.may_leave g.V.Disk.fault_count) step.MakeFloor (step_so g c) c.self.invariant.remembered)
+    (steps_are_safe (meaning g.S.Shelf g.V.Disk) _ step.MakeFloor _ c.self.invariant.safe (step_so g c)) (remembered_then (meaning g.S.Shelf g.V.Disk) step.MakeFloor (step_so g c) c.self.invariant.remembered)
     (omega (
       arith,
       c.self.invariant.room,
@@ -60,10 +60,10 @@ invariant_of-self g c =
     ))
 
 pub returns-clause-step : goal.returns-clause-step
-returns-clause-step g c = seen_from (meaning g.S.Shelf.contents g.S.Shelf.tells g.S.Shelf.may_leave g.S.Shelf.fault_count g.V.Disk.tells g.V.Disk.may_leave g.V.Disk.fault_count) step.MakeFloor _ c.self.view_is (step_so g c)
+returns-clause-step g c = seen_from (meaning g.S.Shelf g.V.Disk) step.MakeFloor _ c.self.view_is (step_so g c)
 
 pub returns-clause-goes_on : goal.returns-clause-goes_on
 returns-clause-goes_on g c = subst (λ (v : (View g.row.S.Denot g.row.V.Denot)). GoesOnCollecting v (view_of c.self.inside.setup.proposers c.mark_floor-key.new.self c.self.inside.acceptors.items c.self.inside.desks.items c.self.inside.callers.items c.self.inside.flow c.push.new.self)) c.self.view_is (floor_goes_on (view_of c.self.inside.setup.proposers c.self.inside.council c.self.inside.acceptors.items c.self.inside.desks.items c.self.inside.callers.items c.self.inside.flow c.self.inside.record) (view_of c.self.inside.setup.proposers c.mark_floor-key.new.self c.self.inside.acceptors.items c.self.inside.desks.items c.self.inside.callers.items c.self.inside.flow c.push.new.self) (council_view c.mark_floor-key.new.self) (is_due g c) c.mark_floor-key.ensures.marked refl)
 
 pub returns-clause-passed : goal.returns-clause-passed
-returns-clause-passed g c shelves disks = floors_kept (meaning g.S.Shelf.contents g.S.Shelf.tells g.S.Shelf.may_leave g.S.Shelf.fault_count g.V.Disk.tells g.V.Disk.may_leave g.V.Disk.fault_count) (view_of c.self.inside.setup.proposers c.mark_floor-key.new.self c.self.inside.acceptors.items c.self.inside.desks.items c.self.inside.callers.items c.self.inside.flow c.push.new.self) shelves disks (steps_are_safe (meaning g.S.Shelf.contents g.S.Shelf.tells g.S.Shelf.may_leave g.S.Shelf.fault_count g.V.Disk.tells g.V.Disk.may_leave g.V.Disk.fault_count) _ step.MakeFloor _ c.self.invariant.safe (step_so g c)) (remembered_then (meaning g.S.Shelf.contents g.S.Shelf.tells g.S.Shelf.may_leave g.S.Shelf.fault_count g.V.Disk.tells g.V.Disk.may_leave g.V.Disk.fault_count) step.MakeFloor (step_so g c) c.self.invariant.remembered shelves disks)
+returns-clause-passed g c shelves disks = floors_kept (meaning g.S.Shelf g.V.Disk) (view_of c.self.inside.setup.proposers c.mark_floor-key.new.self c.self.inside.acceptors.items c.self.inside.desks.items c.self.inside.callers.items c.self.inside.flow c.push.new.self) shelves disks (steps_are_safe (meaning g.S.Shelf g.V.Disk) _ step.MakeFloor _ c.self.invariant.safe (step_so g c)) (remembered_then (meaning g.S.Shelf g.V.Disk) step.MakeFloor (step_so g c) c.self.invariant.remembered shelves disks)

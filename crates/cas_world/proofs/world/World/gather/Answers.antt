@@ -17,7 +17,7 @@ gather_round-requires g c = must_be_round c.args.self.now (sym (ap (λ (v : (Vie
 pub returns-then-is_none-clause-step : goal.returns-then-is_none-clause-step
 returns-then-is_none-clause-step g c =
     let none : c.args.self.now.council.exchange ≡ None = sym (ap (λ (v : (View g.row.S.Denot g.row.V.Denot)). v.council.exchange) c.self.view_is) ∙ ap (option_map exchange_view) (none_there c.self.inside.council.exchange c.if-is_none.ensures) in
-    subst (λ (o : Option ExchangeView). Step (meaning g.S.Shelf.contents g.S.Shelf.tells g.S.Shelf.may_leave g.S.Shelf.fault_count g.V.Disk.tells g.V.Disk.may_leave g.V.Disk.fault_count) c.args.self.now (gathering_by o) c.gather_round.new.self) (sym none) c.gather_round.ensures.step
+    subst (λ (o : Option ExchangeView). Step (meaning g.S.Shelf g.V.Disk) c.args.self.now (gathering_by o) c.gather_round.new.self) (sym none) c.gather_round.ensures.step
 
 pub gather_collection-requires : goal.gather_collection-requires
 gather_collection-requires g c =

@@ -41,11 +41,11 @@ step_so g c = record {
 pub invariant_of-self : goal.invariant_of-self
 invariant_of-self g c =
     council_world (view_of c.self.inside.setup.proposers c.self.inside.council c.self.inside.acceptors.items c.self.inside.desks.items c.self.inside.callers.items c.self.inside.flow c.self.inside.record) _ c.self.inside.callers.items c.self.inside.record.room c.self.inside.record.room c.self.invariant refl
-    (steps_are_safe (meaning g.S.Shelf.contents g.S.Shelf.tells g.S.Shelf.may_leave g.S.Shelf.fault_count g.V.Disk.tells g.V.Disk.may_leave g.V.Disk.fault_count) _ step.Gather _ c.self.invariant.safe (step_so g c)) (remembered_then (meaning g.S.Shelf.contents g.S.Shelf.tells g.S.Shelf.may_leave g.S.Shelf.fault_count g.V.Disk.tells g.V.Disk.may_leave g.V.Disk.fault_count) step.Gather (step_so g c) c.self.invariant.remembered)
+    (steps_are_safe (meaning g.S.Shelf g.V.Disk) _ step.Gather _ c.self.invariant.safe (step_so g c)) (remembered_then (meaning g.S.Shelf g.V.Disk) step.Gather (step_so g c) c.self.invariant.remembered)
     (omega (arith, c.self.invariant.room, gathered_reserves (era_in c.self.inside.council.eras.0 0) c.requires.may.exchange (council_view c.self.inside.council) (council_view c.gather.new.self) c.gather.result (exchange_is g c) (gathers g c)))
 
 pub returns-clause-step : goal.returns-clause-step
-returns-clause-step g c = seen_from (meaning g.S.Shelf.contents g.S.Shelf.tells g.S.Shelf.may_leave g.S.Shelf.fault_count g.V.Disk.tells g.V.Disk.may_leave g.V.Disk.fault_count) step.Gather _ c.self.view_is (step_so g c)
+returns-clause-step g c = seen_from (meaning g.S.Shelf g.V.Disk) step.Gather _ c.self.view_is (step_so g c)
 
 pub returns-clause-ok : goal.returns-clause-ok
 returns-clause-ok g c =

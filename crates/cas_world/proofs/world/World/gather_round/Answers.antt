@@ -21,11 +21,11 @@ did g c = subst (λ (v : (View g.row.S.Denot g.row.V.Denot)). Gathers (StepGathe
 pub invariant_of-self : goal.invariant_of-self
 invariant_of-self g c =
     council_world (view_of c.self.inside.setup.proposers c.self.inside.council c.self.inside.acceptors.items c.self.inside.desks.items c.self.inside.callers.items c.self.inside.flow c.self.inside.record) _ c.self.inside.callers.items c.self.inside.record.room c.self.inside.record.room c.self.invariant refl
-    (steps_are_safe (meaning g.S.Shelf.contents g.S.Shelf.tells g.S.Shelf.may_leave g.S.Shelf.fault_count g.V.Disk.tells g.V.Disk.may_leave g.V.Disk.fault_count) _ step.GatherRound _ c.self.invariant.safe (did g c).step_) (remembered_then (meaning g.S.Shelf.contents g.S.Shelf.tells g.S.Shelf.may_leave g.S.Shelf.fault_count g.V.Disk.tells g.V.Disk.may_leave g.V.Disk.fault_count) step.GatherRound (did g c).step_ c.self.invariant.remembered)
+    (steps_are_safe (meaning g.S.Shelf g.V.Disk) _ step.GatherRound _ c.self.invariant.safe (did g c).step_) (remembered_then (meaning g.S.Shelf g.V.Disk) step.GatherRound (did g c).step_ c.self.invariant.remembered)
     (omega (arith, c.self.invariant.room, (did g c).reserves))
 
 pub returns-clause-step : goal.returns-clause-step
-returns-clause-step g c = seen_from (meaning g.S.Shelf.contents g.S.Shelf.tells g.S.Shelf.may_leave g.S.Shelf.fault_count g.V.Disk.tells g.V.Disk.may_leave g.V.Disk.fault_count) step.GatherRound _ c.self.view_is (did g c).step_
+returns-clause-step g c = seen_from (meaning g.S.Shelf g.V.Disk) step.GatherRound _ c.self.view_is (did g c).step_
 
 pub returns-clause-ok : goal.returns-clause-ok
 returns-clause-ok g c = subst (λ (v : (View g.row.S.Denot g.row.V.Denot)). IfOk c.gather_round.result (λ found. HasGathered v found (view_of c.self.inside.setup.proposers c.gather_round.new.self c.self.inside.acceptors.items c.self.inside.desks.items c.self.inside.callers.items c.self.inside.flow c.self.inside.record))) c.self.view_is (did g c).ok

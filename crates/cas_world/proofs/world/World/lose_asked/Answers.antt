@@ -38,10 +38,10 @@ seen g c =
     let at = asking (view_of c.self.inside.setup.proposers c.self.inside.council c.self.inside.acceptors.items c.self.inside.desks.items c.self.inside.callers.items c.self.inside.flow c.self.inside.record) c.args.self.now c.self.invariant.safe c.self.view_is c.requires.«open» c.requires.waits in
     harmed_seen c.self.inside.setup.proposers c.self.inside.council c.harm.new.self c.self.inside.acceptors.items c.self.inside.acceptors.items c.self.inside.desks.items c.self.inside.callers.items c.self.inside.flow c.take.new.self c.self.inside.record c.harm.new.record at.exchange c.peer_of-member.result false at.is_open c.harm.ensures.eras c.harm.ensures.harmed c.harm.ensures.marks
 
-step_so : (g : Over) (c : After-harm g) → StepTurnExchange (meaning g.S.Shelf.contents g.S.Shelf.tells g.S.Shelf.may_leave g.S.Shelf.fault_count g.V.Disk.tells g.V.Disk.may_leave g.V.Disk.fault_count) (view_of c.self.inside.setup.proposers c.self.inside.council c.self.inside.acceptors.items c.self.inside.desks.items c.self.inside.callers.items c.self.inside.flow c.self.inside.record) c.args.verdict (view_of c.self.inside.setup.proposers c.harm.new.self c.self.inside.acceptors.items c.self.inside.desks.items c.self.inside.callers.items c.take.new.self c.harm.new.record)
+step_so : (g : Over) (c : After-harm g) → StepTurnExchange (meaning g.S.Shelf g.V.Disk) (view_of c.self.inside.setup.proposers c.self.inside.council c.self.inside.acceptors.items c.self.inside.desks.items c.self.inside.callers.items c.self.inside.flow c.self.inside.record) c.args.verdict (view_of c.self.inside.setup.proposers c.harm.new.self c.self.inside.acceptors.items c.self.inside.desks.items c.self.inside.callers.items c.take.new.self c.harm.new.record)
 step_so g c =
     let at = asking (view_of c.self.inside.setup.proposers c.self.inside.council c.self.inside.acceptors.items c.self.inside.desks.items c.self.inside.callers.items c.self.inside.flow c.self.inside.record) c.args.self.now c.self.invariant.safe c.self.view_is c.requires.«open» c.requires.waits in
-    loses (meaning g.S.Shelf.contents g.S.Shelf.tells g.S.Shelf.may_leave g.S.Shelf.fault_count g.V.Disk.tells g.V.Disk.may_leave g.V.Disk.fault_count) (view_of c.self.inside.setup.proposers c.self.inside.council c.self.inside.acceptors.items c.self.inside.desks.items c.self.inside.callers.items c.self.inside.flow c.self.inside.record) (view_of c.self.inside.setup.proposers c.harm.new.self c.self.inside.acceptors.items c.self.inside.desks.items c.self.inside.callers.items c.take.new.self c.harm.new.record) c.args.verdict at (ap (λ (v : View g.row.S.Denot g.row.V.Denot). fall_of (queue_at v.flow exchange_place).again c.args.verdict) c.self.view_is ∙ c.requires.gone)
+    loses (meaning g.S.Shelf g.V.Disk) (view_of c.self.inside.setup.proposers c.self.inside.council c.self.inside.acceptors.items c.self.inside.desks.items c.self.inside.callers.items c.self.inside.flow c.self.inside.record) (view_of c.self.inside.setup.proposers c.harm.new.self c.self.inside.acceptors.items c.self.inside.desks.items c.self.inside.callers.items c.take.new.self c.harm.new.record) c.args.verdict at (ap (λ (v : View g.row.S.Denot g.row.V.Denot). fall_of (queue_at v.flow exchange_place).again c.args.verdict) c.self.view_is ∙ c.requires.gone)
     (seen g c ∙ (λ i. harms (record (view_of c.self.inside.setup.proposers c.self.inside.council c.self.inside.acceptors.items c.self.inside.desks.items c.self.inside.callers.items c.self.inside.flow c.self.inside.record) { flow = c.take.ensures i }) at.exchange (c.peer_of-member.ensures at.front at.waits i) false))
 
 pub invariant_of-self : goal.invariant_of-self
@@ -52,4 +52,4 @@ invariant_of-self g c =
     (subst (λ (o : _). c.harm.new.record.room + length (harms_of o c.peer_of-member.result false) ≡ c.self.inside.record.room) at.is_open c.harm.ensures.room_left)
 
 pub returns : goal.returns
-returns g c = seen_from (meaning g.S.Shelf.contents g.S.Shelf.tells g.S.Shelf.may_leave g.S.Shelf.fault_count g.V.Disk.tells g.V.Disk.may_leave g.V.Disk.fault_count) (step.TurnExchange c.args.verdict) _ c.self.view_is (step_so g c)
+returns g c = seen_from (meaning g.S.Shelf g.V.Disk) (step.TurnExchange c.args.verdict) _ c.self.view_is (step_so g c)

@@ -30,10 +30,10 @@ start-requires-clause-fresh g c id acceptor at =
     (ap (λ (a : AcceptorView _). a.started) was.1, ap (λ (a : AcceptorView _). a.down) was.1)
 
 -- ---- all start
-starts : (g : Over) (c : In-Ok-start g) → AllStart (meaning g.S.Shelf.contents g.S.Shelf.tells g.S.Shelf.may_leave g.S.Shelf.fault_count g.V.Disk.tells g.V.Disk.may_leave g.V.Disk.fault_count) g.S.Shelf.fault_count g.V.Disk.fault_count c.args.config.acceptors c.args.config.proposers (unstarted 0 c.args.shelves.items) c.args.vaults.items
+starts : (g : Over) (c : In-Ok-start g) → AllStart (meaning g.S.Shelf g.V.Disk) g.S.Shelf.fault_count g.V.Disk.fault_count c.args.config.acceptors c.args.config.proposers (unstarted 0 c.args.shelves.items) c.args.vaults.items
     c.start.new.acceptors.items c.start.new.desks.items (reverse c.start.new.disks.items)
 starts g c =
-    let m = meaning g.S.Shelf.contents g.S.Shelf.tells g.S.Shelf.may_leave g.S.Shelf.fault_count g.V.Disk.tells g.V.Disk.may_leave g.V.Disk.fault_count in
+    let m = meaning g.S.Shelf g.V.Disk in
     subst (λ (l : List (AcceptorView _)). AllStart m g.S.Shelf.fault_count g.V.Disk.fault_count c.args.config.acceptors c.args.config.proposers l c.args.vaults.items c.start.new.acceptors.items c.start.new.desks.items (reverse c.start.new.disks.items)) c.take_shelves.ensures.acceptors
     (subst (λ (l : List _). AllStart m g.S.Shelf.fault_count g.V.Disk.fault_count c.args.config.acceptors c.args.config.proposers c.take_shelves.new.acceptors.items l c.start.new.acceptors.items c.start.new.desks.items (reverse c.start.new.disks.items))
     (ap (λ (l : List _). reverse l) c.reverse.ensures.items ∙ reverse-reverse c.args.vaults.items) (c.in-Ok-start.ensures {u = tt}).ok)
@@ -48,19 +48,19 @@ invariant_of-result g c = record {
 
 pub invariant_of-result-in-Ok-start : goal.invariant_of-result-in-Ok-start
 invariant_of-result-in-Ok-start g c =
-    is_world (meaning g.S.Shelf.contents g.S.Shelf.tells g.S.Shelf.may_leave g.S.Shelf.fault_count g.V.Disk.tells g.V.Disk.may_leave g.V.Disk.fault_count) g.S.Shelf.fault_count g.V.Disk.fault_count c.args.config.acceptors c.args.config.proposers c.args.shelves.items c.args.vaults.items c.new-in-Ok-start.result
+    is_world (meaning g.S.Shelf g.V.Disk) g.S.Shelf.fault_count g.V.Disk.fault_count c.args.config.acceptors c.args.config.proposers c.args.shelves.items c.args.vaults.items c.new-in-Ok-start.result
     c.start.new.acceptors.items c.start.new.desks.items c.in-Ok.lists.callers.items c.in-Ok.lists.flow c.new-in-Ok-start-2.result (reverse c.start.new.disks.items) c.requires.some c.requires.few c.requires.proposers (sym c.args.shelves.ok.0 ∙ c.requires.shelves)
     (starts g (goal.at.invariant_of-result-in-Ok-start g c).In-Ok-start) (c.new-in-Ok-start.ensures ∙ ap (λ (e : _). opening_council e c.first_members-members.result) (c.majority.ensures.value ∙ ap (majority_era 0) c.first_members-members.ensures) ∙ ap (opening_council (majority_era 0 (members_to c.args.config.acceptors))) c.first_members-members.ensures) (c.in-Ok.ensures {u = tt}).callers (c.in-Ok.ensures {u = tt}).flow c.new-in-Ok-start-2.ensures
 
 pub returns-in-Ok-start-clause-opening : goal.returns-in-Ok-start-clause-opening
 returns-in-Ok-start-clause-opening g c =
-    is_opening (meaning g.S.Shelf.contents g.S.Shelf.tells g.S.Shelf.may_leave g.S.Shelf.fault_count g.V.Disk.tells g.V.Disk.may_leave g.V.Disk.fault_count) g.S.Shelf.fault_count g.V.Disk.fault_count c.args.config.acceptors c.args.config.proposers c.args.shelves.items c.args.vaults.items c.new-in-Ok-start.result
+    is_opening (meaning g.S.Shelf g.V.Disk) g.S.Shelf.fault_count g.V.Disk.fault_count c.args.config.acceptors c.args.config.proposers c.args.shelves.items c.args.vaults.items c.new-in-Ok-start.result
     c.start.new.acceptors.items c.start.new.desks.items c.in-Ok.lists.callers.items c.in-Ok.lists.flow c.new-in-Ok-start-2.result (reverse c.start.new.disks.items) c.requires.some c.requires.few c.requires.proposers (sym c.args.shelves.ok.0 ∙ c.requires.shelves)
     (starts g (goal.at.returns-in-Ok-start-clause-opening g c).In-Ok-start) (c.new-in-Ok-start.ensures ∙ ap (λ (e : _). opening_council e c.first_members-members.result) (c.majority.ensures.value ∙ ap (majority_era 0) c.first_members-members.ensures) ∙ ap (opening_council (majority_era 0 (members_to c.args.config.acceptors))) c.first_members-members.ensures) (c.in-Ok.ensures {u = tt}).callers (c.in-Ok.ensures {u = tt}).flow c.new-in-Ok-start-2.ensures
 
 pub returns-in-Ok-start-clause-places : goal.returns-in-Ok-start-clause-places
 returns-in-Ok-start-clause-places g c =
-    has_places (meaning g.S.Shelf.contents g.S.Shelf.tells g.S.Shelf.may_leave g.S.Shelf.fault_count g.V.Disk.tells g.V.Disk.may_leave g.V.Disk.fault_count) g.S.Shelf.fault_count g.V.Disk.fault_count c.args.config.acceptors c.args.config.proposers c.args.shelves.items c.args.vaults.items c.new-in-Ok-start.result
+    has_places (meaning g.S.Shelf g.V.Disk) g.S.Shelf.fault_count g.V.Disk.fault_count c.args.config.acceptors c.args.config.proposers c.args.shelves.items c.args.vaults.items c.new-in-Ok-start.result
     c.start.new.acceptors.items c.start.new.desks.items c.in-Ok.lists.callers.items c.in-Ok.lists.flow c.new-in-Ok-start-2.result (reverse c.start.new.disks.items) c.requires.some c.requires.few c.requires.proposers (sym c.args.shelves.ok.0 ∙ c.requires.shelves)
     (starts g (goal.at.returns-in-Ok-start-clause-places g c).In-Ok-start) (c.new-in-Ok-start.ensures ∙ ap (λ (e : _). opening_council e c.first_members-members.result) (c.majority.ensures.value ∙ ap (majority_era 0) c.first_members-members.ensures) ∙ ap (opening_council (majority_era 0 (members_to c.args.config.acceptors))) c.first_members-members.ensures) (c.in-Ok.ensures {u = tt}).callers (c.in-Ok.ensures {u = tt}).flow c.new-in-Ok-start-2.ensures
 
@@ -68,10 +68,10 @@ pub returns-in-Ok-start-clause-vaults : goal.returns-in-Ok-start-clause-vaults
 returns-in-Ok-start-clause-vaults g c = (starts g (goal.at.returns-in-Ok-start-clause-vaults g c).In-Ok-start).made
 
 -- ---- something fails
-fails : (g : Over) (c : In-Err-start g) → SomeDiskFails (meaning g.S.Shelf.contents g.S.Shelf.tells g.S.Shelf.may_leave g.S.Shelf.fault_count g.V.Disk.tells g.V.Disk.may_leave g.V.Disk.fault_count) g.S.Shelf.fault_count g.V.Disk.fault_count c.args.config.acceptors c.args.config.proposers (unstarted 0 c.args.shelves.items) c.args.vaults.items
+fails : (g : Over) (c : In-Err-start g) → SomeDiskFails (meaning g.S.Shelf g.V.Disk) g.S.Shelf.fault_count g.V.Disk.fault_count c.args.config.acceptors c.args.config.proposers (unstarted 0 c.args.shelves.items) c.args.vaults.items
     c.in-Err-start.fault c.start.new.acceptors.items c.start.new.desks.items (reverse c.start.new.disks.items)
 fails g c =
-    let m = meaning g.S.Shelf.contents g.S.Shelf.tells g.S.Shelf.may_leave g.S.Shelf.fault_count g.V.Disk.tells g.V.Disk.may_leave g.V.Disk.fault_count in
+    let m = meaning g.S.Shelf g.V.Disk in
     subst (λ (l : List (AcceptorView _)). SomeDiskFails m g.S.Shelf.fault_count g.V.Disk.fault_count c.args.config.acceptors c.args.config.proposers l c.args.vaults.items c.in-Err-start.fault c.start.new.acceptors.items c.start.new.desks.items (reverse c.start.new.disks.items)) c.take_shelves.ensures.acceptors
     (subst (λ (l : List _). SomeDiskFails m g.S.Shelf.fault_count g.V.Disk.fault_count c.args.config.acceptors c.args.config.proposers c.take_shelves.new.acceptors.items l c.in-Err-start.fault c.start.new.acceptors.items c.start.new.desks.items (reverse c.start.new.disks.items))
     (ap (λ (l : List _). reverse l) c.reverse.ensures.items ∙ reverse-reverse c.args.vaults.items) (c.in-Err-start.ensures {u = tt}).err)
@@ -79,13 +79,13 @@ fails g c =
 -- as many shelves and as many disks as there were
 shelves_back : (g : Over) (c : In-Err-start g) → length c.start.new.acceptors.items ≡ 64
 shelves_back g c =
-    none_lost_either (meaning g.S.Shelf.contents g.S.Shelf.tells g.S.Shelf.may_leave g.S.Shelf.fault_count g.V.Disk.tells g.V.Disk.may_leave g.V.Disk.fault_count) g.S.Shelf.fault_count g.V.Disk.fault_count c.args.config.acceptors c.args.config.proposers (unstarted 0 c.args.shelves.items) c.args.vaults.items
+    none_lost_either (meaning g.S.Shelf g.V.Disk) g.S.Shelf.fault_count g.V.Disk.fault_count c.args.config.acceptors c.args.config.proposers (unstarted 0 c.args.shelves.items) c.args.vaults.items
     c.in-Err-start.fault c.start.new.acceptors.items c.start.new.desks.items (reverse c.start.new.disks.items) (fails g c)
     ∙ (unstarted_places 0 c.args.shelves.items ∙ (sym c.args.shelves.ok.0 ∙ c.requires.shelves))
 
 disks_back : (g : Over) (c : In-Err-start g) → length c.start.new.desks.items + length (reverse c.start.new.disks.items) ≡ 17
 disks_back g c =
-    none_lost (meaning g.S.Shelf.contents g.S.Shelf.tells g.S.Shelf.may_leave g.S.Shelf.fault_count g.V.Disk.tells g.V.Disk.may_leave g.V.Disk.fault_count) g.S.Shelf.fault_count g.V.Disk.fault_count c.args.config.acceptors c.args.config.proposers (unstarted 0 c.args.shelves.items) c.args.vaults.items
+    none_lost (meaning g.S.Shelf g.V.Disk) g.S.Shelf.fault_count g.V.Disk.fault_count c.args.config.acceptors c.args.config.proposers (unstarted 0 c.args.shelves.items) c.args.vaults.items
     c.in-Err-start.fault c.start.new.acceptors.items c.start.new.desks.items (reverse c.start.new.disks.items) (omega (arith, c.args.vaults.ok.0, c.requires.vaults, c.requires.proposers)) (fails g c)
     ∙ (sym c.args.vaults.ok.0 ∙ c.requires.vaults)
 

@@ -42,7 +42,7 @@ step_so g c =
 pub invariant_of-self : goal.invariant_of-self
 invariant_of-self g c =
     council_world (view_of c.self.inside.setup.proposers c.self.inside.council c.self.inside.acceptors.items c.self.inside.desks.items c.self.inside.callers.items c.self.inside.flow c.self.inside.record) _ c.self.inside.callers.items c.self.inside.record.room c.to_order.new.record.room c.self.invariant refl
-    (steps_are_safe (meaning g.S.Shelf.contents g.S.Shelf.tells g.S.Shelf.may_leave g.S.Shelf.fault_count g.V.Disk.tells g.V.Disk.may_leave g.V.Disk.fault_count) _ (step.Order c.args.asked.now) _ c.self.invariant.safe (step_so g c)) (remembered_then (meaning g.S.Shelf.contents g.S.Shelf.tells g.S.Shelf.may_leave g.S.Shelf.fault_count g.V.Disk.tells g.V.Disk.may_leave g.V.Disk.fault_count) (step.Order c.args.asked.now) (step_so g c) c.self.invariant.remembered)
+    (steps_are_safe (meaning g.S.Shelf g.V.Disk) _ (step.Order c.args.asked.now) _ c.self.invariant.safe (step_so g c)) (remembered_then (meaning g.S.Shelf g.V.Disk) (step.Order c.args.asked.now) (step_so g c) c.self.invariant.remembered)
     (omega (arith, c.in-Ok.ensures.room, c.reserved_in_all-reserved.ensures, ap (sum_by reserved_of) c.deref.ensures.value, sum_seen c.self.inside.callers.items, ap reserved_for_order (none_open g c)))
 
 pub invariant_of-self-in-Err : goal.invariant_of-self-in-Err
@@ -55,7 +55,7 @@ returns-in-Ok-clause-full g c = (
 )
 
 pub returns-in-Ok-clause-ok : goal.returns-in-Ok-clause-ok
-returns-in-Ok-clause-ok g c = seen_from (meaning g.S.Shelf.contents g.S.Shelf.tells g.S.Shelf.may_leave g.S.Shelf.fault_count g.V.Disk.tells g.V.Disk.may_leave g.V.Disk.fault_count) (step.Order c.args.asked.now) _ c.self.view_is (step_so g c)
+returns-in-Ok-clause-ok g c = seen_from (meaning g.S.Shelf g.V.Disk) (step.Order c.args.asked.now) _ c.self.view_is (step_so g c)
 
 pub returns-in-Err-clause-full : goal.returns-in-Err-clause-full
 returns-in-Err-clause-full g c = (

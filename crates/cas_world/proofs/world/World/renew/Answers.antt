@@ -11,13 +11,12 @@ use Rattle.cas_model.specs.Step as step
 use Rattle.cas_model.specs.Step.{Step}
 use Rattle.cas_model.specs.Collection.Step as collect
 use Rattle.cas_model.specs.Calls.Desks.{Renews, FindsNoAge}
-use Rattle.cas_model.specs.View.{View, IsAt, meaning}
+use Rattle.cas_model.specs.View.{View, IsAt, meaning, disk_meaning}
 use Rattle.cas_model.proofs.Places.{at_one, some_is}
 use Rattle.cas_model.proofs.Safety.Parts.{at_low}
 use Rattle.cas_model.proofs.Safety.Steps.{steps_are_safe}
 use Rattle.cas_model.proofs.Stops.Safe.{call_reserves_at}
 use Rattle.cas_world_calls.specs.Answers.{aged_answer}
-use Rattle.cas_world_calls.specs.Proposing.{disks}
 use Rattle.cas_world_calls.specs.declared.call.OpenCall.{OpenCall}
 use Rattle.cas_world.specs.Collection.Collect.{GoesOnCollecting, IsDueStep, IsNextAge}
 use Rattle.cas_world.specs.Exchanges.Exchange.{WasToldOrder}
@@ -37,7 +36,7 @@ pub returns-then-is_down-clause-step : goal.returns-then-is_down-clause-step
 returns-then-is_down-clause-step g c =
     let safe = subst (λ (v : (View g.row.S.Denot g.row.V.Denot)). IsSafe v) c.self.view_is c.self.invariant.safe in
     let caller = at_low (map caller_view c.self.inside.callers.items) c.args.proposer (omega (arith, c.self.invariant.safe.sound.callers, c.requires.known, ap (λ (v : (View g.row.S.Denot g.row.V.Denot)). v.last_proposer) c.self.view_is)) in
-    renews_next (meaning g.S.Shelf.contents g.S.Shelf.tells g.S.Shelf.may_leave g.S.Shelf.fault_count g.V.Disk.tells g.V.Disk.may_leave g.V.Disk.fault_count) c.args.self.now c.refuse.new.self c.args.proposer c.index.result.now caller.0 safe c.requires.due (subst (λ (v : (View g.row.S.Denot g.row.V.Denot)). IsAt v.desks c.args.proposer c.index.result.now) c.self.view_is (at_place c.self.inside.desks.items c.from-place.result c.args.proposer c.index.result.now c.from-place.ensures (omega (arith, c.self.invariant.safe.sound.desks, c.requires.known, ap (λ (v : (View g.row.S.Denot g.row.V.Denot)). v.last_proposer) c.self.view_is)) c.index.ensures)) (subst (λ (v : (View g.row.S.Denot g.row.V.Denot)). IsAt v.callers c.args.proposer caller.0) c.self.view_is caller.1)
+    renews_next (meaning g.S.Shelf g.V.Disk) c.args.self.now c.refuse.new.self c.args.proposer c.index.result.now caller.0 safe c.requires.due (subst (λ (v : (View g.row.S.Denot g.row.V.Denot)). IsAt v.desks c.args.proposer c.index.result.now) c.self.view_is (at_place c.self.inside.desks.items c.from-place.result c.args.proposer c.index.result.now c.from-place.ensures (omega (arith, c.self.invariant.safe.sound.desks, c.requires.known, ap (λ (v : (View g.row.S.Denot g.row.V.Denot)). v.last_proposer) c.self.view_is)) c.index.ensures)) (subst (λ (v : (View g.row.S.Denot g.row.V.Denot)). IsAt v.callers c.args.proposer caller.0) c.self.view_is caller.1)
     (collect.is_down (sym c.is_down.ensures ∙ c.if-is_down.true) c.refuse.ensures.told)
 
 pub returns-then-is_down-clause-err : goal.returns-then-is_down-clause-err
@@ -89,28 +88,28 @@ some_reserved g c call is =
     (at_map caller_view c.self.inside.callers.items c.args.proposer c.index_mut-caller.result.now (at_caller g c)) (ap (λ (o : Option OpenCall). option_map call_view o) is) (at_desk g c)
 
 -- what became of it
-did : (g : Over) (c : After-mark_renewal g) → IsRenewal (meaning g.S.Shelf.contents g.S.Shelf.tells g.S.Shelf.may_leave g.S.Shelf.fault_count g.V.Disk.tells g.V.Disk.may_leave g.V.Disk.fault_count) (view_of c.self.inside.setup.proposers c.self.inside.council c.self.inside.acceptors.items c.self.inside.desks.items c.self.inside.callers.items c.self.inside.flow c.self.inside.record) (collecting_at (view_of c.self.inside.setup.proposers c.self.inside.council c.self.inside.acceptors.items c.self.inside.desks.items c.self.inside.callers.items c.self.inside.flow c.self.inside.record) c.in-Some.collection c.self.invariant.safe c.in-Some.is) c.args.proposer c.index_mut-desk.result.now (slice_set c.self.inside.desks.items c.args.proposer c.grow_older-renewed.new.desk) (slice_set c.self.inside.callers.items c.args.proposer c.grow_older-renewed.new.caller) c.self.inside.record.room c.mark_renewal.result (view_of c.self.inside.setup.proposers c.mark_renewal.new.council c.self.inside.acceptors.items (slice_set c.self.inside.desks.items c.args.proposer c.grow_older-renewed.new.desk) (slice_set c.self.inside.callers.items c.args.proposer c.grow_older-renewed.new.caller) c.mark_renewal.new.flow c.self.inside.record)
-did g c = renewed_so (meaning g.S.Shelf.contents g.S.Shelf.tells g.S.Shelf.may_leave g.S.Shelf.fault_count g.V.Disk.tells g.V.Disk.may_leave g.V.Disk.fault_count) c.self.inside.setup.proposers c.self.inside.council c.mark_renewal.new.council c.self.inside.acceptors.items c.self.inside.desks.items c.self.inside.callers.items c.self.inside.flow c.grow_older-renewed.new.flow c.mark_renewal.new.flow c.self.inside.record c.args.proposer c.index_mut-desk.result.now c.grow_older-renewed.new.desk c.index_mut-caller.result.now c.grow_older-renewed.new.caller
+did : (g : Over) (c : After-mark_renewal g) → IsRenewal (meaning g.S.Shelf g.V.Disk) (view_of c.self.inside.setup.proposers c.self.inside.council c.self.inside.acceptors.items c.self.inside.desks.items c.self.inside.callers.items c.self.inside.flow c.self.inside.record) (collecting_at (view_of c.self.inside.setup.proposers c.self.inside.council c.self.inside.acceptors.items c.self.inside.desks.items c.self.inside.callers.items c.self.inside.flow c.self.inside.record) c.in-Some.collection c.self.invariant.safe c.in-Some.is) c.args.proposer c.index_mut-desk.result.now (slice_set c.self.inside.desks.items c.args.proposer c.grow_older-renewed.new.desk) (slice_set c.self.inside.callers.items c.args.proposer c.grow_older-renewed.new.caller) c.self.inside.record.room c.mark_renewal.result (view_of c.self.inside.setup.proposers c.mark_renewal.new.council c.self.inside.acceptors.items (slice_set c.self.inside.desks.items c.args.proposer c.grow_older-renewed.new.desk) (slice_set c.self.inside.callers.items c.args.proposer c.grow_older-renewed.new.caller) c.mark_renewal.new.flow c.self.inside.record)
+did g c = renewed_so (meaning g.S.Shelf g.V.Disk) c.self.inside.setup.proposers c.self.inside.council c.mark_renewal.new.council c.self.inside.acceptors.items c.self.inside.desks.items c.self.inside.callers.items c.self.inside.flow c.grow_older-renewed.new.flow c.mark_renewal.new.flow c.self.inside.record c.args.proposer c.index_mut-desk.result.now c.grow_older-renewed.new.desk c.index_mut-caller.result.now c.grow_older-renewed.new.caller
     (collecting_at (view_of c.self.inside.setup.proposers c.self.inside.council c.self.inside.acceptors.items c.self.inside.desks.items c.self.inside.callers.items c.self.inside.flow c.self.inside.record) c.in-Some.collection c.self.invariant.safe c.in-Some.is) (at_desk g c) (at_caller g c) (is_up g c) c.mark_renewal.ensures.eras c.self.invariant.copies (some_reserved g c) c.self.invariant.room c.grow_older-renewed.result c.mark_renewal.result
-    (subst (λ (t : Ballot). IfOk c.grow_older-renewed.result (λ age. Leaves (Renews (disks g.V.Disk.tells g.V.Disk.may_leave g.V.Disk.fault_count) c.in-Some.collection.course.key t age) (closed_with (λ proposed. aged_answer proposed age)) c.args.proposer c.index_mut-desk.result.now c.grow_older-renewed.new.desk c.index_mut-caller.result.now c.grow_older-renewed.new.caller c.self.inside.flow c.grow_older-renewed.new.flow)) c.tomb-tomb.ensures
-    (subst (λ (k : List ℕ). IfOk c.grow_older-renewed.result (λ age. Leaves (Renews (disks g.V.Disk.tells g.V.Disk.may_leave g.V.Disk.fault_count) k c.tomb-tomb.result age) (closed_with (λ proposed. aged_answer proposed age)) c.args.proposer c.index_mut-desk.result.now c.grow_older-renewed.new.desk c.index_mut-caller.result.now c.grow_older-renewed.new.caller c.self.inside.flow c.grow_older-renewed.new.flow)) c.key.ensures c.grow_older-renewed.ensures.ok))
-    c.grow_older-renewed.ensures.fault c.grow_older-renewed.ensures.spent (λ failed. subst (λ (t : Ballot). FindsNoAge (disks g.V.Disk.tells g.V.Disk.may_leave g.V.Disk.fault_count) t c.index_mut-desk.result.now c.grow_older-renewed.new.desk) c.tomb-tomb.ensures (c.grow_older-renewed.ensures.no_memory failed))
+    (subst (λ (t : Ballot). IfOk c.grow_older-renewed.result (λ age. Leaves (Renews (disk_meaning g.V.Disk) c.in-Some.collection.course.key t age) (closed_with (λ proposed. aged_answer proposed age)) c.args.proposer c.index_mut-desk.result.now c.grow_older-renewed.new.desk c.index_mut-caller.result.now c.grow_older-renewed.new.caller c.self.inside.flow c.grow_older-renewed.new.flow)) c.tomb-tomb.ensures
+    (subst (λ (k : List ℕ). IfOk c.grow_older-renewed.result (λ age. Leaves (Renews (disk_meaning g.V.Disk) k c.tomb-tomb.result age) (closed_with (λ proposed. aged_answer proposed age)) c.args.proposer c.index_mut-desk.result.now c.grow_older-renewed.new.desk c.index_mut-caller.result.now c.grow_older-renewed.new.caller c.self.inside.flow c.grow_older-renewed.new.flow)) c.key.ensures c.grow_older-renewed.ensures.ok))
+    c.grow_older-renewed.ensures.fault c.grow_older-renewed.ensures.spent (λ failed. subst (λ (t : Ballot). FindsNoAge (disk_meaning g.V.Disk) t c.index_mut-desk.result.now c.grow_older-renewed.new.desk) c.tomb-tomb.ensures (c.grow_older-renewed.ensures.no_memory failed))
     c.grow_older-renewed.ensures.stays c.mark_renewal.ensures.marks
 
-step_at : (g : Over) (c : After-mark_renewal g) → Step (meaning g.S.Shelf.contents g.S.Shelf.tells g.S.Shelf.may_leave g.S.Shelf.fault_count g.V.Disk.tells g.V.Disk.may_leave g.V.Disk.fault_count) (view_of c.self.inside.setup.proposers c.self.inside.council c.self.inside.acceptors.items c.self.inside.desks.items c.self.inside.callers.items c.self.inside.flow c.self.inside.record) (step.Renew c.args.proposer) (view_of c.self.inside.setup.proposers c.mark_renewal.new.council c.self.inside.acceptors.items (slice_set c.self.inside.desks.items c.args.proposer c.grow_older-renewed.new.desk) (slice_set c.self.inside.callers.items c.args.proposer c.grow_older-renewed.new.caller) c.mark_renewal.new.flow c.self.inside.record)
-step_at g c = renews_next (meaning g.S.Shelf.contents g.S.Shelf.tells g.S.Shelf.may_leave g.S.Shelf.fault_count g.V.Disk.tells g.V.Disk.may_leave g.V.Disk.fault_count) (view_of c.self.inside.setup.proposers c.self.inside.council c.self.inside.acceptors.items c.self.inside.desks.items c.self.inside.callers.items c.self.inside.flow c.self.inside.record) (view_of c.self.inside.setup.proposers c.mark_renewal.new.council c.self.inside.acceptors.items (slice_set c.self.inside.desks.items c.args.proposer c.grow_older-renewed.new.desk) (slice_set c.self.inside.callers.items c.args.proposer c.grow_older-renewed.new.caller) c.mark_renewal.new.flow c.self.inside.record) c.args.proposer c.index_mut-desk.result.now (caller_view c.index_mut-caller.result.now) c.self.invariant.safe (is_due g c) (at_desk g c) (at_map caller_view c.self.inside.callers.items c.args.proposer c.index_mut-caller.result.now (at_caller g c)) (did g c).renews
+step_at : (g : Over) (c : After-mark_renewal g) → Step (meaning g.S.Shelf g.V.Disk) (view_of c.self.inside.setup.proposers c.self.inside.council c.self.inside.acceptors.items c.self.inside.desks.items c.self.inside.callers.items c.self.inside.flow c.self.inside.record) (step.Renew c.args.proposer) (view_of c.self.inside.setup.proposers c.mark_renewal.new.council c.self.inside.acceptors.items (slice_set c.self.inside.desks.items c.args.proposer c.grow_older-renewed.new.desk) (slice_set c.self.inside.callers.items c.args.proposer c.grow_older-renewed.new.caller) c.mark_renewal.new.flow c.self.inside.record)
+step_at g c = renews_next (meaning g.S.Shelf g.V.Disk) (view_of c.self.inside.setup.proposers c.self.inside.council c.self.inside.acceptors.items c.self.inside.desks.items c.self.inside.callers.items c.self.inside.flow c.self.inside.record) (view_of c.self.inside.setup.proposers c.mark_renewal.new.council c.self.inside.acceptors.items (slice_set c.self.inside.desks.items c.args.proposer c.grow_older-renewed.new.desk) (slice_set c.self.inside.callers.items c.args.proposer c.grow_older-renewed.new.caller) c.mark_renewal.new.flow c.self.inside.record) c.args.proposer c.index_mut-desk.result.now (caller_view c.index_mut-caller.result.now) c.self.invariant.safe (is_due g c) (at_desk g c) (at_map caller_view c.self.inside.callers.items c.args.proposer c.index_mut-caller.result.now (at_caller g c)) (did g c).renews
 
 pub invariant_of-self : goal.invariant_of-self
 invariant_of-self g c =
-    subst (λ (i : ℕ). IsWorld (meaning g.S.Shelf.contents g.S.Shelf.tells g.S.Shelf.may_leave g.S.Shelf.fault_count g.V.Disk.tells g.V.Disk.may_leave g.V.Disk.fault_count) (view_of c.self.inside.setup.proposers c.mark_renewal.new.council c.self.inside.acceptors.items (slice_set c.self.inside.desks.items i c.grow_older-renewed.new.desk) (slice_set c.self.inside.callers.items i c.grow_older-renewed.new.caller) c.mark_renewal.new.flow c.self.inside.record) (slice_set c.self.inside.callers.items i c.grow_older-renewed.new.caller) c.self.inside.record.room) (sym c.from-place.ensures) (record {
-      safe = steps_are_safe (meaning g.S.Shelf.contents g.S.Shelf.tells g.S.Shelf.may_leave g.S.Shelf.fault_count g.V.Disk.tells g.V.Disk.may_leave g.V.Disk.fault_count) (view_of c.self.inside.setup.proposers c.self.inside.council c.self.inside.acceptors.items c.self.inside.desks.items c.self.inside.callers.items c.self.inside.flow c.self.inside.record) (step.Renew c.args.proposer) (view_of c.self.inside.setup.proposers c.mark_renewal.new.council c.self.inside.acceptors.items (slice_set c.self.inside.desks.items c.args.proposer c.grow_older-renewed.new.desk) (slice_set c.self.inside.callers.items c.args.proposer c.grow_older-renewed.new.caller) c.mark_renewal.new.flow c.self.inside.record) c.self.invariant.safe (step_at g c);
+    subst (λ (i : ℕ). IsWorld (meaning g.S.Shelf g.V.Disk) (view_of c.self.inside.setup.proposers c.mark_renewal.new.council c.self.inside.acceptors.items (slice_set c.self.inside.desks.items i c.grow_older-renewed.new.desk) (slice_set c.self.inside.callers.items i c.grow_older-renewed.new.caller) c.mark_renewal.new.flow c.self.inside.record) (slice_set c.self.inside.callers.items i c.grow_older-renewed.new.caller) c.self.inside.record.room) (sym c.from-place.ensures) (record {
+      safe = steps_are_safe (meaning g.S.Shelf g.V.Disk) (view_of c.self.inside.setup.proposers c.self.inside.council c.self.inside.acceptors.items c.self.inside.desks.items c.self.inside.callers.items c.self.inside.flow c.self.inside.record) (step.Renew c.args.proposer) (view_of c.self.inside.setup.proposers c.mark_renewal.new.council c.self.inside.acceptors.items (slice_set c.self.inside.desks.items c.args.proposer c.grow_older-renewed.new.desk) (slice_set c.self.inside.callers.items c.args.proposer c.grow_older-renewed.new.caller) c.mark_renewal.new.flow c.self.inside.record) c.self.invariant.safe (step_at g c);
       room = (did g c).room;
       copies = (did g c).copies;
-      remembered = remembered_then (meaning g.S.Shelf.contents g.S.Shelf.tells g.S.Shelf.may_leave g.S.Shelf.fault_count g.V.Disk.tells g.V.Disk.may_leave g.V.Disk.fault_count) (step.Renew c.args.proposer) (step_at g c) c.self.invariant.remembered;
+      remembered = remembered_then (meaning g.S.Shelf g.V.Disk) (step.Renew c.args.proposer) (step_at g c) c.self.invariant.remembered;
     })
 
 pub returns-clause-step : goal.returns-clause-step
-returns-clause-step g c = subst (λ (i : ℕ). Step (meaning g.S.Shelf.contents g.S.Shelf.tells g.S.Shelf.may_leave g.S.Shelf.fault_count g.V.Disk.tells g.V.Disk.may_leave g.V.Disk.fault_count) c.args.self.now (step.Renew c.args.proposer) (view_of c.self.inside.setup.proposers c.mark_renewal.new.council c.self.inside.acceptors.items (slice_set c.self.inside.desks.items i c.grow_older-renewed.new.desk) (slice_set c.self.inside.callers.items i c.grow_older-renewed.new.caller) c.mark_renewal.new.flow c.self.inside.record)) (sym c.from-place.ensures) (seen_from (meaning g.S.Shelf.contents g.S.Shelf.tells g.S.Shelf.may_leave g.S.Shelf.fault_count g.V.Disk.tells g.V.Disk.may_leave g.V.Disk.fault_count) (step.Renew c.args.proposer) (view_of c.self.inside.setup.proposers c.mark_renewal.new.council c.self.inside.acceptors.items (slice_set c.self.inside.desks.items c.args.proposer c.grow_older-renewed.new.desk) (slice_set c.self.inside.callers.items c.args.proposer c.grow_older-renewed.new.caller) c.mark_renewal.new.flow c.self.inside.record) c.self.view_is (step_at g c))
+returns-clause-step g c = subst (λ (i : ℕ). Step (meaning g.S.Shelf g.V.Disk) c.args.self.now (step.Renew c.args.proposer) (view_of c.self.inside.setup.proposers c.mark_renewal.new.council c.self.inside.acceptors.items (slice_set c.self.inside.desks.items i c.grow_older-renewed.new.desk) (slice_set c.self.inside.callers.items i c.grow_older-renewed.new.caller) c.mark_renewal.new.flow c.self.inside.record)) (sym c.from-place.ensures) (seen_from (meaning g.S.Shelf g.V.Disk) (step.Renew c.args.proposer) (view_of c.self.inside.setup.proposers c.mark_renewal.new.council c.self.inside.acceptors.items (slice_set c.self.inside.desks.items c.args.proposer c.grow_older-renewed.new.desk) (slice_set c.self.inside.callers.items c.args.proposer c.grow_older-renewed.new.caller) c.mark_renewal.new.flow c.self.inside.record) c.self.view_is (step_at g c))
 
 pub returns-clause-ok : goal.returns-clause-ok
 returns-clause-ok g c = subst (λ (i : ℕ). OnOk c.mark_renewal.result (GoesOnCollecting c.args.self.now (view_of c.self.inside.setup.proposers c.mark_renewal.new.council c.self.inside.acceptors.items (slice_set c.self.inside.desks.items i c.grow_older-renewed.new.desk) (slice_set c.self.inside.callers.items i c.grow_older-renewed.new.caller) c.mark_renewal.new.flow c.self.inside.record))) (sym c.from-place.ensures)

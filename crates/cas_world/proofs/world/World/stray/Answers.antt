@@ -3,11 +3,11 @@ use Rattle.cas_model.specs.Step as step
 use Rattle.cas_model.specs.Step.{StepStray}
 use Rattle.cas_model.specs.Calls.Step.{most_marks}
 use Rattle.cas_model.specs.Frames.Step.{FindsNoRoom}
-use Rattle.cas_model.specs.View.{View, meaning, reserved_of, reserved_in_all}
+use Rattle.cas_model.specs.View.{View, meaning, reserved_of, reserved_in_all, shelf_meaning}
 use Rattle.cas_model.proofs.Safety.Steps.{steps_are_safe}
 use Rattle.cas_model.specs.Council.{reserved_by}
 use Rattle.cas_world_calls.specs.Council.{council_view}
-use Rattle.cas_world.specs.Frames.Serve.{shelves, KeepsAll}
+use Rattle.cas_world.specs.Frames.Serve.{KeepsAll}
 use Rattle.cas_world.specs.Frames.Stray.{LetsIn}
 use Rattle.cas_world.specs.World.{view_of, caller_view}
 use Rattle.cas_world.proofs.Parts.{seen_from, remembered_then}
@@ -41,48 +41,48 @@ some_room : (g : Over) (c : goal.Joined-done g) → length c.args.self.now.marks
 some_room g c = omega (arith, counted c.marks.result.now c.reserved_in_all-reserved.result c.self.view_is c.marks.ensures (reserves g c), c.if-marks-reserved-ge-MOST_MARKS.false)
 
 strays : (g : Over) (c : goal.Joined-done g) (peer : ℕ)
-    → LetsIn (shelves g.S.Shelf.contents g.S.Shelf.tells g.S.Shelf.may_leave g.S.Shelf.fault_count) c.args.index (c.reserved_in_all-reserved.result + 1) peer c.self.inside.acceptors.items c.let_in-done.new.acceptors.items
+    → LetsIn (shelf_meaning g.S.Shelf) c.args.index (c.reserved_in_all-reserved.result + 1) peer c.self.inside.acceptors.items c.let_in-done.new.acceptors.items
     c.self.inside.desks.items c.let_in-done.new.desks.items c.self.inside.flow c.let_in-done.new.flow c.self.inside.record c.let_in-done.new.record
-    → StepStray (meaning g.S.Shelf.contents g.S.Shelf.tells g.S.Shelf.may_leave g.S.Shelf.fault_count g.V.Disk.tells g.V.Disk.may_leave g.V.Disk.fault_count)
+    → StepStray (meaning g.S.Shelf g.V.Disk)
     (view_of c.self.inside.setup.proposers c.self.inside.council c.self.inside.acceptors.items c.self.inside.desks.items c.self.inside.callers.items c.self.inside.flow c.self.inside.record) c.args.index
     (view_of c.self.inside.setup.proposers c.self.inside.council c.let_in-done.new.acceptors.items c.let_in-done.new.desks.items c.self.inside.callers.items c.let_in-done.new.flow c.let_in-done.new.record)
 strays g c peer by =
-    stray_step (meaning g.S.Shelf.contents g.S.Shelf.tells g.S.Shelf.may_leave g.S.Shelf.fault_count g.V.Disk.tells g.V.Disk.may_leave g.V.Disk.fault_count) c.self.inside.setup.proposers c.self.inside.council c.self.inside.acceptors.items c.let_in-done.new.acceptors.items
+    stray_step (meaning g.S.Shelf g.V.Disk) c.self.inside.setup.proposers c.self.inside.council c.self.inside.acceptors.items c.let_in-done.new.acceptors.items
     c.self.inside.desks.items c.let_in-done.new.desks.items c.self.inside.callers.items c.self.inside.flow c.let_in-done.new.flow c.self.inside.record c.let_in-done.new.record c.args.index (c.reserved_in_all-reserved.result + 1) peer
     (subst (λ (v : View g.row.S.Denot g.row.V.Denot). length v.marks + reserved_in_all v < most_marks) (sym c.self.view_is) (some_room g c)) by
 
-no_memory : (g : Over) (c : goal.Joined-done g) → KeepsAll (shelves g.S.Shelf.contents g.S.Shelf.tells g.S.Shelf.may_leave g.S.Shelf.fault_count) c.self.inside.acceptors.items c.let_in-done.new.acceptors.items
+no_memory : (g : Over) (c : goal.Joined-done g) → KeepsAll (shelf_meaning g.S.Shelf) c.self.inside.acceptors.items c.let_in-done.new.acceptors.items
     → c.let_in-done.new.desks.items ≡ c.self.inside.desks.items → c.let_in-done.new.flow ≡ c.self.inside.flow → c.let_in-done.new.record.marks ≡ c.self.inside.record.marks
-    → FindsNoRoom (meaning g.S.Shelf.contents g.S.Shelf.tells g.S.Shelf.may_leave g.S.Shelf.fault_count g.V.Disk.tells g.V.Disk.may_leave g.V.Disk.fault_count)
+    → FindsNoRoom (meaning g.S.Shelf g.V.Disk)
     (view_of c.self.inside.setup.proposers c.self.inside.council c.self.inside.acceptors.items c.self.inside.desks.items c.self.inside.callers.items c.self.inside.flow c.self.inside.record)
     (view_of c.self.inside.setup.proposers c.self.inside.council c.let_in-done.new.acceptors.items c.let_in-done.new.desks.items c.self.inside.callers.items c.let_in-done.new.flow c.let_in-done.new.record)
 no_memory g c =
-    no_room (meaning g.S.Shelf.contents g.S.Shelf.tells g.S.Shelf.may_leave g.S.Shelf.fault_count g.V.Disk.tells g.V.Disk.may_leave g.V.Disk.fault_count) c.self.inside.setup.proposers c.self.inside.council c.self.inside.acceptors.items c.let_in-done.new.acceptors.items
+    no_room (meaning g.S.Shelf g.V.Disk) c.self.inside.setup.proposers c.self.inside.council c.self.inside.acceptors.items c.let_in-done.new.acceptors.items
     c.self.inside.desks.items c.let_in-done.new.desks.items c.self.inside.callers.items c.self.inside.flow c.let_in-done.new.flow c.self.inside.record c.let_in-done.new.record
 
 -- src/stray.rt:41:5
 pub invariant_of-self : goal.invariant_of-self
 invariant_of-self g c = elim c.match-done.branch [
   | in-Ok w ↦
-      strayed_kept (shelves g.S.Shelf.contents g.S.Shelf.tells g.S.Shelf.may_leave g.S.Shelf.fault_count) c.self.inside.setup.proposers c.self.inside.council c.self.inside.acceptors.items c.let_in-done.new.acceptors.items
+      strayed_kept (shelf_meaning g.S.Shelf) c.self.inside.setup.proposers c.self.inside.council c.self.inside.acceptors.items c.let_in-done.new.acceptors.items
       c.self.inside.desks.items c.let_in-done.new.desks.items c.self.inside.callers.items c.self.inside.flow c.let_in-done.new.flow c.self.inside.record c.let_in-done.new.record c.args.index (c.reserved_in_all-reserved.result + 1) w.in-Ok.peer
       c.self.invariant (ap (λ (n : ℕ). n + 1) (reserves g c)) w.in-Ok.ensures.ok
-      (steps_are_safe (meaning g.S.Shelf.contents g.S.Shelf.tells g.S.Shelf.may_leave g.S.Shelf.fault_count g.V.Disk.tells g.V.Disk.may_leave g.V.Disk.fault_count) _ (step.Stray c.args.index) _ c.self.invariant.safe (strays g c w.in-Ok.peer w.in-Ok.ensures.ok))
-      (remembered_then (meaning g.S.Shelf.contents g.S.Shelf.tells g.S.Shelf.may_leave g.S.Shelf.fault_count g.V.Disk.tells g.V.Disk.may_leave g.V.Disk.fault_count) (step.Stray c.args.index) (strays g c w.in-Ok.peer w.in-Ok.ensures.ok) c.self.invariant.remembered)
+      (steps_are_safe (meaning g.S.Shelf g.V.Disk) _ (step.Stray c.args.index) _ c.self.invariant.safe (strays g c w.in-Ok.peer w.in-Ok.ensures.ok))
+      (remembered_then (meaning g.S.Shelf g.V.Disk) (step.Stray c.args.index) (strays g c w.in-Ok.peer w.in-Ok.ensures.ok) c.self.invariant.remembered)
   | in-Err w ↦
       no_room_kept c.self.inside.setup.proposers c.self.inside.council c.self.inside.acceptors.items c.let_in-done.new.acceptors.items
       c.self.inside.desks.items c.let_in-done.new.desks.items c.self.inside.callers.items c.self.inside.flow c.let_in-done.new.flow c.self.inside.record c.let_in-done.new.record
       c.self.invariant w.in-Err.ensures.same.0 w.in-Err.ensures.same.3
-      (steps_are_safe (meaning g.S.Shelf.contents g.S.Shelf.tells g.S.Shelf.may_leave g.S.Shelf.fault_count g.V.Disk.tells g.V.Disk.may_leave g.V.Disk.fault_count) _ step.RefuseStray _ c.self.invariant.safe
+      (steps_are_safe (meaning g.S.Shelf g.V.Disk) _ step.RefuseStray _ c.self.invariant.safe
       (no_memory g c w.in-Err.ensures.err w.in-Err.ensures.same.0 w.in-Err.ensures.same.1 w.in-Err.ensures.same.2))
-      (remembered_then (meaning g.S.Shelf.contents g.S.Shelf.tells g.S.Shelf.may_leave g.S.Shelf.fault_count g.V.Disk.tells g.V.Disk.may_leave g.V.Disk.fault_count) step.RefuseStray
+      (remembered_then (meaning g.S.Shelf g.V.Disk) step.RefuseStray
       (no_memory g c w.in-Err.ensures.err w.in-Err.ensures.same.0 w.in-Err.ensures.same.1 w.in-Err.ensures.same.2) c.self.invariant.remembered)
 ]
 
 -- src/stray.rt:41:5
 pub returns-clause-ok : goal.returns-clause-ok
 returns-clause-ok g c = elim c.match-done.branch [
-  | in-Ok w ↦ rw w.result-is (seen_from (meaning g.S.Shelf.contents g.S.Shelf.tells g.S.Shelf.may_leave g.S.Shelf.fault_count g.V.Disk.tells g.V.Disk.may_leave g.V.Disk.fault_count) (step.Stray c.args.index) _ c.self.view_is (strays g c w.in-Ok.peer w.in-Ok.ensures.ok))
+  | in-Ok w ↦ rw w.result-is (seen_from (meaning g.S.Shelf g.V.Disk) (step.Stray c.args.index) _ c.self.view_is (strays g c w.in-Ok.peer w.in-Ok.ensures.ok))
   | in-Err w ↦ rw w.result-is tt
 ]
 
@@ -100,6 +100,6 @@ returns-clause-full g c = (
 pub returns-clause-err : goal.returns-clause-err
 returns-clause-err g c = elim c.match-done.branch [
   | in-Ok w ↦ rw w.result-is tt
-  | in-Err w ↦ rw w.result-is (seen_from (meaning g.S.Shelf.contents g.S.Shelf.tells g.S.Shelf.may_leave g.S.Shelf.fault_count g.V.Disk.tells g.V.Disk.may_leave g.V.Disk.fault_count) step.RefuseStray _ c.self.view_is
+  | in-Err w ↦ rw w.result-is (seen_from (meaning g.S.Shelf g.V.Disk) step.RefuseStray _ c.self.view_is
       (no_memory g c w.in-Err.ensures.err w.in-Err.ensures.same.0 w.in-Err.ensures.same.1 w.in-Err.ensures.same.2))
 ]

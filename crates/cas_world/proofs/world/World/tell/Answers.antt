@@ -32,7 +32,7 @@ conclude-told-requires g c none =
 pub mark_told-requires : goal.mark_told-requires
 mark_told-requires g c = omega (arith, c.self.invariant.room, ap (λ (o : Option Order). reserved_for_order (option_map order_view o)) c.close-asked.ensures.order)
 
-step_so : (g : Over) (c : After-mark_told g) → Step (meaning g.S.Shelf.contents g.S.Shelf.tells g.S.Shelf.may_leave g.S.Shelf.fault_count g.V.Disk.tells g.V.Disk.may_leave g.V.Disk.fault_count)
+step_so : (g : Over) (c : After-mark_told g) → Step (meaning g.S.Shelf g.V.Disk)
     (view_of c.self.inside.setup.proposers c.self.inside.council c.self.inside.acceptors.items c.self.inside.desks.items c.self.inside.callers.items c.self.inside.flow c.self.inside.record) (step.Tell c.args.answer)
     (view_of c.self.inside.setup.proposers c.conclude-told.new.self c.self.inside.acceptors.items c.self.inside.desks.items c.self.inside.callers.items c.abandon.new.self c.mark_told.new.record)
 step_so g c =
@@ -44,7 +44,7 @@ step_so g c =
 pub invariant_of-self : goal.invariant_of-self
 invariant_of-self g c =
     council_world (view_of c.self.inside.setup.proposers c.self.inside.council c.self.inside.acceptors.items c.self.inside.desks.items c.self.inside.callers.items c.self.inside.flow c.self.inside.record) _ c.self.inside.callers.items c.self.inside.record.room c.mark_told.new.record.room c.self.invariant refl
-    (steps_are_safe (meaning g.S.Shelf.contents g.S.Shelf.tells g.S.Shelf.may_leave g.S.Shelf.fault_count g.V.Disk.tells g.V.Disk.may_leave g.V.Disk.fault_count) _ (step.Tell c.args.answer) _ c.self.invariant.safe (step_so g c)) (remembered_then (meaning g.S.Shelf.contents g.S.Shelf.tells g.S.Shelf.may_leave g.S.Shelf.fault_count g.V.Disk.tells g.V.Disk.may_leave g.V.Disk.fault_count) (step.Tell c.args.answer) (step_so g c) c.self.invariant.remembered)
+    (steps_are_safe (meaning g.S.Shelf g.V.Disk) _ (step.Tell c.args.answer) _ c.self.invariant.safe (step_so g c)) (remembered_then (meaning g.S.Shelf g.V.Disk) (step.Tell c.args.answer) (step_so g c) c.self.invariant.remembered)
     (omega (
       arith,
       c.self.invariant.room,
@@ -55,12 +55,12 @@ invariant_of-self g c =
     ))
 
 pub returns-clause-step : goal.returns-clause-step
-returns-clause-step g c = seen_from (meaning g.S.Shelf.contents g.S.Shelf.tells g.S.Shelf.may_leave g.S.Shelf.fault_count g.V.Disk.tells g.V.Disk.may_leave g.V.Disk.fault_count) (step.Tell c.args.answer) (view_of c.self.inside.setup.proposers c.conclude-told.new.self c.self.inside.acceptors.items c.self.inside.desks.items c.self.inside.callers.items c.abandon.new.self c.mark_told.new.record) c.self.view_is (step_so g c)
+returns-clause-step g c = seen_from (meaning g.S.Shelf g.V.Disk) (step.Tell c.args.answer) (view_of c.self.inside.setup.proposers c.conclude-told.new.self c.self.inside.acceptors.items c.self.inside.desks.items c.self.inside.callers.items c.abandon.new.self c.mark_told.new.record) c.self.view_is (step_so g c)
 
 pub returns-clause-floor : goal.returns-clause-floor
 returns-clause-floor g c shelves disks all =
     subst (λ (v : (View g.row.S.Denot g.row.V.Denot)). HasItsFloor c.args.answer (reverse v.marks)) c.self.view_is
-    (collected_floors (meaning g.S.Shelf.contents g.S.Shelf.tells g.S.Shelf.may_leave g.S.Shelf.fault_count g.V.Disk.tells g.V.Disk.may_leave g.V.Disk.fault_count) (view_of c.self.inside.setup.proposers c.self.inside.council c.self.inside.acceptors.items c.self.inside.desks.items c.self.inside.callers.items c.self.inside.flow c.self.inside.record) all.order c.args.answer (c.self.invariant.remembered shelves disks)
+    (collected_floors (meaning g.S.Shelf g.V.Disk) (view_of c.self.inside.setup.proposers c.self.inside.council c.self.inside.acceptors.items c.self.inside.desks.items c.self.inside.callers.items c.self.inside.flow c.self.inside.record) all.order c.args.answer (c.self.invariant.remembered shelves disks)
     (subst (λ (k : Council). IsCollectedBy k all.order c.args.answer) (sym (ap (λ (v : View g.row.S.Denot g.row.V.Denot). v.council) c.self.view_is)) all.collected))
 
 pub returns-clause-entered : goal.returns-clause-entered

@@ -8,8 +8,8 @@ use Rattle.cas_world.proofs.world.World.turn_exchange.Goals as goal
 
 pub returns-in-Held-clause-ok : goal.returns-in-Held-clause-ok
 returns-in-Held-clause-ok g c =
-    subst (λ (v : View g.row.S.Denot g.row.V.Denot). StepTurnExchange (meaning g.S.Shelf.contents g.S.Shelf.tells g.S.Shelf.may_leave g.S.Shelf.fault_count g.V.Disk.tells g.V.Disk.may_leave g.V.Disk.fault_count) v c.args.verdict v) c.self.view_is
-    (holds (meaning g.S.Shelf.contents g.S.Shelf.tells g.S.Shelf.may_leave g.S.Shelf.fault_count g.V.Disk.tells g.V.Disk.may_leave g.V.Disk.fault_count) (view_of c.self.inside.setup.proposers c.self.inside.council c.self.inside.acceptors.items c.self.inside.desks.items c.self.inside.callers.items c.self.inside.flow c.self.inside.record) c.args.verdict (asking (view_of c.self.inside.setup.proposers c.self.inside.council c.self.inside.acceptors.items c.self.inside.desks.items c.self.inside.callers.items c.self.inside.flow c.self.inside.record) c.args.self.now c.self.invariant.safe c.self.view_is c.requires.«open» c.requires.waits) (sym c.falls.ensures ∙ c.in-Held.is))
+    subst (λ (v : View g.row.S.Denot g.row.V.Denot). StepTurnExchange (meaning g.S.Shelf g.V.Disk) v c.args.verdict v) c.self.view_is
+    (holds (meaning g.S.Shelf g.V.Disk) (view_of c.self.inside.setup.proposers c.self.inside.council c.self.inside.acceptors.items c.self.inside.desks.items c.self.inside.callers.items c.self.inside.flow c.self.inside.record) c.args.verdict (asking (view_of c.self.inside.setup.proposers c.self.inside.council c.self.inside.acceptors.items c.self.inside.desks.items c.self.inside.callers.items c.self.inside.flow c.self.inside.record) c.args.self.now c.self.invariant.safe c.self.view_is c.requires.«open» c.requires.waits) (sym c.falls.ensures ∙ c.in-Held.is))
 
 pub invariant_of-self : goal.invariant_of-self
 invariant_of-self g c = told_world c.self-in-Handle.inside.setup.proposers c.self-in-Handle.inside.council c.self-in-Handle.inside.acceptors.items c.self-in-Handle.inside.desks.items c.self-in-Handle.inside.callers.items c.self-in-Handle.inside.flow c.self-in-Handle.inside.record c.tell.new.self c.no_memory.result c.self-in-Handle.invariant c.tell.ensures.eras c.tell.ensures.told
@@ -20,7 +20,7 @@ returns-in-Err-clause-err g c =
     record {
       at = record { exchange = is_open.0; is_open = is_open.1 };
       middle = view_of c.self-in-Handle.inside.setup.proposers c.self-in-Handle.inside.council c.self-in-Handle.inside.acceptors.items c.self-in-Handle.inside.desks.items c.self-in-Handle.inside.callers.items c.self-in-Handle.inside.flow c.self-in-Handle.inside.record;
-      refuses = subst (λ (v : View g.row.S.Denot g.row.V.Denot). FindsNoRoom (meaning g.S.Shelf.contents g.S.Shelf.tells g.S.Shelf.may_leave g.S.Shelf.fault_count g.V.Disk.tells g.V.Disk.may_leave g.V.Disk.fault_count) c.args.self.now v) (sym c.self-in-Handle.view_is) c.in-Err.ensures.err;
+      refuses = subst (λ (v : View g.row.S.Denot g.row.V.Denot). FindsNoRoom (meaning g.S.Shelf g.V.Disk) c.args.self.now v) (sym c.self-in-Handle.view_is) c.in-Err.ensures.err;
       view =
           told_seen c.self-in-Handle.inside.setup.proposers c.self-in-Handle.inside.council c.self-in-Handle.inside.acceptors.items c.self-in-Handle.inside.desks.items c.self-in-Handle.inside.callers.items c.self-in-Handle.inside.flow c.self-in-Handle.inside.record c.tell.new.self c.no_memory.result c.tell.ensures.eras c.tell.ensures.told
           ∙ ap (told_view (view_of c.self-in-Handle.inside.setup.proposers c.self-in-Handle.inside.council c.self-in-Handle.inside.acceptors.items c.self-in-Handle.inside.desks.items c.self-in-Handle.inside.callers.items c.self-in-Handle.inside.flow c.self-in-Handle.inside.record)) c.no_memory.ensures;

@@ -26,7 +26,7 @@ pub returns-in-Err-clause-answers : goal.returns-in-Err-clause-answers
 returns-in-Err-clause-answers g c state at =
     let known : c.self.inside.proposers ≡ state.world.last_proposer = sym c.self.invariant.known ∙ ap (λ (v : Stage _ _). v.world.last_proposer) c.self.view_is ∙ ap (λ (w : View _ _). w.last_proposer) at.world in
     IfOk-weaker c.answer_refusal.result (λ text. (c.in-Err.refusal.why ≢ why.NoMemory) × (vec_items text ≡ bad_line c.number.result c.in-Err.refusal.why))
-    (λ text. AnswersLine (meaning {S = g.row.S.Denot} g.S.Shelf.contents g.S.Shelf.tells g.S.Shelf.may_leave g.S.Shelf.fault_count g.V.Disk.tells g.V.Disk.may_leave g.V.Disk.fault_count) c.args.self.now.tries state c.args.line.now.bytes c.args.line.now.number (vec_items text) c.args.self.now)
+    (λ text. AnswersLine (meaning g.S.Shelf g.V.Disk) c.args.self.now.tries state c.args.line.now.bytes c.args.line.now.number (vec_items text) c.args.self.now)
     (λ text h. record {
       answer = Bad c.in-Err.refusal.why;
       new = state;

@@ -9,13 +9,13 @@ use Rattle.casreg_script.proofs.script.Script.run_change.Goals as goal
 
 pub invariant_of-self : goal.invariant_of-self
 invariant_of-self g c =
-    change_stage (meaning {S = g.row.S.Denot} g.S.Shelf.contents g.S.Shelf.tells g.S.Shelf.may_leave g.S.Shelf.fault_count g.V.Disk.tells g.V.Disk.may_leave g.V.Disk.fault_count) c.self.inside.world c.change.new.world c.self.inside.network c.change.new.network c.self.inside.halts _ c.self.inside.tries c.self.inside.proposers c.args.asked.now.caller c.args.asked.now.key.now c.args.asked.now.program
+    change_stage (meaning g.S.Shelf g.V.Disk) c.self.inside.world c.change.new.world c.self.inside.network c.change.new.network c.self.inside.halts _ c.self.inside.tries c.self.inside.proposers c.args.asked.now.caller c.args.asked.now.key.now c.args.asked.now.program
     (slice_index_or c.self.inside.halts c.from.result nowhere) c.change.new.halt c.change.result c.self.invariant c.change.ensures.last_proposer c.change.ensures.idle c.change.ensures.change
 
 pub returns-clause-runs : goal.returns-clause-runs
 returns-clause-runs g c state at =
-    subst (λ (n : ℕ). Runs (RunsChange (meaning {S = g.row.S.Denot} g.S.Shelf.contents g.S.Shelf.tells g.S.Shelf.may_leave g.S.Shelf.fault_count g.V.Disk.tells g.V.Disk.may_leave g.V.Disk.fault_count) n state (record { caller = c.args.asked.now.caller; key = c.args.asked.now.key.now; program = c.args.asked.now.program }) c.change.result)
+    subst (λ (n : ℕ). Runs (RunsChange (meaning g.S.Shelf g.V.Disk) n state (record { caller = c.args.asked.now.caller; key = c.args.asked.now.key.now; program = c.args.asked.now.program }) c.change.result)
     (stage_of c.change.new.world c.change.new.network (slice_set c.self.inside.halts c.from.result c.change.new.halt) c.self.inside.tries)) (ap (λ (v : Stage _ _). v.tries) c.self.view_is)
-    (change_runs (meaning {S = g.row.S.Denot} g.S.Shelf.contents g.S.Shelf.tells g.S.Shelf.may_leave g.S.Shelf.fault_count g.V.Disk.tells g.V.Disk.may_leave g.V.Disk.fault_count) c.self.inside.world c.change.new.world c.self.inside.network c.change.new.network c.self.inside.halts c.self.inside.tries c.args.self.now state c.from.result
+    (change_runs (meaning g.S.Shelf g.V.Disk) c.self.inside.world c.change.new.world c.self.inside.network c.change.new.network c.self.inside.halts c.self.inside.tries c.args.self.now state c.from.result
     (record { caller = c.args.asked.now.caller; key = c.args.asked.now.key.now; program = c.args.asked.now.program }) c.change.new.halt c.change.result c.self.view_is at c.from.ensures
     (omega (arith, c.requires, ap (λ (v : Stage _ _). v.world.last_proposer) c.self.view_is, c.self.invariant.known, c.self.invariant.few, c.self.ranges)) (c.change.ensures.change (Ruled state.rules)))

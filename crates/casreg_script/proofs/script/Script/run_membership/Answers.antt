@@ -20,14 +20,14 @@ invariant_of-self g c = record {
   some = c.self.invariant.some;
   idle = all_idle c.self.inside.world c.change_members.new.world c.change_members.ensures.idle c.self.invariant.idle;
   quiet = c.change_members.ensures.quiet;
-  ruled = (c.self.invariant.ruled.0, ruled_after c.change_members.result c.self.inside.network c.change_members.new.network (λ a by next. ChangesMembers (meaning {S = g.row.S.Denot} g.S.Shelf.contents g.S.Shelf.tells g.S.Shelf.may_leave g.S.Shelf.fault_count g.V.Disk.tells g.V.Disk.may_leave g.V.Disk.fault_count) c.self.inside.tries by (asked_to c.args.kind c.args.id) (slice_index_or c.self.inside.halts 0 nowhere) c.self.inside.world a next c.change_members.new.halt c.change_members.new.world) (λ a by next. membership_stay (meaning {S = g.row.S.Denot} g.S.Shelf.contents g.S.Shelf.tells g.S.Shelf.may_leave g.S.Shelf.fault_count g.V.Disk.tells g.V.Disk.may_leave g.V.Disk.fault_count) c.self.inside.tries by next (asked_to c.args.kind c.args.id) (slice_index_or c.self.inside.halts 0 nowhere) c.change_members.new.halt c.self.inside.world c.change_members.new.world a) (λ same. same.1) c.change_members.ensures.changes c.change_members.ensures.err c.self.invariant.ruled.0 c.self.invariant.ruled.1);
+  ruled = (c.self.invariant.ruled.0, ruled_after c.change_members.result c.self.inside.network c.change_members.new.network (λ a by next. ChangesMembers (meaning g.S.Shelf g.V.Disk) c.self.inside.tries by (asked_to c.args.kind c.args.id) (slice_index_or c.self.inside.halts 0 nowhere) c.self.inside.world a next c.change_members.new.halt c.change_members.new.world) (λ a by next. membership_stay (meaning g.S.Shelf g.V.Disk) c.self.inside.tries by next (asked_to c.args.kind c.args.id) (slice_index_or c.self.inside.halts 0 nowhere) c.change_members.new.halt c.self.inside.world c.change_members.new.world a) (λ same. same.1) c.change_members.ensures.changes c.change_members.ensures.err c.self.invariant.ruled.0 c.self.invariant.ruled.1);
 }
 
 pub returns-clause-runs : goal.returns-clause-runs
 returns-clause-runs g c state at =
-    IfOk-weaker c.change_members.result (λ a. Through c.self.inside.network c.change_members.new.network (λ by next. ChangesMembers (meaning {S = g.row.S.Denot} g.S.Shelf.contents g.S.Shelf.tells g.S.Shelf.may_leave g.S.Shelf.fault_count g.V.Disk.tells g.V.Disk.may_leave g.V.Disk.fault_count) c.self.inside.tries by (asked_to c.args.kind c.args.id) (slice_index_or c.self.inside.halts 0 nowhere) c.self.inside.world a next c.change_members.new.halt c.change_members.new.world))
-    (λ a. Runs (RunsMembership (meaning {S = g.row.S.Denot} g.S.Shelf.contents g.S.Shelf.tells g.S.Shelf.may_leave g.S.Shelf.fault_count g.V.Disk.tells g.V.Disk.may_leave g.V.Disk.fault_count) c.args.self.now.tries state (asked_to c.args.kind c.args.id) a) (stage_of c.change_members.new.world c.change_members.new.network (slice_set c.self.inside.halts 0 c.change_members.new.halt) c.self.inside.tries))
-    (λ a h. subst (λ (n : ℕ). Runs (RunsMembership (meaning {S = g.row.S.Denot} g.S.Shelf.contents g.S.Shelf.tells g.S.Shelf.may_leave g.S.Shelf.fault_count g.V.Disk.tells g.V.Disk.may_leave g.V.Disk.fault_count) n state (asked_to c.args.kind c.args.id) a) (stage_of c.change_members.new.world c.change_members.new.network (slice_set c.self.inside.halts 0 c.change_members.new.halt) c.self.inside.tries)) (ap (λ (v : Stage _ _). v.tries) c.self.view_is)
-    (membership_runs (meaning {S = g.row.S.Denot} g.S.Shelf.contents g.S.Shelf.tells g.S.Shelf.may_leave g.S.Shelf.fault_count g.V.Disk.tells g.V.Disk.may_leave g.V.Disk.fault_count) c.self.inside.world c.change_members.new.world c.self.inside.network c.change_members.new.network c.self.inside.halts c.self.inside.tries c.args.self.now state (asked_to c.args.kind c.args.id) c.change_members.new.halt a c.self.view_is at
+    IfOk-weaker c.change_members.result (λ a. Through c.self.inside.network c.change_members.new.network (λ by next. ChangesMembers (meaning g.S.Shelf g.V.Disk) c.self.inside.tries by (asked_to c.args.kind c.args.id) (slice_index_or c.self.inside.halts 0 nowhere) c.self.inside.world a next c.change_members.new.halt c.change_members.new.world))
+    (λ a. Runs (RunsMembership (meaning g.S.Shelf g.V.Disk) c.args.self.now.tries state (asked_to c.args.kind c.args.id) a) (stage_of c.change_members.new.world c.change_members.new.network (slice_set c.self.inside.halts 0 c.change_members.new.halt) c.self.inside.tries))
+    (λ a h. subst (λ (n : ℕ). Runs (RunsMembership (meaning g.S.Shelf g.V.Disk) n state (asked_to c.args.kind c.args.id) a) (stage_of c.change_members.new.world c.change_members.new.network (slice_set c.self.inside.halts 0 c.change_members.new.halt) c.self.inside.tries)) (ap (λ (v : Stage _ _). v.tries) c.self.view_is)
+    (membership_runs (meaning g.S.Shelf g.V.Disk) c.self.inside.world c.change_members.new.world c.self.inside.network c.change_members.new.network c.self.inside.halts c.self.inside.tries c.args.self.now state (asked_to c.args.kind c.args.id) c.change_members.new.halt a c.self.view_is at
     (omega (arith, c.self.ranges)) (h (Ruled state.rules))))
     c.change_members.ensures.changes

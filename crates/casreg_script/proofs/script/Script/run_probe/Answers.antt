@@ -18,12 +18,12 @@ invariant_of-self g c = record {
   some = c.self.invariant.some;
   idle = still_idle c.self.inside.world c.probe.new.world c.probe.ensures.calls.last_proposer c.probe.ensures.calls.callers c.self.invariant.idle;
   quiet = c.probe.ensures.quiet;
-  ruled = (c.self.invariant.ruled.0, ruled_after c.probe.result c.self.inside.network c.probe.new.network (λ a by next. IsProbe (meaning {S = g.row.S.Denot} g.S.Shelf.contents g.S.Shelf.tells g.S.Shelf.may_leave g.S.Shelf.fault_count g.V.Disk.tells g.V.Disk.may_leave g.V.Disk.fault_count) by c.args.key.now c.self.inside.world a next c.probe.new.world) (λ a by next. probe_stay (meaning {S = g.row.S.Denot} g.S.Shelf.contents g.S.Shelf.tells g.S.Shelf.may_leave g.S.Shelf.fault_count g.V.Disk.tells g.V.Disk.may_leave g.V.Disk.fault_count) by next c.args.key.now c.self.inside.world c.probe.new.world a) (λ same. same.1) c.probe.ensures.probe c.probe.ensures.err c.self.invariant.ruled.0 c.self.invariant.ruled.1);
+  ruled = (c.self.invariant.ruled.0, ruled_after c.probe.result c.self.inside.network c.probe.new.network (λ a by next. IsProbe (meaning g.S.Shelf g.V.Disk) by c.args.key.now c.self.inside.world a next c.probe.new.world) (λ a by next. probe_stay (meaning g.S.Shelf g.V.Disk) by next c.args.key.now c.self.inside.world c.probe.new.world a) (λ same. same.1) c.probe.ensures.probe c.probe.ensures.err c.self.invariant.ruled.0 c.self.invariant.ruled.1);
 }
 
 pub returns-clause-runs : goal.returns-clause-runs
 returns-clause-runs g c state at =
-    IfOk-weaker c.probe.result (λ a. Through c.self.inside.network c.probe.new.network (λ by next. IsProbe (meaning {S = g.row.S.Denot} g.S.Shelf.contents g.S.Shelf.tells g.S.Shelf.may_leave g.S.Shelf.fault_count g.V.Disk.tells g.V.Disk.may_leave g.V.Disk.fault_count) by c.args.key.now c.self.inside.world a next c.probe.new.world))
-    (λ a. Runs (RunsProbe (meaning {S = g.row.S.Denot} g.S.Shelf.contents g.S.Shelf.tells g.S.Shelf.may_leave g.S.Shelf.fault_count g.V.Disk.tells g.V.Disk.may_leave g.V.Disk.fault_count) state c.args.key.now a) (stage_of c.probe.new.world c.probe.new.network c.self.inside.halts c.self.inside.tries))
-    (λ a h. probe_runs (meaning {S = g.row.S.Denot} g.S.Shelf.contents g.S.Shelf.tells g.S.Shelf.may_leave g.S.Shelf.fault_count g.V.Disk.tells g.V.Disk.may_leave g.V.Disk.fault_count) c.self.inside.world c.probe.new.world c.self.inside.network c.probe.new.network c.self.inside.halts c.self.inside.tries c.args.self.now state c.args.key.now a c.self.view_is at (h (Ruled state.rules)))
+    IfOk-weaker c.probe.result (λ a. Through c.self.inside.network c.probe.new.network (λ by next. IsProbe (meaning g.S.Shelf g.V.Disk) by c.args.key.now c.self.inside.world a next c.probe.new.world))
+    (λ a. Runs (RunsProbe (meaning g.S.Shelf g.V.Disk) state c.args.key.now a) (stage_of c.probe.new.world c.probe.new.network c.self.inside.halts c.self.inside.tries))
+    (λ a h. probe_runs (meaning g.S.Shelf g.V.Disk) c.self.inside.world c.probe.new.world c.self.inside.network c.probe.new.network c.self.inside.halts c.self.inside.tries c.args.self.now state c.args.key.now a c.self.view_is at (h (Ruled state.rules)))
     c.probe.ensures.probe

@@ -19,10 +19,10 @@ invariant_of-self g c =
     let is = change_of c.self.inside.task (sym c.is_change.ensures ∙ c.if-not-is_change.false) in
     let was = subst (IsPlay c.self.inside.world c.self.inside.proposers c.self.inside.calls) is.1 c.self.invariant in
     subst (IsPlay c.enter_era.new.self c.self.inside.proposers c.self.inside.calls) (sym is.1)
-    (enters (meaning {S = g.row.S.Denot} g.S.Shelf.contents g.S.Shelf.tells g.S.Shelf.may_leave g.S.Shelf.fault_count g.V.Disk.tells g.V.Disk.may_leave g.V.Disk.fault_count) c.self.inside.world c.enter_era.new.self c.in-Some.proposer _ c.self.inside.proposers c.self.inside.calls was c.in-Some.ensures.known
+    (enters (meaning g.S.Shelf g.V.Disk) c.self.inside.world c.enter_era.new.self c.in-Some.proposer _ c.self.inside.proposers c.self.inside.calls was c.in-Some.ensures.known
     (subst (IsUnderWay c.enter_era.new.self) was.order.is_for (c.in-Ok.ensures.ok was.order.order was.order.is_open)) c.enter_era.ensures.step)
 
 pub invariant_of-self-in-Err : goal.invariant_of-self-in-Err
 invariant_of-self-in-Err g c =
-    is_told (meaning {S = g.row.S.Denot} g.S.Shelf.contents g.S.Shelf.tells g.S.Shelf.may_leave g.S.Shelf.fault_count g.V.Disk.tells g.V.Disk.may_leave g.V.Disk.fault_count) c.self.inside.world c.enter_era.new.self c.tell-told.new.self _ c.self.inside.proposers c.self.inside.calls _ c.self.invariant (enter_idle (meaning {S = g.row.S.Denot} g.S.Shelf.contents g.S.Shelf.tells g.S.Shelf.may_leave g.S.Shelf.fault_count g.V.Disk.tells g.V.Disk.may_leave g.V.Disk.fault_count) c.self.inside.world c.enter_era.new.self c.in-Some.proposer c.enter_era.ensures.step)
-    (steps_are_safe (meaning {S = g.row.S.Denot} g.S.Shelf.contents g.S.Shelf.tells g.S.Shelf.may_leave g.S.Shelf.fault_count g.V.Disk.tells g.V.Disk.may_leave g.V.Disk.fault_count) c.self.inside.world (step.EnterEra c.in-Some.proposer) c.enter_era.new.self c.self.invariant.safe c.enter_era.ensures.step) c.tell-told.ensures.step
+    is_told (meaning g.S.Shelf g.V.Disk) c.self.inside.world c.enter_era.new.self c.tell-told.new.self _ c.self.inside.proposers c.self.inside.calls _ c.self.invariant (enter_idle (meaning g.S.Shelf g.V.Disk) c.self.inside.world c.enter_era.new.self c.in-Some.proposer c.enter_era.ensures.step)
+    (steps_are_safe (meaning g.S.Shelf g.V.Disk) c.self.inside.world (step.EnterEra c.in-Some.proposer) c.enter_era.new.self c.self.invariant.safe c.enter_era.ensures.step) c.tell-told.ensures.step

@@ -20,15 +20,15 @@ invariant_of-self g c =
     let is = collection_of c.self.inside.task (sym c.is_collection.ensures ∙ c.if-not-is_collection.false) in
     let was = subst (IsPlay c.self.inside.world c.self.inside.proposers c.self.inside.calls) is.1 c.self.invariant in
     let due = due_renewal c.self.inside.world _ c.in-Some.proposer was.order (sym c.renew_next.ensures.next ∙ c.in-Some.is) in
-    let now = goes_renewing (meaning {S = g.row.S.Denot} g.S.Shelf.contents g.S.Shelf.tells g.S.Shelf.may_leave g.S.Shelf.fault_count g.V.Disk.tells g.V.Disk.may_leave g.V.Disk.fault_count) c.self.inside.world c.renew.new.self _ c.in-Some.proposer c.in-Some.ensures.known due c.in-Ok.ensures.ok c.renew.ensures.step in
+    let now = goes_renewing (meaning g.S.Shelf g.V.Disk) c.self.inside.world c.renew.new.self _ c.in-Some.proposer c.in-Some.ensures.known due c.in-Ok.ensures.ok c.renew.ensures.step in
     subst (IsPlay c.renew.new.self c.self.inside.proposers c.self.inside.calls) (sym is.1)
     (collects c.self.inside.world c.renew.new.self _ c.self.inside.proposers c.self.inside.calls _ was was.still
-    (step_goes (meaning {S = g.row.S.Denot} g.S.Shelf.contents g.S.Shelf.tells g.S.Shelf.may_leave g.S.Shelf.fault_count g.V.Disk.tells g.V.Disk.may_leave g.V.Disk.fault_count) c.self.inside.world c.renew.new.self (step.Renew c.in-Some.proposer) c.renew.ensures.step (renew_idle (meaning {S = g.row.S.Denot} g.S.Shelf.contents g.S.Shelf.tells g.S.Shelf.may_leave g.S.Shelf.fault_count g.V.Disk.tells g.V.Disk.may_leave g.V.Disk.fault_count) c.self.inside.world c.renew.new.self c.in-Some.proposer c.renew.ensures.step)) now (quiet_in c.renew.new.self _ now))
+    (step_goes (meaning g.S.Shelf g.V.Disk) c.self.inside.world c.renew.new.self (step.Renew c.in-Some.proposer) c.renew.ensures.step (renew_idle (meaning g.S.Shelf g.V.Disk) c.self.inside.world c.renew.new.self c.in-Some.proposer c.renew.ensures.step)) now (quiet_in c.renew.new.self _ now))
 
 pub invariant_of-self-in-Err : goal.invariant_of-self-in-Err
 invariant_of-self-in-Err g c =
     rests c.self.inside.world c.tell-told.new.self c.self.inside.proposers c.self.inside.calls _ c.self.invariant
     (then_goes c.self.inside.world c.renew.new.self c.tell-told.new.self
-    (step_goes (meaning {S = g.row.S.Denot} g.S.Shelf.contents g.S.Shelf.tells g.S.Shelf.may_leave g.S.Shelf.fault_count g.V.Disk.tells g.V.Disk.may_leave g.V.Disk.fault_count) c.self.inside.world c.renew.new.self (step.Renew c.in-Some.proposer) c.renew.ensures.step (renew_idle (meaning {S = g.row.S.Denot} g.S.Shelf.contents g.S.Shelf.tells g.S.Shelf.may_leave g.S.Shelf.fault_count g.V.Disk.tells g.V.Disk.may_leave g.V.Disk.fault_count) c.self.inside.world c.renew.new.self c.in-Some.proposer c.renew.ensures.step))
-    (tell_goes (meaning {S = g.row.S.Denot} g.S.Shelf.contents g.S.Shelf.tells g.S.Shelf.may_leave g.S.Shelf.fault_count g.V.Disk.tells g.V.Disk.may_leave g.V.Disk.fault_count) c.renew.new.self c.tell-told.new.self _ c.tell-told.ensures.step))
+    (step_goes (meaning g.S.Shelf g.V.Disk) c.self.inside.world c.renew.new.self (step.Renew c.in-Some.proposer) c.renew.ensures.step (renew_idle (meaning g.S.Shelf g.V.Disk) c.self.inside.world c.renew.new.self c.in-Some.proposer c.renew.ensures.step))
+    (tell_goes (meaning g.S.Shelf g.V.Disk) c.renew.new.self c.tell-told.new.self _ c.tell-told.ensures.step))
     (quiet_after c.renew.new.self c.tell-told.new.self _ c.tell-told.ensures.step)
