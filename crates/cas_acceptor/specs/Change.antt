@@ -17,11 +17,11 @@ changed old (Remove key) = without_kept old key.now
 changed old (Raise least) = with_raised old least.now
 
 -- there is no room for the change
-abbrev pub IsFull : Contents → Change → Type 0
-IsFull old Nothing = ⊥
-IsFull old (Put key slot) = IsFullFor old.slots key.now
-IsFull old (Remove key) = ⊥
-IsFull old (Raise least) = ⊥
+abbrev pub HasNoRoomForChange : Contents → Change → Type 0
+HasNoRoomForChange old Nothing = ⊥
+HasNoRoomForChange old (Put key slot) = IsFullFor old.slots key.now
+HasNoRoomForChange old (Remove key) = ⊥
+HasNoRoomForChange old (Raise least) = ⊥
 
 -- the ballots of what is put are within their limits
 abbrev pub ChangeBallotsFit : Change → Type 0
@@ -30,5 +30,5 @@ ChangeBallotsFit other = Unit {0}
 
 -- what a question is told and what is changed for it: by the table, both where there is room and where there is none
 pub record Decides (old : Contents) (question : Ask) (answer : Tell) (change : Change) : Type 0 where
-  pub room : ¬ (IsFull old change) → Answers old question answer (changed old change)
-  pub none : IsFull old change → Answers old question tell.Full old
+  pub room : ¬ (HasNoRoomForChange old change) → Answers old question answer (changed old change)
+  pub none : HasNoRoomForChange old change → Answers old question tell.Full old

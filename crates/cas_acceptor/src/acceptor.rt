@@ -4,8 +4,8 @@ ghost use Rattle.std.specs.Prelude.{◌≡◌, ◌⊎◌, ◌≤◌, ◌↔◌, 
 ghost use Rattle.cas_base.specs.Faults.{Rose};
 ghost use Rattle.cas_slot.specs.Contents.{nothing};
 ghost use Rattle.cas_slot.specs.Limits.{AskBallotsFit, TellFits};
-ghost use Rattle.cas_slot.specs.Shelf.{OnlyLeaves, LeavesOnly, IsSettled, HasShelfCause};
-ghost use Rattle.cas_slot.specs.Table.{IsAnswered, Handles};
+ghost use Rattle.cas_slot.specs.Shelf.{OnlyLeaves, ShelfLeavesOnly, NothingIsPending, HasShelfCause};
+ghost use Rattle.cas_slot.specs.Table.{IsReplyByTable, Handles};
 ghost use Rattle.cas_acceptor.specs.Acceptor.{LeavesByTable};
 
 use crate::change::carry_out;
@@ -107,10 +107,10 @@ impl<S: Shelf> Acceptor<S> {
     pub fn handle(&mut self, request: &Request) -> Result<Reply, HandleFault>
         requires known { request.now.from ≤ 16 }
         requires fits { AskBallotsFit request.now.ask }
-        ensures table { IfOk result (λ reply. IsAnswered self.old.id (S.contents self.old.shelf) request.now reply (S.contents self.new.shelf)) }
+        ensures table { IfOk result (λ reply. IsReplyByTable self.old.id (S.contents self.old.shelf) request.now reply (S.contents self.new.shelf)) }
         ensures told { IfOk result (λ reply. TellFits reply.tell) }
         ensures kept { S.tells → self.new.down ≡ false → OnlyLeaves (S.contents self.new.shelf) (S.may_leave self.new.shelf) }
-        ensures any_moment { S.tells → self.old.down ≡ false → LeavesOnly S.moment S.left_since self.old.shelf self.new.shelf (LeavesByTable (S.contents self.old.shelf) request.now) }
+        ensures any_moment { S.tells → self.old.down ≡ false → ShelfLeavesOnly S.moment S.left_since self.old.shelf self.new.shelf (LeavesByTable (S.contents self.old.shelf) request.now) }
         ensures err { OnErr result (S.contents self.new.shelf ≡ S.contents self.old.shelf) }
         ensures was_down { IsTrue self.old.down → (result ≡ Err HandleFault.Down) × (self.new ≡ self.old) }
         ensures down { IsErrOf result HandleFault.Down ↔ IsTrue self.new.down }
@@ -136,8 +136,8 @@ impl<S: Shelf> Acceptor<S> {
     /// Crashes. The acceptor is down until it is restarted, and nothing is pending on its shelf's disk.
     pub fn crash(&mut self)
         ensures down { IsTrue self.new.down }
-        ensures settled { S.tells → IsSettled (S.may_leave self.old.shelf) (S.may_leave self.new.shelf) }
-        ensures any_moment { S.tells → LeavesOnly S.moment S.left_since self.old.shelf self.new.shelf (S.may_leave self.old.shelf) }
+        ensures settled { S.tells → NothingIsPending (S.may_leave self.old.shelf) (S.may_leave self.new.shelf) }
+        ensures any_moment { S.tells → ShelfLeavesOnly S.moment S.left_since self.old.shelf self.new.shelf (S.may_leave self.old.shelf) }
         ensures never_falls { S.fault_count self.old.shelf ≤ S.fault_count self.new.shelf }
         ensures same { (self.new.id ≡ self.old.id) × (self.new.started ≡ self.old.started) }
     {
@@ -161,7 +161,7 @@ impl<S: Shelf> Acceptor<S> {
         ensures not_started { OnErr result (self.new.started ≡ self.old.started) }
         ensures afresh { IsTrue self.old.down → self.old.started ≡ false → OnOk result (S.contents self.new.shelf ≡ nothing) }
         ensures reopened { S.tells → IsTrue self.old.down → IsTrue self.old.started → OnOk result (S.may_leave self.old.shelf (Ok (S.contents self.new.shelf))) }
-        ensures any_moment { S.tells → IsTrue self.old.started → LeavesOnly S.moment S.left_since self.old.shelf self.new.shelf (S.may_leave self.old.shelf) }
+        ensures any_moment { S.tells → IsTrue self.old.started → ShelfLeavesOnly S.moment S.left_since self.old.shelf self.new.shelf (S.may_leave self.old.shelf) }
         ensures err { OnErr result (S.contents self.new.shelf ≡ S.contents self.old.shelf) }
         ensures foreign { S.tells → (at : ℕ) → IsErrOf result (ShelfFault.Foreign at) → S.may_leave self.old.shelf (Err at) }
         ensures start_not_foreign { self.old.started ≡ false → (at : ℕ) → IsErrOf result (ShelfFault.Foreign at) → ⊥ }
@@ -190,7 +190,7 @@ fn tell<S: Shelf>(shelf: &mut S, request: &Request) -> Result<Tell, HandleFault>
     requires fits { AskBallotsFit request.now.ask }
     ensures table { IfOk result (λ tell. Handles (S.contents shelf.old) request.now tell (S.contents shelf.new)) }
     ensures told { IfOk result TellFits }
-    ensures any_moment { S.tells → LeavesOnly S.moment S.left_since shelf.old shelf.new (LeavesByTable (S.contents shelf.old) request.now) }
+    ensures any_moment { S.tells → ShelfLeavesOnly S.moment S.left_since shelf.old shelf.new (LeavesByTable (S.contents shelf.old) request.now) }
     ensures err { OnErr result (S.contents shelf.new ≡ S.contents shelf.old) }
     ensures up { OnOk result (S.is_up shelf.new) }
     ensures up_still { IsErrOf result HandleFault.NoMemory → S.is_up shelf.new }

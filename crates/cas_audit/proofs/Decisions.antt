@@ -22,7 +22,7 @@ use Rattle.cas_record.specs.Places.{At, Stands, IsOlderPart, IsPrefix, here, pas
 use Rattle.cas_record.specs.Histories.Chain.{is_key, has_calls, has_proposal, opens_at, link_of, entry_of, program_of, chain_of, top_of, settled_of}
 use Rattle.cas_record.specs.Kept.Index.{floor_at}
 use Rattle.cas_record.specs.Histories.Replay.{replay_from, opening_state}
-use Rattle.cas_record.specs.Legal.{IsBegun, IsProposed, IsEnded, IsNumbered, DoesStand, tells_refused, tells_unsettled, HasVotes, HasFloor, IsAcked, IsOpening, IsLegal}
+use Rattle.cas_record.specs.Legal.{IsBegun, IsProposed, IsEnded, IsNumbered, DoesStand, tells_refused, tells_unsettled, HasVotes, HasFloor, IsAcked, IsOpeningFloor, IsLegal}
 use Rattle.cas_record.proofs.PlaceLemmas.{stands_at, stands_part, part_at, length-prefix}
 use Rattle.cas_record.proofs.Tests.{key_same, key_refl, nat_same, nat_is}
 use Rattle.cas_record.proofs.Histories.Lemmas.{placed}
@@ -458,7 +458,7 @@ floor_settled key ballot state older legal =
 pub acked_settled : (a : Acknowledgment) (older : List Mark) → settled_of a.key (Acked a ∷ older) ≡ chain_of a.key (greater_of a.ballot (top_of a.key older)) older
 acked_settled a older = ap (λ b. chain_of a.key b older) (if_true (is_key a.key a.key) (greater_of a.ballot (top_of a.key older)) (top_of a.key older) (key_refl a.key))
 
-pub opening_told : {key : List ℕ} {marks : List Mark} → has_calls marks ≡ false → is_some (floor_at key marks) ≡ false → IsOpening key marks
+pub opening_told : {key : List ℕ} {marks : List Mark} → has_calls marks ≡ false → is_some (floor_at key marks) ≡ false → IsOpeningFloor key marks
 opening_told {key} {marks} none floorless = record {
   none_begun = λ caller call k program begun. no_calls none begun.at;
   first = λ stands. not_both (is_some (floor_at key marks)) (floor_is stands.at) floorless;

@@ -65,7 +65,7 @@ pub record AreTables (tables : Tables) (marks : List Mark) : Type 0 where
   pub calls_began : tables.has_calls ≡ has_calls marks
 
 -- one further entry finds room in each table
-pub record HasRoom (tables : Tables) : Type 0 where
+pub record HasRoomInTables (tables : Tables) : Type 0 where
   pub counts : 0 < spare tables.counts
   pub calls : 0 < spare tables.calls
   pub rows : 0 < spare tables.rows

@@ -7,7 +7,7 @@ ghost use Rattle.cas_ballot.specs.Members.{has_member, IsMemberSet};
 ghost use Rattle.cas_record.specs.declared.entry.Entry.{Entry};
 ghost use Rattle.cas_record.specs.declared.mark.Mark.{Mark};
 ghost use Rattle.cas_record.specs.Histories.Chain.{chain_of, top_of, settled_of};
-ghost use Rattle.cas_record.specs.Legal.{IsFirstProposal, IsFirstEnd, IsBegun, DoesStand, HasVotes, IsOpening, IsFloor, harms_due, tells_refused, tells_unsettled};
+ghost use Rattle.cas_record.specs.Legal.{IsFirstProposal, IsFirstEnd, IsBegun, DoesStand, HasVotes, IsOpeningFloor, IsFloor, harms_due, tells_refused, tells_unsettled};
 ghost use Rattle.cas_record.specs.Places.{IsPrefix};
 ghost use Rattle.cas_audit.specs.Told.{node_of, chain_from, Reaches};
 ghost use Rattle.cas_audit.specs.Tables.{AreTables, IsAudit, ChangeAt, IsChangeAt, key_at};
@@ -417,7 +417,7 @@ impl Tables {
 
     /// Whether a floor that is made next opens the key's history.
     fn may_open(&self, key: &Key) -> bool
-        ensures { (marks : List Mark) → IsAudit self.now marks → IsTrue result ↔ IsOpening key.now marks }
+        ensures { (marks : List Mark) → IsAudit self.now marks → IsTrue result ↔ IsOpeningFloor key.now marks }
     {
         !self.has_calls && self.row_of(key).floor.is_none()
     }

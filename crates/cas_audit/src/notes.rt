@@ -15,7 +15,7 @@ ghost use Rattle.cas_record.specs.Places.{IsPrefix};
 ghost use Rattle.cas_record.specs.Legal.{IsBegun, IsLegal};
 ghost use Rattle.cas_record.specs.Histories.Replay.{replay_from, opening_state};
 ghost use Rattle.cas_audit.specs.Told.{opening_of, start_of, most_below, node_by, raised_row, Reaches};
-ghost use Rattle.cas_audit.specs.Tables.{AreTables, ballots_in, IsAudit, IsFoundIn, HasRoom, program_at, same_place};
+ghost use Rattle.cas_audit.specs.Tables.{AreTables, ballots_in, IsAudit, IsFoundIn, HasRoomInTables, program_at, same_place};
 ghost use Rattle.indexmap.specs.IndexMap.{get, spare};
 
 use crate::tables::{Tables, put};
@@ -30,7 +30,7 @@ use std::collections::BTreeSet;
 impl Tables {
     /// Notes that a call began, by the mark at this place.
     fn note_begun(&mut self, place: usize, caller: u8, call: u32, key: &Key)
-        requires { HasRoom self.old }
+        requires { HasRoomInTables self.old }
         ensures { (marks : List Mark) (program : List Clause) → AreTables self.old marks → place ≡ length marks → IsLegal (Begun caller call key.now program ∷ marks)
             → AreTables self.new (Begun caller call key.now program ∷ marks) }
     {
@@ -53,7 +53,7 @@ impl Tables {
 
     /// Notes that a call was answered.
     fn note_ended(&mut self, caller: u8, call: u32)
-        requires { HasRoom self.old }
+        requires { HasRoomInTables self.old }
         ensures { (marks : List Mark) (rounds : ℕ) (answer : Answer) → AreTables self.old marks → IsLegal (Ended caller call rounds answer ∷ marks)
             → AreTables self.new (Ended caller call rounds answer ∷ marks) }
     {
@@ -73,7 +73,7 @@ impl Tables {
 
     /// Notes that a frame of a call was harmed.
     fn note_harmed(&mut self, marks: &[Mark], caller: u8, call: u32)
-        requires room { HasRoom self.old }
+        requires room { HasRoomInTables self.old }
         requires tables { AreTables self.old (reverse marks.now) }
         requires few { length marks.now < 2 ^ 32 }
         ensures { (down : Bool) → IsLegal (Harmed caller call down ∷ reverse marks.now) → AreTables self.new (Harmed caller call down ∷ reverse marks.now) }
@@ -99,7 +99,7 @@ impl Tables {
         key: &Key,
         ballot: Ballot,
     ) -> Result<(), AllocError>
-        requires { HasRoom self.old }
+        requires { HasRoomInTables self.old }
         ensures ok { OnOk result ((marks : List Mark) → AreTables self.old marks → IsLegal (Voted acceptor key.now ballot ∷ marks)
             → AreTables self.new (Voted acceptor key.now ballot ∷ marks)) }
         ensures err { OnErr result (self.new ≡ self.old) }
@@ -213,7 +213,7 @@ impl Tables {
 
     /// Notes a proposal. After an `Err` all is as before.
     fn note_proposed(&mut self, marks: &[Mark], p: &Proposal) -> Result<(), AllocError>
-        requires room { HasRoom self.old }
+        requires room { HasRoomInTables self.old }
         requires audit { IsAudit self.old (reverse marks.now) }
         requires legal { IsLegal (Proposed p.now ∷ reverse marks.now) }
         requires few { length marks.now < 2 ^ 32 }
@@ -241,7 +241,7 @@ impl Tables {
     /// Keeps the ballot of the change that is settled at the place.
     fn keep_settled(&mut self, key: &Key, place: usize, ballot: Ballot) -> Result<(), AllocError>
         ensures tables { (marks : List Mark) → AreTables self.old marks → length (settled_of key.now marks) ≤ place → AreTables self.new marks }
-        ensures room { HasRoom self.old → HasRoom self.new }
+        ensures room { HasRoomInTables self.old → HasRoomInTables self.new }
         ensures put { OnOk result ((q : List ℕ × ℕ) → get same_place self.new.settled q ≡ (if same_place (key.now, place) q then Some ballot else get same_place self.old.settled q)) }
     {
         keep(&mut self.settled, key, place, ballot)?;
@@ -256,7 +256,7 @@ impl Tables {
         found: Option<Ballot>,
     ) -> Result<Option<Ballot>, AllocError>
         ensures tables { (marks : List Mark) → AreTables self.old marks → length (settled_of key.now marks) ≤ place → AreTables self.new marks }
-        ensures room { HasRoom self.old → HasRoom self.new }
+        ensures room { HasRoomInTables self.old → HasRoomInTables self.new }
         ensures next { IfOk result (λ next. (marks : List Mark) → IsAudit self.old marks → (entries : List Entry) (count : ℕ)
             → Reaches key.now found marks entries (suc count) → Reaches key.now next marks entries count) }
         ensures here { OnOk result ((marks : List Mark) (entries : List Entry) → Reaches key.now found marks entries (suc place)
@@ -275,7 +275,7 @@ impl Tables {
     /// many there are in all.
     fn settle(&mut self, key: &Key, ballot: Ballot, settled: usize) -> Result<usize, AllocError>
         ensures tables { (marks : List Mark) → IsAudit self.old marks → settled ≡ length (settled_of key.now marks) → AreTables self.new marks }
-        ensures room { HasRoom self.old → HasRoom self.new }
+        ensures room { HasRoomInTables self.old → HasRoomInTables self.new }
         ensures long { IfOk result (λ long. (marks : List Mark) → IsAudit self.old marks → long ≡ length (chain_of key.now ballot marks)) }
         ensures found { IfOk result (λ long. (marks : List Mark) → IsAudit self.old marks → settled ≡ length (settled_of key.now marks) → (place : ℕ) → settled ≤ place → place < long
             → IsFoundIn key.now marks (chain_of key.now ballot marks) place (get same_place self.new.settled (key.now, place))) }
@@ -291,7 +291,7 @@ impl Tables {
     /// The row of the key once the ballot is acknowledged or made a floor, but for its floor.
     fn raise(&mut self, key: &Key, ballot: Ballot) -> Result<Row, AllocError>
         ensures tables { (marks : List Mark) → IsAudit self.old marks → AreTables self.new marks }
-        ensures room { HasRoom self.old → HasRoom self.new }
+        ensures room { HasRoomInTables self.old → HasRoomInTables self.new }
         ensures row { IfOk result (λ row. (marks : List Mark) → IsAudit self.old marks → row ≡ raised_row key.now ballot marks) }
         ensures found { IfOk result (λ row. (marks : List Mark) → IsAudit self.old marks → IsPrefix (settled_of key.now marks) (chain_of key.now (greater_of ballot (top_of key.now marks)) marks)
             → (place : ℕ) → place < row.settled → IsFoundIn key.now marks (chain_of key.now (greater_of ballot (top_of key.now marks)) marks) place (get same_place self.new.settled (key.now, place))) }
@@ -350,7 +350,7 @@ impl Tables {
 
     /// Notes an acknowledgment.
     fn note_acked(&mut self, a: &Acknowledgment) -> Result<(), AllocError>
-        requires { HasRoom self.old }
+        requires { HasRoomInTables self.old }
         ensures ok { OnOk result ((marks : List Mark) → IsAudit self.old marks → IsLegal (Acked a.now ∷ marks) → AreTables self.new (Acked a.now ∷ marks)) }
         ensures err { OnErr result ((marks : List Mark) → IsAudit self.old marks → AreTables self.new marks) }
     {
@@ -372,7 +372,7 @@ impl Tables {
 
     /// Notes a floor.
     fn note_floor(&mut self, key: &Key, ballot: Ballot, state: &State) -> Result<(), AllocError>
-        requires { HasRoom self.old }
+        requires { HasRoomInTables self.old }
         ensures ok { OnOk result ((marks : List Mark) → IsAudit self.old marks → IsLegal (Floor key.now ballot state.now ∷ marks) → AreTables self.new (Floor key.now ballot state.now ∷ marks)) }
         ensures err { OnErr result ((marks : List Mark) → IsAudit self.old marks → AreTables self.new marks) }
     {

@@ -8,7 +8,7 @@ ghost use Rattle.cas_record.specs.declared.mark.Mark.{Mark};
 ghost use Rattle.cas_record.specs.Legal.{calls_of};
 ghost use Rattle.cas_record.specs.Histories.Chain.{settled_of};
 ghost use Rattle.cas_audit.specs.Told.{call_of, row_of, opening_of, node_of, spot_of};
-ghost use Rattle.cas_audit.specs.Tables.{AreTables, HasRoom, IsFoundAt};
+ghost use Rattle.cas_audit.specs.Tables.{AreTables, HasRoomInTables, IsFoundAt};
 
 use crate::told::{Call, Node, Opening, Row, Spot};
 use cas_ballot::{Ballot, Members};
@@ -66,7 +66,7 @@ impl Tables {
 
     /// Makes room for what one mark more adds. The tables stay those of the same marks, also after an `Err`.
     pub fn reserve(&mut self) -> Result<(), AllocError>
-        ensures room { OnOk result (HasRoom self.new) }
+        ensures room { OnOk result (HasRoomInTables self.new) }
         ensures same { (marks : List Mark) → AreTables self.old marks → AreTables self.new marks }
     {
         self.counts.reserve(1)?;

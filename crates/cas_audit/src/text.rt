@@ -4,7 +4,7 @@ ghost use Rattle.std.specs.Prelude.{◌≡◌, ◌≢◌, ℕ, ◌+◌, ◌<◌,
 ghost use Rattle.std.specs.Io.KnownBytes.{Appends, IsAtEnd};
 ghost use Rattle.cas_base.specs.Faults.{Rose};
 ghost use Rattle.cas_lines.specs.Lines.{Whole, TooMany, TooLong, ending_of};
-ghost use Rattle.cas_audit.specs.Spelling.Progress.{IsProgress, IsFoundIn, WroteFront};
+ghost use Rattle.cas_audit.specs.Spelling.Progress.{IsProgress, IsFoundInInput, WroteFront};
 ghost use Rattle.cas_audit.specs.Spelling.Texts.{RecordsAreRead, IsFound, line_count, finding_line};
 ghost use Rattle.cas_lines.specs.declared.lines.TheConstants.{MOST_LINES};
 ghost use Rattle.cas_audit.specs.declared.text.AuditFault.TheVariants.{WriteFault, NoMemory};
@@ -203,7 +203,7 @@ impl TextAudit {
 
 /// What is found in the whole text.
 fn find<S: Source>(alloc: Global, source: &mut S) -> Result<Finding, AuditFault>
-    ensures found { IfOk result (λ finding. IsFoundIn S.take_gives source.old source.new (S.remaining source.old) finding) }
+    ensures found { IfOk result (λ finding. IsFoundInInput S.take_gives source.old source.new (S.remaining source.old) finding) }
     ensures read { OnOk result (IsAtEnd (S.remaining source.new)) }
     ensures whole { OnOk result (IfSome (S.remaining source.old) (λ input. ending_of input ≡ Whole)) }
     ensures too_many { IsErrOf result AuditFault.TooManyLines → IfSome (S.remaining source.old) (λ input. ending_of input ≡ TooMany) }
@@ -233,7 +233,7 @@ pub fn audit_text<S: Source, K: Sink>(
     source: &mut S,
     sink: &mut K,
 ) -> Result<Finding, AuditFault>
-    ensures found { IfOk result (λ finding. IsFoundIn S.take_gives source.old source.new (S.remaining source.old) finding) }
+    ensures found { IfOk result (λ finding. IsFoundInInput S.take_gives source.old source.new (S.remaining source.old) finding) }
     ensures written { IfOk result (λ finding. Appends (K.contents sink.old) (K.contents sink.new) (finding_line finding)) }
     ensures read { OnOk result (IsAtEnd (S.remaining source.new)) }
 

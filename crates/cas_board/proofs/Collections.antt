@@ -3,7 +3,7 @@ use Rattle.std.proofs.Common.{◌≡◌, ℕ, List, sym, ap, subst, ◌∙◌}
 use Rattle.std.specs.Prelude.{Result, IfOk}
 use Rattle.cas_record.specs.declared.mark.Mark.{Mark}
 use Rattle.cas_model.specs.View.{View}
-use Rattle.cas_turn.specs.Seen.{HasSeen}
+use Rattle.cas_turn.specs.Seen.{HasSeenOwn}
 use Rattle.cas_turn.specs.Sitting.{Sitting}
 use Rattle.cas_board_steps.specs.Collection.Collecting.{HasCourse}
 use Rattle.cas_board_steps.specs.Mine.{wanted_by}
@@ -27,7 +27,7 @@ course_still key tries course.Removes own marks marks_then same has = has
 course_still key tries course.HearsRemovals own marks marks_then same has = has
 
 -- a hold finds it as the pass tells
-pub course_held : {S V : Type 0} (key : List ℕ) (tries : ℕ) (come : Course) (number : ℕ) (inside before : View S V) (own : List ℕ) (seen : List Mark) → number ≡ 0 → inside ≡ before → own_part before number ≡ own → HasSeen owner_of number seen before.marks → HasCourse key tries come own seen → HasCourse key tries come (own_part inside 0) inside.marks
+pub course_held : {S V : Type 0} (key : List ℕ) (tries : ℕ) (come : Course) (number : ℕ) (inside before : View S V) (own : List ℕ) (seen : List Mark) → number ≡ 0 → inside ≡ before → own_part before number ≡ own → HasSeenOwn owner_of number seen before.marks → HasCourse key tries come own seen → HasCourse key tries come (own_part inside 0) inside.marks
 course_held {S} {V} key tries come number inside before own seen is_first same part has was =
     course_still key tries come (own_part inside 0) seen inside.marks (ap (λ (v : View S V). wanted_by 0 v.marks) same ∙ wanted_held number seen before.marks is_first has)
     (subst (λ (o : List ℕ). HasCourse key tries come o seen) (sym (operator_part number inside before own is_first same part)) was)

@@ -10,7 +10,7 @@ use Rattle.cas_model.specs.Step.{IsOpening}
 use Rattle.cas_model.specs.View.{Meaning, View, CallerView, IsAt, new_caller}
 use Rattle.cas_turn.specs.Sitting.{Sitting, Turning, fresh_seat, fresh_seats}
 use Rattle.cas_board.specs.Passes.{IsPassOf}
-use Rattle.cas_board_steps.specs.Calls.Open.{IsFree}
+use Rattle.cas_board_steps.specs.Calls.Open.{NothingIsOpen}
 use Rattle.cas_board_steps.specs.Kept.{IsKept}
 use Rattle.cas_board_steps.specs.OwnParts.{caller_part, council_part, own_part}
 
@@ -37,8 +37,8 @@ opening_parts m members view opening zero = ap (λ (l : List ℕ). l ++ council_
 opening_parts m members view opening (suc n) = caller_none m members view opening (suc n)
 
 -- each pass of a new board is that board's, and has nothing open
-pub fresh_passes : {V : Type 0} (turn : Turning) (count : ℕ) → turn.seats ≡ count → count ≤ 17 → All (λ (p : Sitting V Mark). IsPassOf turn p × IsFree p.own) (fresh_seats turn.id count)
-fresh_passes {V} turn count many few = All-map (λ (p : Sitting V Mark). IsPassOf turn p × IsFree p.own) (fresh_seat turn.id count) (range_with_len 0 count) (λ k d low. (
+pub fresh_passes : {V : Type 0} (turn : Turning) (count : ℕ) → turn.seats ≡ count → count ≤ 17 → All (λ (p : Sitting V Mark). IsPassOf turn p × NothingIsOpen p.own) (fresh_seats turn.id count)
+fresh_passes {V} turn count many few = All-map (λ (p : Sitting V Mark). IsPassOf turn p × NothingIsOpen p.own) (fresh_seat turn.id count) (range_with_len 0 count) (λ k d low. (
   record { turn = refl; seats = sym many; idle = refl; seated = (let below = place k d low in omega (arith, below, many)); known = (let below = place k d low in omega (arith, below, few)) },
   record { plan = None; is = refl },
 ))

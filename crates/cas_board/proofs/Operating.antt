@@ -12,14 +12,14 @@ use Rattle.cas_record.specs.declared.operator.OpAnswer.TheVariants.{Stopped}
 use Rattle.cas_record.specs.declared.operator.OpAnswer.TheVariants as op
 use Rattle.cas_model.specs.Exchanges.Step.{told_marks, everyone}
 use Rattle.cas_model.specs.View.{View, era_at}
-use Rattle.cas_turn.specs.Seen.{Begins, HasSeen}
+use Rattle.cas_turn.specs.Seen.{Begins, HasSeenOwn}
 use Rattle.cas_turn.specs.Sitting.{Sitting, Turning}
 use Rattle.cas_turn.proofs.SeenLemmas.{begins_both}
 use Rattle.cas_board_steps.specs.Eras.Counting.{count_told, CountsTo, EntersEras, HasRisen, LeavesNone}
-use Rattle.cas_board_steps.specs.Calls.Deeds.{IsRefusal}
+use Rattle.cas_board_steps.specs.Calls.Deeds.{IsRefusalBehind}
 use Rattle.cas_board_steps.specs.Kept.{Makes, IsHeldBy}
-use Rattle.cas_board_steps.specs.Mine.{mine, losses, done_calls, GoesOn}
-use Rattle.cas_board_steps.specs.Calls.Open.{IsFree, rescanned_in}
+use Rattle.cas_board_steps.specs.Mine.{mine, losses, done_calls, FrontGoesOn}
+use Rattle.cas_board_steps.specs.Calls.Open.{NothingIsOpen, rescanned_in}
 use Rattle.cas_board_steps.specs.Exchanges.Orders.{HasHarms, MarksHarms, OperatesIn, IsToldIn, IsProbeAnswer, IsSilentAtMost, IsTrueProbe, WasAskedBehind, stops_probe}
 use Rattle.cas_model_causes.proofs.Exchanges.Current.{among_fewer}
 use Rattle.cas_ballot.specs.Members.{members_where, has_member, IsMemberSet}
@@ -38,10 +38,10 @@ use Rattle.cas_board.proofs.Sittings.{WasHeld, few_then, counted_none, counted_l
 
 -- ---- one hold
 module _ {S V A : Type 0} (before after : View S V) (old new : Sitting A Mark) (was : WasHeld 0 before after old new) where
-  pub operator_made : (marks : List Mark) → Makes 0 before after marks → GoesOn old.number old.seen new.seen (mine 0 marks)
+  pub operator_made : (marks : List Mark) → Makes 0 before after marks → FrontGoesOn old.number old.seen new.seen (mine 0 marks)
   operator_made marks makes =
-      subst (λ (k : ℕ). GoesOn k old.seen new.seen (mine 0 marks)) was.number
-      (front_goes_on 0 old.seen before.marks new.seen marks (subst (λ (k : ℕ). HasSeen owner_of k old.seen before.marks) (sym was.number) was.has) (was.seen ∙ makes.made))
+      subst (λ (k : ℕ). FrontGoesOn k old.seen new.seen (mine 0 marks)) was.number
+      (front_goes_on 0 old.seen before.marks new.seen marks (subst (λ (k : ℕ). HasSeenOwn owner_of k old.seen before.marks) (sym was.number) was.has) (was.seen ∙ makes.made))
 
   pub operator_own : new.own ≡ own_part after 0
   operator_own = was.own ∙ ap (own_part after) (sym was.number)
@@ -67,11 +67,11 @@ module _ {S V A : Type 0} (before after : View S V) (old new : Sitting A Mark) (
   pub operator_told : (asked : Asked) (such : Mark → Type 0) (most : ℕ) (answer : OpAnswer) → IsToldIn asked such most before after answer → WasToldLast asked such most old new answer
   operator_told asked such most answer t = record {
     marks = mine 0 t.marks;
-    front = subst (GoesOn old.number old.seen new.seen) (mine_append 0 t.marks (told_marks asked answer) ∙ ap (λ (l : List Mark). mine 0 t.marks ++ l) (told_mine asked answer)) (operator_made (t.marks ++ told_marks asked answer) t.makes);
+    front = subst (FrontGoesOn old.number old.seen new.seen) (mine_append 0 t.marks (told_marks asked answer) ∙ ap (λ (l : List Mark). mine 0 t.marks ++ l) (told_mine asked answer)) (operator_made (t.marks ++ told_marks asked answer) t.makes);
     last = record { before = before.marks ++ t.marks; whole = append_assoc before.marks t.marks (told_marks asked answer) ∙ sym t.makes.made ∙ sym was.seen };
     all_such = t.all_such;
     few = t.few;
-    is_free = subst IsFree (sym operator_own) t.is_free;
+    is_free = subst NothingIsOpen (sym operator_own) t.is_free;
     counts = λ enters. let tells = t.counts enters in
         subst (λ (n : ℕ). HasCountedTo (count_told answer n) old new × LeavesNone answer n) (sym kept_count) (operator_counts (count_told answer (rescanned_of after.council.plan)) tells.0, tells.1);
     keeps = λ not. still_counted (t.keeps not);
@@ -80,7 +80,7 @@ module _ {S V A : Type 0} (before after : View S V) (old new : Sitting A Mark) (
   pub operator_harms : own_part before 0 ≡ old.own → MarksHarms before after → HasMarkedHarms old new
   operator_harms own_was marks harms has =
       let then_ = marks harms (subst (HasHarms harms) (sym own_was) has) in
-      let had : HasSeen owner_of 0 old.seen before.marks = subst (λ (k : ℕ). HasSeen owner_of k old.seen before.marks) (sym was.number) was.has in (
+      let had : HasSeenOwn owner_of 0 old.seen before.marks = subst (λ (k : ℕ). HasSeenOwn owner_of k old.seen before.marks) (sym was.number) was.has in (
         then_.0,
         subst (HasHarms then_.0) (sym operator_own) then_.1,
         omega (arith, then_.2, ap (λ (l : List Mark). length l) (mine_seen 0 old.seen before.marks had), ap (λ (l : List Mark). length (mine 0 l)) was.seen),
@@ -144,19 +144,19 @@ module _ {A : Type 0} (such : Mark → Type 0) (harms harms_now : ℕ) (a b c : 
   pub order_own : c.own ≡ b.own
   order_own = ap (λ (s : Sitting A Mark). s.own) strayed
 
-  module _ (most harms_then : ℕ) (d : Sitting A Mark) (strays : GoesOn b.number b.seen c.seen []) (counts : IsCounted most harms_now harms_then) (gave : d ≡ record c { seen = d.seen; own = d.own }) where
+  module _ (most harms_then : ℕ) (d : Sitting A Mark) (strays : FrontGoesOn b.number b.seen c.seen []) (counts : IsCounted most harms_now harms_then) (gave : d ≡ record c { seen = d.seen; own = d.own }) where
     pub order_ran : d ≡ record a { seen = d.seen; own = d.own }
     order_ran = gave ∙ ap (λ (s : Sitting A Mark). record s { seen = d.seen; own = d.own }) strayed ∙ ap (λ (s : Sitting A Mark). record s { seen = d.seen; own = d.own }) run.pass
 
-    whole_front : (more : List Mark) → GoesOn c.number c.seen d.seen more → GoesOn a.number a.seen d.seen (run.operated.marks ++ more)
+    whole_front : (more : List Mark) → FrontGoesOn c.number c.seen d.seen more → FrontGoesOn a.number a.seen d.seen (run.operated.marks ++ more)
     whole_front more then_ =
         goes_on_then a.number a.seen b.seen d.seen run.operated.marks more run.operated.front
-        (goes_on_then a.number b.seen c.seen d.seen [] more (subst (λ (k : ℕ). GoesOn k b.seen c.seen []) number_b strays) (subst (λ (k : ℕ). GoesOn k c.seen d.seen more) order_number then_))
+        (goes_on_then a.number b.seen c.seen d.seen [] more (subst (λ (k : ℕ). FrontGoesOn k b.seen c.seen []) number_b strays) (subst (λ (k : ℕ). FrontGoesOn k c.seen d.seen more) order_number then_))
 
-    counts_whole : EntersEras such → (count : ℕ) (more : List Mark) → GoesOn c.number c.seen d.seen more → HasCountedTo count c d → HasCountedTo count a d
+    counts_whole : EntersEras such → (count : ℕ) (more : List Mark) → FrontGoesOn c.number c.seen d.seen more → HasCountedTo count c d → HasCountedTo count a d
     counts_whole enters count more then_ last =
-        let goes : GoesOn a.number c.seen d.seen more = subst (λ (k : ℕ). GoesOn k c.seen d.seen more) order_number then_ in
-        let between : GoesOn a.number b.seen c.seen [] = subst (λ (k : ℕ). GoesOn k b.seen c.seen []) number_b strays in
+        let goes : FrontGoesOn a.number c.seen d.seen more = subst (λ (k : ℕ). FrontGoesOn k c.seen d.seen more) order_number then_ in
+        let between : FrontGoesOn a.number b.seen c.seen [] = subst (λ (k : ℕ). FrontGoesOn k b.seen c.seen []) number_b strays in
         let grown : done_calls (mine a.number d.seen) ≡ done_calls (mine a.number c.seen) + done_calls more = ap done_calls goes.own_marks ∙ done_append (mine a.number c.seen) more in
         risen_then (rescanned_in a.own) (rescanned_in b.own) (rescanned_in c.own) count (done_calls (mine a.number a.seen)) (done_calls (mine a.number b.seen)) (done_calls (mine a.number c.seen)) (done_calls (mine a.number d.seen))
         (run.operated.counts enters) (ap rescanned_in order_own) (ap done_calls (between.own_marks ∙ append-nil (mine a.number b.seen))) (omega (arith, grown))
@@ -183,7 +183,7 @@ module _ {A : Type 0} (such : Mark → Type 0) (harms harms_now : ℕ) (a b c : 
       counted_then run.lost most harms harms_now harms_then run.counted counts,
       record {
         marks = run.operated.marks ++ then_.marks;
-        front = subst (GoesOn a.number a.seen d.seen) (sym (append_assoc run.operated.marks then_.marks (told_marks asked answer))) (whole_front (then_.marks ++ told_marks asked answer) then_.front);
+        front = subst (FrontGoesOn a.number a.seen d.seen) (sym (append_assoc run.operated.marks then_.marks (told_marks asked answer))) (whole_front (then_.marks ++ told_marks asked answer) then_.front);
         last = then_.last;
         all_such = All-append such run.operated.marks then_.marks run.operated.all_such then_.all_such;
         few = few_then run.operated.marks then_.marks run.lost most run.operated.few then_.few;
@@ -194,11 +194,11 @@ module _ {A : Type 0} (such : Mark → Type 0) (harms harms_now : ℕ) (a b c : 
     )
 
 -- a probe that has gone on by one hold more, before which frames strayed in
-pub marked_harms : {A : Type 0} (a b c d : Sitting A Mark) → HasMarkedHarms a b → c.own ≡ b.own → b.number ≡ 0 → GoesOn b.number b.seen c.seen [] → HasMarkedHarms c d → HasMarkedHarms a d
+pub marked_harms : {A : Type 0} (a b c d : Sitting A Mark) → HasMarkedHarms a b → c.own ≡ b.own → b.number ≡ 0 → FrontGoesOn b.number b.seen c.seen [] → HasMarkedHarms c d → HasMarkedHarms a d
 marked_harms a b c d first own number strays last harms has =
     let one = first harms has in
     let two = last one.0 (subst (HasHarms one.0) (sym own) one.1) in
-    let goes : GoesOn 0 b.seen c.seen [] = subst (λ (k : ℕ). GoesOn k b.seen c.seen []) number strays in
+    let goes : FrontGoesOn 0 b.seen c.seen [] = subst (λ (k : ℕ). FrontGoesOn k b.seen c.seen []) number strays in
     (two.0, two.1, omega (arith, one.2, two.2, ap (λ (l : List Mark). length l) (goes.own_marks ∙ append-nil (mine 0 b.seen))))
 
 pub none_marked : {A : Type 0} (a : Sitting A Mark) → HasMarkedHarms a a
@@ -206,9 +206,9 @@ none_marked a harms has = (harms, has, omega arith)
 
 -- ---- those that told nothing
 -- a pass whose front went on has no fewer marks of caller 0
-pub own_grown : {A : Type 0} (old new : Sitting A Mark) (marks : List Mark) → old.number ≡ 0 → GoesOn old.number old.seen new.seen marks → length (mine 0 old.seen) ≤ length (mine 0 new.seen)
+pub own_grown : {A : Type 0} (old new : Sitting A Mark) (marks : List Mark) → old.number ≡ 0 → FrontGoesOn old.number old.seen new.seen marks → length (mine 0 old.seen) ≤ length (mine 0 new.seen)
 own_grown old new marks number front =
-    let goes : GoesOn 0 old.seen new.seen marks = subst (λ (k : ℕ). GoesOn k old.seen new.seen marks) number front in
+    let goes : FrontGoesOn 0 old.seen new.seen marks = subst (λ (k : ℕ). FrontGoesOn k old.seen new.seen marks) number front in
     omega (arith, ap (λ (l : List Mark). length l) goes.own_marks, length-append (mine 0 old.seen) marks)
 
 pub silent_since : {A : Type 0} (most harms : ℕ) (old new : Sitting A Mark) (told : OpAnswer) → most + length (mine 0 old.seen) ≤ harms + length (mine 0 new.seen) → IsSilentAtMost most told → IsSilentSince harms old new told
@@ -237,7 +237,7 @@ silent_before harms first old new (op.ProposerDown proposer) fewer few = tt
 silent_before harms first old new (op.Stopped why) fewer few = tt
 
 -- a probe that was told in one hold more, before which frames strayed in
-pub silent_then : {A : Type 0} (asked : Asked) (such : Mark → Type 0) (most harms : ℕ) (a b c d : Sitting A Mark) (told : OpAnswer) → HasMarkedHarms a b → HasHarms harms a.own → c.own ≡ b.own → b.number ≡ 0 → c.number ≡ 0 → GoesOn b.number b.seen c.seen []
+pub silent_then : {A : Type 0} (asked : Asked) (such : Mark → Type 0) (most harms : ℕ) (a b c d : Sitting A Mark) (told : OpAnswer) → HasMarkedHarms a b → HasHarms harms a.own → c.own ≡ b.own → b.number ≡ 0 → c.number ≡ 0 → FrontGoesOn b.number b.seen c.seen []
     → ((less : ℕ) → HasHarms less c.own → IsSilentAtMost less told) → WasToldLast asked such most c d told → IsSilentSince harms a d told
 silent_then asked such most harms a b c d told first has own b_number c_number strays silent last =
     let one = first harms has in
@@ -287,11 +287,11 @@ module _ {A : Type 0} (such less : Mark → Type 0) (weaker : (mark : Mark) → 
 
 -- ---- the whole
 -- holds that made no mark of caller 0's stood before it
-pub told_behind : {A : Type 0} (asked : Asked) (such : Mark → Type 0) (most : ℕ) (a b c : Sitting A Mark) (answer : OpAnswer) → b.number ≡ a.number → GoesOn a.number a.seen b.seen [] → rescanned_in b.own ≡ rescanned_in a.own
+pub told_behind : {A : Type 0} (asked : Asked) (such : Mark → Type 0) (most : ℕ) (a b c : Sitting A Mark) (answer : OpAnswer) → b.number ≡ a.number → FrontGoesOn a.number a.seen b.seen [] → rescanned_in b.own ≡ rescanned_in a.own
     → WasToldLast asked such most b c answer → WasToldLast asked such most a c answer
 told_behind asked such most a b c answer number first counted told = record {
   marks = told.marks;
-  front = goes_on_then a.number a.seen b.seen c.seen [] (told.marks ++ told_marks asked answer) first (subst (λ (k : ℕ). GoesOn k b.seen c.seen (told.marks ++ told_marks asked answer)) number told.front);
+  front = goes_on_then a.number a.seen b.seen c.seen [] (told.marks ++ told_marks asked answer) first (subst (λ (k : ℕ). FrontGoesOn k b.seen c.seen (told.marks ++ told_marks asked answer)) number told.front);
   last = told.last;
   all_such = told.all_such;
   few = told.few;
@@ -322,7 +322,7 @@ pub operator_part : {S V : Type 0} (n : ℕ) (inside before : View S V) (own : L
 operator_part {S} {V} n inside before own is_first same part = ap (λ (v : View S V). own_part v 0) same ∙ ap (own_part before) (sym is_first) ∙ part
 
 -- ---- a probe
-refused_stops : (made : ℕ) (why : Answer) → IsRefusal made why → stops_probe why ≡ true
+refused_stops : (made : ℕ) (why : Answer) → IsRefusalBehind made why → stops_probe why ≡ true
 refused_stops made why (inl full) = ap stops_probe full.0
 refused_stops made why (inr none) = ap stops_probe none
 
@@ -335,5 +335,5 @@ everyone_set view = IsMemberSet-members_where (λ n. has_member (era_at view 0).
 pub answers_any : (key : List ℕ) (told : OpAnswer) → ((members : List ℕ) → IsProbeAnswer key members told) → (members : List ℕ) × IsMemberSet members × IsProbeAnswer key members told
 answers_any key told each = (members_where (λ n. false), no_members, each (members_where (λ n. false)))
 
-pub refused_answers : (key : List ℕ) (made : ℕ) (why : Answer) → IsRefusal made why → (members : List ℕ) × IsMemberSet members × IsProbeAnswer key members (Stopped why)
+pub refused_answers : (key : List ℕ) (made : ℕ) (why : Answer) → IsRefusalBehind made why → (members : List ℕ) × IsMemberSet members × IsProbeAnswer key members (Stopped why)
 refused_answers key made why refusal = (members_where (λ n. false), no_members, refused_stops made why refusal)

@@ -10,20 +10,20 @@ use Rattle.cas_record.specs.declared.mark.Mark.TheVariants.{Begun, Ended}
 use Rattle.cas_model.specs.Calls.Step.{one_more}
 use Rattle.cas_model.specs.View.{View}
 use Rattle.cas_model.proofs.Places.{some_is}
-use Rattle.cas_turn.specs.Seen.{Begins, HasSeen, OnlyOwnedBy, added_to}
+use Rattle.cas_turn.specs.Seen.{Begins, HasSeenOwn, OnlyOwnedBy, added_to}
 use Rattle.cas_turn.specs.Sitting.{Sitting, Turning}
 use Rattle.cas_board.specs.Passes.{IsPassOf}
 use Rattle.cas_board.specs.Changes as changes
 use Rattle.cas_board.specs.Changes.{IsCounted, HasBegun, HasNotBegun, HasGoneOn, HasEnded, Answers}
 use Rattle.cas_board_steps.specs.Calls.Deeds as deeds
-use Rattle.cas_board_steps.specs.Calls.Deeds.{BeginsIn, IsRefusal, BeginsNot, GoesOnIn, EndsIn, StraysIn}
+use Rattle.cas_board_steps.specs.Calls.Deeds.{BeginsIn, IsRefusalBehind, BeginsNot, GoesOnIn, EndsMarked, StraysIn}
 use Rattle.cas_board_steps.specs.Kept.{IsKept, Makes, IsHeldBy}
 use Rattle.cas_board_steps.specs.declared.deeds.Begun.{Begun as Opened}
-use Rattle.cas_board_steps.specs.Mine.{mine, call_of, losses, wanted_by, GoesOn, IsLast}
+use Rattle.cas_board_steps.specs.Mine.{mine, call_of, losses, wanted_by, FrontGoesOn, IsLast}
 use Rattle.cas_board_steps.specs.Owners.{owner_of, MayAdd}
 use Rattle.cas_board_steps.specs.OwnParts.{own_part}
 use Rattle.cas_board_steps.specs.Calls.Conflicts.{is_conflict}
-use Rattle.cas_board_steps.specs.Calls.Open.{IsFree, HasOpen, beside_in, rounds_in, is_met_in, rounds_after}
+use Rattle.cas_board_steps.specs.Calls.Open.{NothingIsOpen, HasOpen, beside_in, rounds_in, is_met_in, rounds_after}
 use Rattle.cas_board_steps.specs.Calls.Stages.{tells_met}
 use Rattle.cas_board_steps.specs.declared.deeds.Stage.{Stage}
 use Rattle.cas_board.proofs.Losses.{losses_append, counted_then}
@@ -55,12 +55,12 @@ pub open_known : {S V : Type 0} (view : View S V) (n call : ℕ) → HasOpen cal
 open_known view n call has kept = let o = open_at view n call has in let low : n < length view.callers = get_low view.callers n o.caller o.at_caller in omega (arith, low, kept.places.callers)
 
 -- ---- what the pass tells then
-module _ {S V A : Type 0} (before after : View S V) (old new : Sitting A Mark) (has : HasSeen owner_of old.number old.seen before.marks) (seen : new.seen ≡ after.marks) (own : new.own ≡ own_part after old.number) where
-  front_of : (marks : List Mark) → Makes old.number before after marks → GoesOn old.number old.seen new.seen (mine old.number marks)
+module _ {S V A : Type 0} (before after : View S V) (old new : Sitting A Mark) (has : HasSeenOwn owner_of old.number old.seen before.marks) (seen : new.seen ≡ after.marks) (own : new.own ≡ own_part after old.number) where
+  front_of : (marks : List Mark) → Makes old.number before after marks → FrontGoesOn old.number old.seen new.seen (mine old.number marks)
   front_of marks makes = front_goes_on old.number old.seen before.marks new.seen marks has (seen ∙ makes.made)
 
-  front_is : (marks mine_ : List Mark) → Makes old.number before after marks → mine old.number marks ≡ mine_ → GoesOn old.number old.seen new.seen mine_
-  front_is marks mine_ makes same = subst (GoesOn old.number old.seen new.seen) same (front_of marks makes)
+  front_is : (marks mine_ : List Mark) → Makes old.number before after marks → mine old.number marks ≡ mine_ → FrontGoesOn old.number old.seen new.seen mine_
+  front_is marks mine_ makes same = subst (FrontGoesOn old.number old.seen new.seen) same (front_of marks makes)
 
   open_then : (call : ℕ) → HasOpen call (own_part after old.number) → HasOpen call new.own
   open_then call has_open = subst (HasOpen call) (sym own) has_open
@@ -81,14 +81,14 @@ module _ {S V A : Type 0} (before after : View S V) (old new : Sitting A Mark) (
     wanted = ap (wanted_by old.number) seen ∙ b.wanted;
   }
 
-  pub pass_begins_not : (key : List ℕ) (program : List Clause) (told : Answer) → own_part before old.number ≡ old.own → IsFree (own_part before old.number) → BeginsNot old.number key program before after told → HasNotBegun key program old new told
+  pub pass_begins_not : (key : List ℕ) (program : List Clause) (told : Answer) → own_part before old.number ≡ old.own → NothingIsOpen (own_part before old.number) → BeginsNot old.number key program before after told → HasNotBegun key program old new told
   pass_begins_not key program told own_was free (deeds.ends_at_once call rounds makes leaves no_conflict) =
       let n : ℕ = old.number in
       let begun : Mark = Begun n call key program in
       let ended : Mark = Ended n call rounds told in
       changes.ends_at_once call rounds (front_is (begun ∷ ended ∷ []) (begun ∷ ended ∷ []) makes (mine_own n begun (ended ∷ []) refl ∙ ap (λ (l : List Mark). begun ∷ l) (mine_own n ended [] refl)))
       (last_then (begun ∷ []) ended makes) (own ∙ leaves.still free ∙ own_was) no_conflict
-  pass_begins_not key program told own_was free (deeds.is_refused refusal makes leaves) = changes.is_refused (subst (λ (l : List Mark). IsRefusal (length l) told) (sym seen) refusal) (front_of [] makes) (own ∙ leaves.still free ∙ own_was)
+  pass_begins_not key program told own_was free (deeds.is_refused refusal makes leaves) = changes.is_refused (subst (λ (l : List Mark). IsRefusalBehind (length l) told) (sym seen) refusal) (front_of [] makes) (own ∙ leaves.still free ∙ own_was)
 
   pub pass_goes_on : (call most : ℕ) → own_part before old.number ≡ old.own → GoesOnIn old.number call most before after → HasGoneOn call most old new
   pass_goes_on call most own_was g = record {
@@ -101,7 +101,7 @@ module _ {S V A : Type 0} (before after : View S V) (old new : Sitting A Mark) (
     wanted = ap (wanted_by old.number) seen ∙ g.wanted ∙ wanted_seen old.number old.seen before.marks has;
   }
 
-  pub pass_ends : (call most : ℕ) (told : Answer) → own_part before old.number ≡ old.own → IsFree (beside_in (own_part before old.number)) → EndsIn old.number call most before after told → HasEnded call (rounds_after (own_part before old.number)) most old new told
+  pub pass_ends : (call most : ℕ) (told : Answer) → own_part before old.number ≡ old.own → NothingIsOpen (beside_in (own_part before old.number)) → EndsMarked old.number call most before after told → HasEnded call (rounds_after (own_part before old.number)) most old new told
   pass_ends call most told own_was alone e =
       let ended : Mark = Ended old.number call (rounds_after (own_part before old.number)) told in
       record {
@@ -113,7 +113,7 @@ module _ {S V A : Type 0} (before after : View S V) (old new : Sitting A Mark) (
         still = own ∙ e.still alone ∙ ap beside_in own_was;
       }
 
-  pub pass_strays : StraysIn before after → GoesOn old.number old.seen new.seen []
+  pub pass_strays : StraysIn before after → FrontGoesOn old.number old.seen new.seen []
   pass_strays s = front_is s.marks [] (s.makes old.number) (s.none_own old.number)
 
   pub pass_strays_wanted : StraysIn before after → wanted_by old.number new.seen ≡ wanted_by old.number old.seen
@@ -123,12 +123,12 @@ module _ {S V A : Type 0} (before after : View S V) (old new : Sitting A Mark) (
 -- between a pass and what it is once the hold is given back, a world became another
 pub record WasHeld {S V A : Type 0} (n : ℕ) (before after : View S V) (old new : Sitting A Mark) : Type 0 where
   pub number : n ≡ old.number
-  pub has : HasSeen owner_of old.number old.seen before.marks
+  pub has : HasSeenOwn owner_of old.number old.seen before.marks
   pub seen : new.seen ≡ after.marks
   pub own : new.own ≡ own_part after old.number
   pub part : own_part before old.number ≡ old.own
 
-pub was_held : {S V : Type 0} (n : ℕ) (before after : View S V) (old held new : Sitting (View S V) Mark) → HasSeen owner_of old.number old.seen before.marks → own_part before old.number ≡ old.own → held ≡ record old { holds = Some before; seen = before.marks } → n ≡ held.number
+pub was_held : {S V : Type 0} (n : ℕ) (before after : View S V) (old held new : Sitting (View S V) Mark) → HasSeenOwn owner_of old.number old.seen before.marks → own_part before old.number ≡ old.own → held ≡ record old { holds = Some before; seen = before.marks } → n ≡ held.number
     → new ≡ record held { holds = None; seen = after.marks; own = own_part after held.number } → WasHeld n before after old new
 was_held {S} {V} n before after old held new has part holds number gave = record {
   part = part;
@@ -160,12 +160,12 @@ module _ {S V A : Type 0} (n : ℕ) (before after : View S V) (key : List ℕ) (
   begun_told old new (Ok begun) was own_was b = pass_begins before after old new was.has was.seen was.own begun.call key program own_was (subst (λ (k : ℕ). BeginsIn k begun.call key program before after) was.number b)
   begun_told old new (Err told) was own_was b = tt
 
-  pub refused_told : (old new : Sitting A Mark) (result : Result Opened Answer) → WasHeld n before after old new → IsFree (own_part before old.number) → IfErr result (BeginsNot n key program before after) → IfErr result (HasNotBegun key program old new)
+  pub refused_told : (old new : Sitting A Mark) (result : Result Opened Answer) → WasHeld n before after old new → NothingIsOpen (own_part before old.number) → IfErr result (BeginsNot n key program before after) → IfErr result (HasNotBegun key program old new)
   refused_told old new (Ok begun) was free e = tt
   refused_told old new (Err told) was free e = pass_begins_not before after old new was.has was.seen was.own key program told was.part free (subst (λ (k : ℕ). BeginsNot k key program before after told) was.number e)
 
 module _ {S V Stage : Type 0} (n call most : ℕ) (before after : View S V) where
-  pub gone_makes : (result : Result Stage Answer) → OnOk result (GoesOnIn n call most before after) → IfErr result (EndsIn n call most before after) → IsHeldBy n before after
+  pub gone_makes : (result : Result Stage Answer) → OnOk result (GoesOnIn n call most before after) → IfErr result (EndsMarked n call most before after) → IsHeldBy n before after
   gone_makes (Ok stage) g e = (_, g.makes)
   gone_makes (Err told) g e = (_, e.makes)
 
@@ -174,11 +174,11 @@ module _ {S V A Stage : Type 0} (n call most : ℕ) (before after : View S V) wh
   gone_told old new (Ok stage) was own_was g = pass_goes_on before after old new was.has was.seen was.own call most own_was (subst (λ (k : ℕ). GoesOnIn k call most before after) was.number g)
   gone_told old new (Err told) was own_was g = tt
 
-  pub ended_told : (old new : Sitting A Mark) (result : Result Stage Answer) → WasHeld n before after old new → own_part before old.number ≡ old.own → IsFree (beside_in old.own) → IfErr result (EndsIn n call most before after) → IfErr result (HasEnded call (rounds_after old.own) most old new)
+  pub ended_told : (old new : Sitting A Mark) (result : Result Stage Answer) → WasHeld n before after old new → own_part before old.number ≡ old.own → NothingIsOpen (beside_in old.own) → IfErr result (EndsMarked n call most before after) → IfErr result (HasEnded call (rounds_after old.own) most old new)
   ended_told old new (Ok stage) was own_was alone e = tt
   ended_told old new (Err told) was own_was alone e =
       subst (λ (own : List ℕ). HasEnded call (rounds_after own) most old new told) own_was
-      (pass_ends before after old new was.has was.seen was.own call most told own_was (subst (λ (l : List ℕ). IsFree (beside_in l)) (sym own_was) alone) (subst (λ (k : ℕ). EndsIn k call most before after told) was.number e))
+      (pass_ends before after old new was.has was.seen was.own call most told own_was (subst (λ (l : List ℕ). NothingIsOpen (beside_in l)) (sym own_was) alone) (subst (λ (k : ℕ). EndsMarked k call most before after told) was.number e))
 
   pub rounds_told : (old new : Sitting A Mark) (result : Result Stage Answer) → WasHeld n before after old new → own_part before old.number ≡ old.own → OnOk result (GoesOnIn n call most before after) → OnOk result (rounds_in new.own ≡ rounds_after old.own)
   rounds_told old new (Ok stage) was own_was g = ap rounds_in was.own ∙ (subst (λ (k : ℕ). GoesOnIn k call most before after) was.number g).rounds ∙ ap rounds_after own_was
@@ -206,14 +206,14 @@ counted_none harms = record { never_falls = omega arith; counted = λ below. ome
 pub counted_less : (less most a b : ℕ) → less ≤ most → IsCounted most a b → IsCounted less a b
 counted_less less most a b low is = record { never_falls = is.never_falls; counted = λ below. let c = is.counted below in omega (arith, low, c) }
 
-module _ {A : Type 0} (call lost most : ℕ) (a b c d : Sitting A Mark) (number : b.number ≡ a.number) (asked : c ≡ record b { seen = c.seen }) (strays : GoesOn b.number b.seen c.seen []) (wants_same : wanted_by b.number c.seen ≡ wanted_by b.number b.seen) where
+module _ {A : Type 0} (call lost most : ℕ) (a b c d : Sitting A Mark) (number : b.number ≡ a.number) (asked : c ≡ record b { seen = c.seen }) (strays : FrontGoesOn b.number b.seen c.seen []) (wants_same : wanted_by b.number c.seen ≡ wanted_by b.number b.seen) where
   at_first : c.number ≡ a.number
   at_first = ap (λ (s : Sitting A Mark). s.number) asked ∙ number
 
-  whole_front : (marks more : List Mark) → GoesOn a.number a.seen b.seen marks → GoesOn c.number c.seen d.seen more → GoesOn a.number a.seen d.seen (marks ++ more)
+  whole_front : (marks more : List Mark) → FrontGoesOn a.number a.seen b.seen marks → FrontGoesOn c.number c.seen d.seen more → FrontGoesOn a.number a.seen d.seen (marks ++ more)
   whole_front marks more first then_ =
       goes_on_then a.number a.seen b.seen d.seen marks more first
-      (goes_on_then a.number b.seen c.seen d.seen [] more (subst (λ (k : ℕ). GoesOn k b.seen c.seen []) number strays) (subst (λ (k : ℕ). GoesOn k c.seen d.seen more) at_first then_))
+      (goes_on_then a.number b.seen c.seen d.seen [] more (subst (λ (k : ℕ). FrontGoesOn k b.seen c.seen []) number strays) (subst (λ (k : ℕ). FrontGoesOn k c.seen d.seen more) at_first then_))
 
   pub gone_then : HasGoneOn call lost a b → HasGoneOn call most c d → HasGoneOn call (lost + most) a d
   gone_then first then_ = record {
@@ -229,8 +229,8 @@ module _ {A : Type 0} (call lost most : ℕ) (a b c d : Sitting A Mark) (number 
   pub ended_then : (told : Answer) (rounds : ℕ) → HasGoneOn call lost a b → HasEnded call rounds most c d told → HasEnded call rounds (lost + most) a d told
   ended_then told rounds first then_ = record {
     marks = first.marks ++ then_.marks;
-    front = subst (GoesOn a.number a.seen d.seen) (sym (append_assoc first.marks then_.marks (Ended a.number call rounds told ∷ [])))
-        (whole_front first.marks (then_.marks ++ Ended a.number call rounds told ∷ []) first.front (subst (λ (k : ℕ). GoesOn c.number c.seen d.seen (then_.marks ++ Ended k call rounds told ∷ [])) at_first then_.front));
+    front = subst (FrontGoesOn a.number a.seen d.seen) (sym (append_assoc first.marks then_.marks (Ended a.number call rounds told ∷ [])))
+        (whole_front first.marks (then_.marks ++ Ended a.number call rounds told ∷ []) first.front (subst (λ (k : ℕ). FrontGoesOn c.number c.seen d.seen (then_.marks ++ Ended k call rounds told ∷ [])) at_first then_.front));
     last = subst (λ (k : ℕ). IsLast d.seen (Ended k call rounds told)) at_first then_.last;
     of_call = All-append (λ mark. call_of mark ≡ Some call) first.marks then_.marks first.of_call then_.of_call;
     few = few_then first.marks then_.marks lost most first.few then_.few;
@@ -273,8 +273,8 @@ module _ {A : Type 0} (call harms harms_now : ℕ) (a b c : Sitting A Mark) (run
   pub asked_open : HasOpen call c.own
   asked_open = subst (HasOpen call) (sym (ap (λ (s : Sitting A Mark). s.own) asked)) run.gone.is_open
 
-  pub asked_alone : IsFree (beside_in a.own) → IsFree (beside_in c.own)
-  asked_alone alone = subst IsFree (sym (ap (λ (s : Sitting A Mark). beside_in s.own) asked ∙ run.gone.beside)) alone
+  pub asked_alone : NothingIsOpen (beside_in a.own) → NothingIsOpen (beside_in c.own)
+  asked_alone alone = subst NothingIsOpen (sym (ap (λ (s : Sitting A Mark). beside_in s.own) asked ∙ run.gone.beside)) alone
 
   number_b : b.number ≡ a.number
   number_b = ap (λ (s : Sitting A Mark). s.number) run.pass
@@ -282,7 +282,7 @@ module _ {A : Type 0} (call harms harms_now : ℕ) (a b c : Sitting A Mark) (run
   pub asked_wanted : (wanted : _) → wanted_by b.number c.seen ≡ wanted_by b.number b.seen → wanted_by a.number a.seen ≡ wanted → wanted_by c.number c.seen ≡ wanted
   asked_wanted wanted same is = ap (λ (s : Sitting A Mark). wanted_by s.number c.seen) asked ∙ same ∙ ap (λ (k : ℕ). wanted_by k b.seen) number_b ∙ run.gone.wanted ∙ is
 
-  module _ (most harms_then : ℕ) (d : Sitting A Mark) (strays : GoesOn b.number b.seen c.seen []) (wants_same : wanted_by b.number c.seen ≡ wanted_by b.number b.seen) (counts : IsCounted most harms_now harms_then) (gave : d ≡ record c { seen = d.seen; own = d.own }) where
+  module _ (most harms_then : ℕ) (d : Sitting A Mark) (strays : FrontGoesOn b.number b.seen c.seen []) (wants_same : wanted_by b.number c.seen ≡ wanted_by b.number b.seen) (counts : IsCounted most harms_now harms_then) (gave : d ≡ record c { seen = d.seen; own = d.own }) where
     pub run_pass : d ≡ record a { seen = d.seen; own = d.own }
     run_pass = gave ∙ ap (λ (s : Sitting A Mark). record s { seen = d.seen; own = d.own }) asked ∙ ap (λ (s : Sitting A Mark). record s { seen = d.seen; own = d.own }) run.pass
 
@@ -344,9 +344,9 @@ module _ {A : Type 0} (key : List ℕ) (program : List Clause) (harms harms_then
       let begun : Mark = Begun a.number call key program in
       let ended : Mark = Ended a.number call rounds told in
       changes.is_answered call rounds (first.more ++ then_.marks)
-      (subst (λ (l : List Mark). GoesOn a.number a.seen c.seen (begun ∷ l)) (sym (append_assoc first.more then_.marks (ended ∷ [])))
+      (subst (λ (l : List Mark). FrontGoesOn a.number a.seen c.seen (begun ∷ l)) (sym (append_assoc first.more then_.marks (ended ∷ [])))
       (goes_on_then a.number a.seen b.seen c.seen (begun ∷ first.more) (then_.marks ++ ended ∷ []) first.front
-      (subst (λ (k : ℕ). GoesOn k b.seen c.seen (then_.marks ++ Ended k call rounds told ∷ [])) number then_.front)))
+      (subst (λ (k : ℕ). FrontGoesOn k b.seen c.seen (then_.marks ++ Ended k call rounds told ∷ [])) number then_.front)))
       (All-append (λ mark. call_of mark ≡ Some call) first.more then_.marks first.of_call then_.of_call)
       (counted_less (losses (first.more ++ then_.marks)) lost harms harms_then (let low = few_then first.more then_.marks 0 lost (let none = first.none_lost in omega (arith, none)) then_.few in omega (arith, low)) counted)
       (subst (λ (k : ℕ). IsLast c.seen (Ended k call rounds told)) number then_.last) tried

@@ -4,10 +4,10 @@ use Rattle.std.specs.Prelude.{Result, Ok, Err, IfOk}
 use Rattle.cas_record.specs.declared.mark.Mark.{Mark}
 use Rattle.cas_record.specs.declared.operator.Asked.{Asked}
 use Rattle.cas_record.specs.declared.operator.OpAnswer.{OpAnswer}
-use Rattle.cas_turn.specs.Seen.{HasSeen}
+use Rattle.cas_turn.specs.Seen.{HasSeenOwn}
 use Rattle.cas_turn.specs.Sitting.{Sitting}
 use Rattle.cas_board_steps.specs.Eras.Membership.{StandsAt}
-use Rattle.cas_board_steps.specs.Mine.{Wanted, GoesOn, mine, wanted_by}
+use Rattle.cas_board_steps.specs.Mine.{Wanted, FrontGoesOn, mine, wanted_by}
 use Rattle.cas_board_steps.specs.Owners.{owner_of}
 use Rattle.cas_board_steps.specs.declared.deeds.Stage.{Stage}
 use Rattle.cas_board_steps.specs.declared.membership.MembersStep.{MembersStep}
@@ -27,8 +27,8 @@ stands_then asked result own own_then seen seen_then same_own same_seen stands =
     (subst (λ (s : List Mark). IfOk result (StandsAt asked own_then (wanted_by 0 s))) (sym same_seen) stands)
 
 -- ---- what caller 0 asked for last
-pub wanted_held : (number : ℕ) (seen marks : List Mark) → number ≡ 0 → HasSeen owner_of number seen marks → wanted_by 0 marks ≡ wanted_by 0 seen
-wanted_held number seen marks is_first has = wanted_seen 0 seen marks (subst (λ (k : ℕ). HasSeen owner_of k seen marks) is_first has)
+pub wanted_held : (number : ℕ) (seen marks : List Mark) → number ≡ 0 → HasSeenOwn owner_of number seen marks → wanted_by 0 marks ≡ wanted_by 0 seen
+wanted_held number seen marks is_first has = wanted_seen 0 seen marks (subst (λ (k : ℕ). HasSeenOwn owner_of k seen marks) is_first has)
 
 pub wanted_still : (number : ℕ) (seen seen_then : List Mark) → number ≡ 0 → wanted_by number seen_then ≡ wanted_by number seen → wanted_by 0 seen_then ≡ wanted_by 0 seen
 wanted_still number seen seen_then is_first same = subst (λ (k : ℕ). wanted_by k seen_then ≡ wanted_by k seen) is_first same
@@ -43,7 +43,7 @@ not_counted to stage goes = λ counted. cc (goes, counted)
 -- ---- one step after another
 module _ {A : Type 0} where
   -- a pass goes on from itself with no mark
-  pub stays : (pass : Sitting A Mark) → GoesOn pass.number pass.seen pass.seen []
+  pub stays : (pass : Sitting A Mark) → FrontGoesOn pass.number pass.seen pass.seen []
   stays pass = record { begins = record { behind = []; whole = append-nil pass.seen }; own_marks = sym (append-nil (mine pass.number pass.seen)) }
 
   pub run_step : (such : Mark → Type 0) (harms harms_then : ℕ) (old new : Sitting A Mark) → HasRunOrder such harms harms_then old new → (lost : ℕ) × IsCounted lost harms harms_then × HasOperated such lost old new

@@ -6,8 +6,8 @@ use Rattle.cas_record.specs.declared.mark.Mark.{Mark}
 use Rattle.cas_record.specs.declared.mark.Mark.TheVariants.{Begun, Ended}
 use Rattle.cas_turn.specs.Sitting.{Sitting}
 use Rattle.cas_board_steps.specs.Calls.Conflicts.{is_conflict}
-use Rattle.cas_board_steps.specs.Calls.Deeds.{IsRefusal}
-use Rattle.cas_board_steps.specs.Mine.{AreOfCall, losses, wants, wanted_by, GoesOn, IsLast}
+use Rattle.cas_board_steps.specs.Calls.Deeds.{IsRefusalBehind}
+use Rattle.cas_board_steps.specs.Mine.{AreOfCall, losses, wants, wanted_by, FrontGoesOn, IsLast}
 use Rattle.cas_board_steps.specs.Calls.Open.{HasOpen, beside_in, rounds_in, is_met_in}
 
 -- ---- harms
@@ -21,7 +21,7 @@ module _ {V : Type 0} where
   -- the call of that number begins, for this
   pub record HasBegun (call : ℕ) (key : List ℕ) (program : List Clause) (old new : Sitting V Mark) : Type 0 where
     pub more : List Mark
-    pub front : GoesOn old.number old.seen new.seen (Begun old.number call key program ∷ more)
+    pub front : FrontGoesOn old.number old.seen new.seen (Begun old.number call key program ∷ more)
     pub of_call : AreOfCall call more
     pub none_lost : losses more ≡ 0
     pub is_open : HasOpen call new.own
@@ -32,13 +32,13 @@ module _ {V : Type 0} where
 
   -- a call for this begins and ends at once, which is no conflict; or it is not begun, and no mark is made
   pub data HasNotBegun (key : List ℕ) (program : List Clause) (old new : Sitting V Mark) (told : Answer) : Type 0 where
-    ends_at_once : (call rounds : ℕ) → GoesOn old.number old.seen new.seen (Begun old.number call key program ∷ Ended old.number call rounds told ∷ []) → IsLast new.seen (Ended old.number call rounds told) → new.own ≡ old.own → is_conflict told ≡ false → HasNotBegun key program old new told
-    is_refused : IsRefusal (length new.seen) told → GoesOn old.number old.seen new.seen [] → new.own ≡ old.own → HasNotBegun key program old new told
+    ends_at_once : (call rounds : ℕ) → FrontGoesOn old.number old.seen new.seen (Begun old.number call key program ∷ Ended old.number call rounds told ∷ []) → IsLast new.seen (Ended old.number call rounds told) → new.own ≡ old.own → is_conflict told ≡ false → HasNotBegun key program old new told
+    is_refused : IsRefusalBehind (length new.seen) told → FrontGoesOn old.number old.seen new.seen [] → new.own ≡ old.own → HasNotBegun key program old new told
 
   -- the open call of that number goes on
   pub record HasGoneOn (call most : ℕ) (old new : Sitting V Mark) : Type 0 where
     pub marks : List Mark
-    pub front : GoesOn old.number old.seen new.seen marks
+    pub front : FrontGoesOn old.number old.seen new.seen marks
     pub of_call : AreOfCall call marks
     pub few : losses marks ≤ most
     pub is_open : HasOpen call new.own
@@ -48,7 +48,7 @@ module _ {V : Type 0} where
   -- it has ended after so many rounds with this answer, which the front's last mark tells
   pub record HasEnded (call rounds most : ℕ) (old new : Sitting V Mark) (told : Answer) : Type 0 where
     pub marks : List Mark
-    pub front : GoesOn old.number old.seen new.seen (marks ++ Ended old.number call rounds told ∷ [])
+    pub front : FrontGoesOn old.number old.seen new.seen (marks ++ Ended old.number call rounds told ∷ [])
     pub last : IsLast new.seen (Ended old.number call rounds told)
     pub of_call : AreOfCall call marks
     pub few : losses marks ≤ most
@@ -59,6 +59,6 @@ module _ {V : Type 0} where
   -- had all rounds that it might have. Or it is not begun, and no mark of the caller is made.
   -- So many of them at most tell of frames that were lost or made late as the fate's count of harms rose by.
   pub data Answers (key : List ℕ) (program : List Clause) (tries harms harms_then : ℕ) (old new : Sitting V Mark) (told : Answer) : Type 0 where
-    is_answered : (call rounds : ℕ) (between : List Mark) → GoesOn old.number old.seen new.seen (Begun old.number call key program ∷ between ++ Ended old.number call rounds told ∷ []) → AreOfCall call between → IsCounted (losses between) harms harms_then
+    is_answered : (call rounds : ℕ) (between : List Mark) → FrontGoesOn old.number old.seen new.seen (Begun old.number call key program ∷ between ++ Ended old.number call rounds told ∷ []) → AreOfCall call between → IsCounted (losses between) harms harms_then
         → IsLast new.seen (Ended old.number call rounds told) → (is_conflict told ≡ true → rounds ≡ tries) → Answers key program tries harms harms_then old new told
-    is_not_begun : IsRefusal (length new.seen) told → IsCounted 0 harms harms_then → GoesOn old.number old.seen new.seen [] → Answers key program tries harms harms_then old new told
+    is_not_begun : IsRefusalBehind (length new.seen) told → IsCounted 0 harms harms_then → FrontGoesOn old.number old.seen new.seen [] → Answers key program tries harms harms_then old new told

@@ -9,9 +9,9 @@ use Rattle.cas_model_causes.specs.Exchanges.Answering.{silent_in}
 use Rattle.cas_model.specs.Exchanges.Step.{told_marks}
 use Rattle.cas_turn.specs.Sitting.{Sitting}
 use Rattle.cas_board_steps.specs.Eras.Counting.{count_told, EntersEras, HasRisen, LeavesNone}
-use Rattle.cas_board_steps.specs.Calls.Deeds.{IsRefusal}
-use Rattle.cas_board_steps.specs.Mine.{mine, losses, done_calls, GoesOn}
-use Rattle.cas_board_steps.specs.Calls.Open.{IsFree, rescanned_in}
+use Rattle.cas_board_steps.specs.Calls.Deeds.{IsRefusalBehind}
+use Rattle.cas_board_steps.specs.Mine.{mine, losses, done_calls, FrontGoesOn}
+use Rattle.cas_board_steps.specs.Calls.Open.{NothingIsOpen, rescanned_in}
 use Rattle.cas_board_steps.specs.Exchanges.Orders.{HasHarms}
 use Rattle.cas_board.specs.Changes.{IsCounted}
 
@@ -35,7 +35,7 @@ module _ {V : Type 0} where
   -- stays where no proposer enters an era on its way.
   pub record HasOperated (such : Mark → Type 0) (most : ℕ) (old new : Sitting V Mark) : Type 0 where
     pub marks : List Mark
-    pub front : GoesOn old.number old.seen new.seen marks
+    pub front : FrontGoesOn old.number old.seen new.seen marks
     pub all_such : All such marks
     pub few : losses marks ≤ most
     pub counts : EntersEras such → HasCountedTo (rescanned_in new.own) old new
@@ -53,11 +53,11 @@ module _ {V : Type 0} where
   -- it has ended with this answer, which the front's last mark tells unless it is what a probe found
   pub record WasToldLast (asked : Asked) (such : Mark → Type 0) (most : ℕ) (old new : Sitting V Mark) (answer : OpAnswer) : Type 0 where
     pub marks : List Mark
-    pub front : GoesOn old.number old.seen new.seen (marks ++ told_marks asked answer)
+    pub front : FrontGoesOn old.number old.seen new.seen (marks ++ told_marks asked answer)
     pub last : AreLast new.seen (told_marks asked answer)
     pub all_such : All such marks
     pub few : losses marks ≤ most
-    pub is_free : IsFree new.own
+    pub is_free : NothingIsOpen new.own
     pub counts : EntersEras such → HasToldCount answer old new
     pub keeps : (EntersEras such → ⊥) → rescanned_in new.own ≡ rescanned_in old.own
 
@@ -67,5 +67,5 @@ module _ {V : Type 0} where
   -- So many of them at most tell of frames that were lost or made late as the fate's count of harms rose by. A call for a change of membership
   -- counts what it proposes anew, and tells so at the end of the change.
   pub data Operates (asked : Asked) (such : Mark → Type 0) (harms harms_then : ℕ) (old new : Sitting V Mark) (answer : OpAnswer) : Type 0 where
-    is_told : (marks : List Mark) → GoesOn old.number old.seen new.seen (marks ++ told_marks asked answer) → AreLast new.seen (told_marks asked answer) → All such marks → IsCounted (losses marks) harms harms_then → (EntersEras such → HasToldCount answer old new) → Operates asked such harms harms_then old new answer
-    is_not_begun : (why : Answer) → IsRefusal (length new.seen) why → answer ≡ Stopped why → IsCounted 0 harms harms_then → GoesOn old.number old.seen new.seen [] → (EntersEras such → rescanned_in new.own ≡ rescanned_in old.own) → Operates asked such harms harms_then old new answer
+    is_told : (marks : List Mark) → FrontGoesOn old.number old.seen new.seen (marks ++ told_marks asked answer) → AreLast new.seen (told_marks asked answer) → All such marks → IsCounted (losses marks) harms harms_then → (EntersEras such → HasToldCount answer old new) → Operates asked such harms harms_then old new answer
+    is_not_begun : (why : Answer) → IsRefusalBehind (length new.seen) why → answer ≡ Stopped why → IsCounted 0 harms harms_then → FrontGoesOn old.number old.seen new.seen [] → (EntersEras such → rescanned_in new.own ≡ rescanned_in old.own) → Operates asked such harms harms_then old new answer

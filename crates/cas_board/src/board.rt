@@ -8,7 +8,7 @@ ghost use Rattle.cas_turn.specs.Seen.{Begins};
 ghost use Rattle.cas_turn.specs.Sitting.{fresh_seats};
 ghost use Rattle.cas_board_steps.specs.Kept.{IsHeldBy};
 ghost use Rattle.cas_board_steps.specs.Mine.{mine};
-ghost use Rattle.cas_board_steps.specs.Calls.Open.{IsFree};
+ghost use Rattle.cas_board_steps.specs.Calls.Open.{NothingIsOpen};
 ghost use Rattle.cas_board_steps.specs.OwnParts.{own_part};
 ghost use Rattle.cas_store.specs.Kept.{AreKept};
 ghost use Rattle.cas_store.specs.Store.{StaysClosed};
@@ -73,7 +73,7 @@ impl<D: Disk> Board<D> {
         ensures callers { IfOk result (λ opened. opened.0.seats ≡ config.proposers + 1) }
         ensures passes { IfOk result (λ opened. opened.1.items ≡ fresh_seats opened.0.id (config.proposers + 1)) }
         ensures count { IfOk result (λ opened. (vec_len opened.1 ≡ config.proposers + 1) × (vec_capacity opened.1 ≡ config.proposers + 1)) }
-        ensures idle { IfOk result (λ opened. All (λ p. IsPassOf opened.0 p × IsFree p.own) opened.1.items) }
+        ensures idle { IfOk result (λ opened. All (λ p. IsPassOf opened.0 p × NothingIsOpen p.own) opened.1.items) }
         ensures fault { IfErr result (λ back. (back.0 ≡ OpenFault.NoMemory) ⊎ StaysClosed D.fault_count config.acceptors config.proposers rack.acceptors.items rack.vaults.items back.0 back.1.acceptors.items back.1.vaults.items) }
         ensures back { IfErr result (λ back. (vec_len back.1.acceptors ≡ 64) × (vec_len back.1.vaults ≡ 17)) }
     {

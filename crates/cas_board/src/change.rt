@@ -5,9 +5,9 @@ ghost use Rattle.cas_record.specs.Legal.{IsLegal};
 ghost use Rattle.cas_model.specs.Calls.Step.{one_more};
 ghost use Rattle.cas_board.specs.Changes.{Answers, HasBegun, HasEnded, HasGoneOn, HasNotBegun, IsCounted};
 ghost use Rattle.cas_board_steps.specs.Calls.Deeds.{harm_by};
-ghost use Rattle.cas_board_steps.specs.Mine.{GoesOn, wanted_by, wants};
+ghost use Rattle.cas_board_steps.specs.Mine.{FrontGoesOn, wanted_by, wants};
 ghost use Rattle.cas_board_steps.specs.Calls.Conflicts.{is_conflict};
-ghost use Rattle.cas_board_steps.specs.Calls.Open.{HasOpen, IsFree, is_met_in, rounds_after, rounds_in, beside_in};
+ghost use Rattle.cas_board_steps.specs.Calls.Open.{HasOpen, NothingIsOpen, is_met_in, rounds_after, rounds_in, beside_in};
 ghost use Rattle.cas_board_steps.specs.Calls.Stages.{tells_met};
 ghost use Rattle.cas_board.specs.Passes.{IsPassOf};
 
@@ -37,11 +37,11 @@ impl<D: Disk> Board<D> {
         tries: u32,
     ) -> Answer
         requires pass { IsPassOf self.now pass.old }
-        requires free { IsFree pass.old.own }
+        requires free { NothingIsOpen pass.old.own }
         requires some { 1 ≤ tries }
         ensures pass { pass.new ≡ record pass.old { seen = pass.new.seen; own = pass.new.own } }
         ensures own { pass.new.own ≡ pass.old.own }
-        ensures free { IsFree pass.new.own }
+        ensures free { NothingIsOpen pass.new.own }
         ensures answers { Answers key.now program.now tries (F.harm_count fate.old) (F.harm_count fate.new) pass.old pass.new result }
         ensures legal { D.tells → IsLegal (reverse pass.new.seen) }
     {
@@ -67,7 +67,7 @@ impl<D: Disk> Board<D> {
     ) -> Answer
         requires pass { IsPassOf self.now pass.old }
         requires called { HasOpen begun.call pass.old.own }
-        requires alone { IsFree (beside_in pass.old.own) }
+        requires alone { NothingIsOpen (beside_in pass.old.own) }
         requires wanted { wanted_by pass.old.number pass.old.seen ≡ Some (wants begun.call key.now program.now) }
         requires some { 1 ≤ tries }
         requires first { rounds_in pass.old.own ≡ 1 }
@@ -105,7 +105,7 @@ impl<D: Disk> Board<D> {
     ) -> Verdict
         requires pass { IsPassOf self.now pass.old }
         ensures pass { pass.new ≡ record pass.old { seen = pass.new.seen } }
-        ensures front { GoesOn pass.old.number pass.old.seen pass.new.seen [] }
+        ensures front { FrontGoesOn pass.old.number pass.old.seen pass.new.seen [] }
         ensures wanted { wanted_by pass.old.number pass.new.seen ≡ wanted_by pass.old.number pass.old.seen }
         ensures counted { IsCounted (harm_by result) (F.harm_count fate.old) (F.harm_count fate.new) }
     {
@@ -124,7 +124,7 @@ impl<D: Disk> Board<D> {
         program: &Program,
     ) -> Result<Begun, Answer>
         requires pass { IsPassOf self.now pass.old }
-        requires free { IsFree pass.old.own }
+        requires free { NothingIsOpen pass.old.own }
         ensures pass { pass.new ≡ record pass.old { seen = pass.new.seen; own = pass.new.own } }
         ensures begun { IfOk result (λ begun. HasBegun begun.call key.now program.now pass.old pass.new) }
         ensures fresh { IfOk result (λ begun. tells_met begun.stage ≡ false) }
@@ -150,7 +150,7 @@ impl<D: Disk> Board<D> {
     ) -> Result<Stage, Answer>
         requires pass { IsPassOf self.now pass.old }
         requires called { HasOpen call pass.old.own }
-        requires alone { IsFree (beside_in pass.old.own) }
+        requires alone { NothingIsOpen (beside_in pass.old.own) }
         requires wanted { wanted_by pass.old.number pass.old.seen ≡ Some (wants call key.now program.now) }
         ensures pass { pass.new ≡ record pass.old { seen = pass.new.seen; own = pass.new.own } }
         ensures goes_on { OnOk result (HasGoneOn call (harm_by verdict) pass.old pass.new) }

@@ -8,9 +8,9 @@ ghost use Rattle.cas_board.specs.Changes.{IsCounted};
 ghost use Rattle.cas_board.specs.Operations.{HasOperated, Operates, WasToldLast};
 ghost use Rattle.cas_board.specs.Passes.{IsPassOf};
 ghost use Rattle.cas_board_steps.specs.Collection.Collecting.{HasCourse, IsBurialMark, IsCollectAnswer, IsCollectingMark, most_rounds};
-ghost use Rattle.cas_board_steps.specs.Calls.Deeds.{IsRefusal, harm_by};
-ghost use Rattle.cas_board_steps.specs.Mine.{GoesOn};
-ghost use Rattle.cas_board_steps.specs.Calls.Open.{IsFree, rescanned_in};
+ghost use Rattle.cas_board_steps.specs.Calls.Deeds.{IsRefusalBehind, harm_by};
+ghost use Rattle.cas_board_steps.specs.Mine.{FrontGoesOn};
+ghost use Rattle.cas_board_steps.specs.Calls.Open.{NothingIsOpen, rescanned_in};
 
 use crate::board::{Board, Pass};
 use crate::fates::Holds;
@@ -41,10 +41,10 @@ impl<D: Disk> Board<D> {
     ) -> OpAnswer
         requires pass { IsPassOf self.now pass.old }
         requires operator { pass.old.number ≡ 0 }
-        requires free { IsFree pass.old.own }
+        requires free { NothingIsOpen pass.old.own }
         requires some { 1 ≤ tries }
         ensures pass { pass.new ≡ record pass.old { seen = pass.new.seen; own = pass.new.own } }
-        ensures free { IsFree pass.new.own }
+        ensures free { NothingIsOpen pass.new.own }
         ensures operates { Operates (Asked.Collect key.now) (IsCollectingMark key.now tries) (F.harm_count fate.old) (F.harm_count fate.new) pass.old pass.new result }
         ensures answer { IsCollectAnswer key.now result }
         ensures counted { rescanned_in pass.new.own ≡ rescanned_in pass.old.own }
@@ -99,15 +99,15 @@ impl<D: Disk> Board<D> {
     ) -> Result<KeyCollection, Answer>
         requires pass { IsPassOf self.now pass.old }
         requires operator { pass.old.number ≡ 0 }
-        requires free { IsFree pass.old.own }
+        requires free { NothingIsOpen pass.old.own }
         ensures pass { pass.new ≡ record pass.old { seen = pass.new.seen; own = pass.new.own } }
-        ensures front { GoesOn pass.old.number pass.old.seen pass.new.seen [] }
+        ensures front { FrontGoesOn pass.old.number pass.old.seen pass.new.seen [] }
         ensures counted { rescanned_in pass.new.own ≡ rescanned_in pass.old.own }
         ensures key { IfOk result (λ collecting. collecting.key ≡ key.now) }
         ensures keeps { IfOk result (λ collecting. collecting.program ≡ keep_always) }
         ensures tries { IfOk result (λ collecting. collecting.tries ≡ tries) }
         ensures ordered { IfOk result (λ collecting. HasCourse key.now (most_rounds tries) collecting.course pass.new.own pass.new.seen) }
-        ensures refused { IfErr result (λ why. IsRefusal (length pass.new.seen) why × IsFree pass.new.own) }
+        ensures refused { IfErr result (λ why. IsRefusalBehind (length pass.new.seen) why × NothingIsOpen pass.new.own) }
         ensures legal { D.tells → IsLegal (reverse pass.new.seen) }
         ensures tellings { D.tells → AreTellingsSo self.now.seats (reverse pass.new.seen) }
     {

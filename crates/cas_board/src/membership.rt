@@ -8,10 +8,10 @@ ghost use Rattle.cas_world.specs.Eras.Plans.{asked_to};
 ghost use Rattle.cas_board.specs.Changes.{IsCounted};
 ghost use Rattle.cas_board.specs.Operations.{HasOperated, Operates, WasToldLast};
 ghost use Rattle.cas_board.specs.Passes.{IsPassOf};
-ghost use Rattle.cas_board_steps.specs.Calls.Deeds.{IsRefusal, harm_by};
-ghost use Rattle.cas_board_steps.specs.Eras.Membership.{HasListing, HasPlan, HasRescan, HasRounds, IsFirstRound, IsListedTo, IsMembersAnswer, IsPlanMark, IsRescanMark, IsRescannedTo, StandsAt};
-ghost use Rattle.cas_board_steps.specs.Mine.{GoesOn, wanted_by, wants};
-ghost use Rattle.cas_board_steps.specs.Calls.Open.{IsFree, rescanned_in, rounds_after};
+ghost use Rattle.cas_board_steps.specs.Calls.Deeds.{IsRefusalBehind, harm_by};
+ghost use Rattle.cas_board_steps.specs.Eras.Membership.{HasListing, HasPlan, HasRescan, RoundsAreKept, IsFirstRound, IsListedTo, IsMembersAnswer, IsPlanMark, IsRescanMark, IsRescannedTo, StandsAt};
+ghost use Rattle.cas_board_steps.specs.Mine.{FrontGoesOn, wanted_by, wants};
+ghost use Rattle.cas_board_steps.specs.Calls.Open.{NothingIsOpen, rescanned_in, rounds_after};
 ghost use Rattle.cas_board_steps.specs.Exchanges.Orders.{HasOrder};
 
 use crate::board::{Board, Pass};
@@ -47,10 +47,10 @@ impl<D: Disk> Board<D> {
     ) -> OpAnswer
         requires pass { IsPassOf self.now pass.old }
         requires operator { pass.old.number ≡ 0 }
-        requires free { IsFree pass.old.own }
+        requires free { NothingIsOpen pass.old.own }
         requires some { 1 ≤ tries }
         ensures pass { pass.new ≡ record pass.old { seen = pass.new.seen; own = pass.new.own } }
-        ensures free { IsFree pass.new.own }
+        ensures free { NothingIsOpen pass.new.own }
         ensures operates { Operates (Asked.Join id) (IsRescanMark tries) (F.harm_count fate.old) (F.harm_count fate.new) pass.old pass.new result }
         ensures answer { IsMembersAnswer (Asked.Join id) result }
         ensures legal { D.tells → IsLegal (reverse pass.new.seen) }
@@ -75,10 +75,10 @@ impl<D: Disk> Board<D> {
     ) -> OpAnswer
         requires pass { IsPassOf self.now pass.old }
         requires operator { pass.old.number ≡ 0 }
-        requires free { IsFree pass.old.own }
+        requires free { NothingIsOpen pass.old.own }
         requires some { 1 ≤ tries }
         ensures pass { pass.new ≡ record pass.old { seen = pass.new.seen; own = pass.new.own } }
-        ensures free { IsFree pass.new.own }
+        ensures free { NothingIsOpen pass.new.own }
         ensures operates { Operates (Asked.Leave id) (IsRescanMark tries) (F.harm_count fate.old) (F.harm_count fate.new) pass.old pass.new result }
         ensures answer { IsMembersAnswer (Asked.Leave id) result }
         ensures legal { D.tells → IsLegal (reverse pass.new.seen) }
@@ -102,10 +102,10 @@ impl<D: Disk> Board<D> {
     ) -> OpAnswer
         requires pass { IsPassOf self.now pass.old }
         requires operator { pass.old.number ≡ 0 }
-        requires free { IsFree pass.old.own }
+        requires free { NothingIsOpen pass.old.own }
         requires some { 1 ≤ tries }
         ensures pass { pass.new ≡ record pass.old { seen = pass.new.seen; own = pass.new.own } }
-        ensures free { IsFree pass.new.own }
+        ensures free { NothingIsOpen pass.new.own }
         ensures operates { Operates (asked_to aim.now.kind aim.now.id) (IsRescanMark tries) (F.harm_count fate.old) (F.harm_count fate.new) pass.old pass.new result }
         ensures answer { IsMembersAnswer (asked_to aim.now.kind aim.now.id) result }
         ensures legal { D.tells → IsLegal (reverse pass.new.seen) }
@@ -331,13 +331,13 @@ impl<D: Disk> Board<D> {
     ) -> Result<Program, Answer>
         requires pass { IsPassOf self.now pass.old }
         requires operator { pass.old.number ≡ 0 }
-        requires free { IsFree pass.old.own }
+        requires free { NothingIsOpen pass.old.own }
         ensures pass { pass.new ≡ record pass.old { seen = pass.new.seen; own = pass.new.own } }
-        ensures front { GoesOn pass.old.number pass.old.seen pass.new.seen [] }
+        ensures front { FrontGoesOn pass.old.number pass.old.seen pass.new.seen [] }
         ensures counted { rescanned_in pass.new.own ≡ rescanned_in pass.old.own }
         ensures program { IfOk result (λ program. program ≡ keep_always) }
         ensures ordered { OnOk result (HasOrder (asked_to aim.now.kind aim.now.id) pass.new.own) }
-        ensures refused { IfErr result (λ why. IsRefusal (length pass.new.seen) why × IsFree pass.new.own) }
+        ensures refused { IfErr result (λ why. IsRefusalBehind (length pass.new.seen) why × NothingIsOpen pass.new.own) }
         ensures legal { D.tells → IsLegal (reverse pass.new.seen) }
         ensures tellings { D.tells → AreTellingsSo self.now.seats (reverse pass.new.seen) }
     {
@@ -353,7 +353,7 @@ impl<D: Disk> Board<D> {
         requires operator { pass.old.number ≡ 0 }
         requires ordered { HasOrder (asked_to aim.now.kind aim.now.id) pass.old.own }
         ensures pass { pass.new ≡ record pass.old { seen = pass.new.seen; own = pass.new.own } }
-        ensures front { OnOk result (GoesOn pass.old.number pass.old.seen pass.new.seen []) }
+        ensures front { OnOk result (FrontGoesOn pass.old.number pass.old.seen pass.new.seen []) }
         ensures counted { OnOk result (rescanned_in pass.new.own ≡ rescanned_in pass.old.own) }
         ensures planned { OnOk result (HasPlan (asked_to aim.now.kind aim.now.id) pass.new.own) }
         ensures told { IfErr result (WasToldLast (asked_to aim.now.kind aim.now.id) IsPlanMark 0 pass.old pass.new) }
@@ -438,7 +438,7 @@ impl<D: Disk> Board<D> {
         ensures goes_on { OnOk result (HasOperated IsPlanMark (harm_by verdict) pass.old pass.new) }
         ensures wanted { IfOk result (λ now. now ≢ Rescanning.Counted → wanted_by 0 pass.new.seen ≡ wanted_by 0 pass.old.seen) }
         ensures rescans { IfOk result (IsRescannedTo (asked_to aim.now.kind aim.now.id) call key.now pass.new.own) }
-        ensures rounds { IfOk result (HasRounds may_repeat pass.old.own pass.new.own) }
+        ensures rounds { IfOk result (RoundsAreKept may_repeat pass.old.own pass.new.own) }
         ensures told { (tries : ℕ) → (may_repeat ≡ false → rounds_after pass.old.own ≡ tries) → IfErr result (WasToldLast (asked_to aim.now.kind aim.now.id) (IsRescanMark tries) (harm_by verdict) pass.old pass.new) }
         ensures answer { IfErr result (IsMembersAnswer (asked_to aim.now.kind aim.now.id)) }
         ensures legal { D.tells → IsLegal (reverse pass.new.seen) }

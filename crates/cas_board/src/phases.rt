@@ -3,7 +3,7 @@
 ghost use Rattle.std.specs.Prelude.{◌≡◌, []};
 ghost use Rattle.cas_board.specs.Changes.{IsCounted};
 ghost use Rattle.cas_board_steps.specs.Calls.Deeds.{harm_by};
-ghost use Rattle.cas_board_steps.specs.Mine.{GoesOn, wanted_by};
+ghost use Rattle.cas_board_steps.specs.Mine.{FrontGoesOn, wanted_by};
 ghost use Rattle.cas_board.specs.Passes.{IsPassOf};
 
 use crate::board::{Board, Pass};
@@ -27,7 +27,7 @@ impl<D: Disk> Board<D> {
     ) -> Verdict
         requires pass { IsPassOf self.now pass.old }
         ensures pass { pass.new ≡ record pass.old { seen = pass.new.seen } }
-        ensures front { GoesOn pass.old.number pass.old.seen pass.new.seen [] }
+        ensures front { FrontGoesOn pass.old.number pass.old.seen pass.new.seen [] }
         ensures wanted { wanted_by pass.old.number pass.new.seen ≡ wanted_by pass.old.number pass.old.seen }
         ensures counted { IsCounted (harm_by result) (F.harm_count fate.old) (F.harm_count fate.new) }
     {
@@ -50,7 +50,7 @@ impl<D: Disk> Board<D> {
     ) -> Verdict
         requires pass { IsPassOf self.now pass.old }
         ensures pass { pass.new ≡ record pass.old { seen = pass.new.seen } }
-        ensures front { GoesOn pass.old.number pass.old.seen pass.new.seen [] }
+        ensures front { FrontGoesOn pass.old.number pass.old.seen pass.new.seen [] }
         ensures wanted { wanted_by pass.old.number pass.new.seen ≡ wanted_by pass.old.number pass.old.seen }
         ensures counted { IsCounted (harm_by result) (F.harm_count fate.old) (F.harm_count fate.new) }
     {
@@ -64,7 +64,7 @@ impl<D: Disk> Board<D> {
     fn let_in_once<R: Wait, F: Fate>(&self, rt: &R, pass: &mut Pass<D>, fate: &mut F, late: usize)
         requires pass { IsPassOf self.now pass.old }
         ensures pass { pass.new ≡ record pass.old { seen = pass.new.seen } }
-        ensures front { GoesOn pass.old.number pass.old.seen pass.new.seen [] }
+        ensures front { FrontGoesOn pass.old.number pass.old.seen pass.new.seen [] }
         ensures wanted { wanted_by pass.old.number pass.new.seen ≡ wanted_by pass.old.number pass.old.seen }
         ensures harms { F.harm_count fate.new ≡ F.harm_count fate.old }
     {

@@ -7,9 +7,9 @@ ghost use Rattle.cas_board.specs.Changes.{IsCounted};
 ghost use Rattle.cas_board.specs.Operations.{HasMarkedHarms, HasOperated, IsSilentSince, Operates, WasToldLast};
 ghost use Rattle.cas_board.specs.Passes.{IsPassOf};
 ghost use Rattle.cas_ballot.specs.Members.{IsMemberSet};
-ghost use Rattle.cas_board_steps.specs.Calls.Deeds.{IsRefusal, harm_by};
-ghost use Rattle.cas_board_steps.specs.Mine.{GoesOn};
-ghost use Rattle.cas_board_steps.specs.Calls.Open.{IsFree, rescanned_in};
+ghost use Rattle.cas_board_steps.specs.Calls.Deeds.{IsRefusalBehind, harm_by};
+ghost use Rattle.cas_board_steps.specs.Mine.{FrontGoesOn};
+ghost use Rattle.cas_board_steps.specs.Calls.Open.{NothingIsOpen, rescanned_in};
 ghost use Rattle.cas_board_steps.specs.Exchanges.Orders.{HasHarms, HasOrder, HasProbe, IsAskingHarm, IsProbeAnswer, IsSilentAtMost, IsTrueProbe, WasAskedBehind};
 
 use crate::board::{Board, Pass};
@@ -44,9 +44,9 @@ impl<D: Disk> Board<D> {
     ) -> OpAnswer
         requires pass { IsPassOf self.now pass.old }
         requires operator { pass.old.number ≡ 0 }
-        requires free { IsFree pass.old.own }
+        requires free { NothingIsOpen pass.old.own }
         ensures pass { pass.new ≡ record pass.old { seen = pass.new.seen; own = pass.new.own } }
-        ensures free { IsFree pass.new.own }
+        ensures free { NothingIsOpen pass.new.own }
         ensures operates { Operates (Asked.Probe key.now) IsAskingHarm (F.harm_count fate.old) (F.harm_count fate.new) pass.old pass.new result }
         ensures answer { (members : List ℕ) × IsMemberSet members × IsProbeAnswer key.now members result }
         ensures counted { rescanned_in pass.new.own ≡ rescanned_in pass.old.own }
@@ -126,14 +126,14 @@ impl<D: Disk> Board<D> {
     ) -> Result<ProbeOrder, Answer>
         requires pass { IsPassOf self.now pass.old }
         requires operator { pass.old.number ≡ 0 }
-        requires free { IsFree pass.old.own }
+        requires free { NothingIsOpen pass.old.own }
         ensures pass { pass.new ≡ record pass.old { seen = pass.new.seen; own = pass.new.own } }
-        ensures front { GoesOn pass.old.number pass.old.seen pass.new.seen [] }
+        ensures front { FrontGoesOn pass.old.number pass.old.seen pass.new.seen [] }
         ensures counted { rescanned_in pass.new.own ≡ rescanned_in pass.old.own }
         ensures ordered { OnOk result (HasOrder (Asked.Probe key.now) pass.new.own) }
         ensures question { IfOk result (λ order. order.question ≡ Exchange.Probe key.now) }
         ensures key { IfOk result (λ order. order.key ≡ key.now) }
-        ensures refused { IfErr result (λ why. IsRefusal (length pass.new.seen) why × IsFree pass.new.own) }
+        ensures refused { IfErr result (λ why. IsRefusalBehind (length pass.new.seen) why × NothingIsOpen pass.new.own) }
         ensures legal { D.tells → IsLegal (reverse pass.new.seen) }
     {
         let mut shared = self.turn.hold(rt, pass);
@@ -154,7 +154,7 @@ impl<D: Disk> Board<D> {
         requires question { order.question ≡ Exchange.Probe order.key }
         requires ordered { HasOrder (Asked.Probe order.key) pass.old.own }
         ensures pass { pass.new ≡ record pass.old { seen = pass.new.seen; own = pass.new.own } }
-        ensures front { OnOk result (GoesOn pass.old.number pass.old.seen pass.new.seen []) }
+        ensures front { OnOk result (FrontGoesOn pass.old.number pass.old.seen pass.new.seen []) }
         ensures counted { OnOk result (rescanned_in pass.new.own ≡ rescanned_in pass.old.own) }
         ensures asks { OnOk result ((members : List ℕ) × IsMemberSet members × HasProbe order.key members pass.new.own) }
         ensures key { IfOk result (λ probing. probing.key ≡ order.key) }

@@ -5,9 +5,9 @@ use Rattle.cas_base.proofs.Bools.{true_or_false}
 use Rattle.cas_record.proofs.Tests.{nat_same, nat_is}
 use Rattle.cas_record.specs.declared.mark.Mark.{Mark}
 use Rattle.cas_record.specs.declared.mark.Mark.TheVariants.{Begun, Proposed, Voted, Acked, Floor, EraEntered, Ended, Harmed, Told}
-use Rattle.cas_turn.specs.Seen.{Begins, HasSeen, NoneOwned, OnlyOwnedBy, added_to}
+use Rattle.cas_turn.specs.Seen.{Begins, HasSeenOwn, NoneOwned, OnlyOwnedBy, added_to}
 use Rattle.cas_turn.proofs.SeenLemmas.{begins_both, begins_grows, sees_begins, none_else}
-use Rattle.cas_board_steps.specs.Mine.{is_owner, mine, Wanted, wants, wanted_after, wanted_by, GoesOn}
+use Rattle.cas_board_steps.specs.Mine.{is_owner, mine, Wanted, wants, wanted_after, wanted_by, FrontGoesOn}
 use Rattle.cas_board_steps.specs.Owners.{owner_of}
 
 -- ---- what is added
@@ -47,17 +47,17 @@ pub mine_own : (n : ℕ) (mark : Mark) (l : List Mark) → owner_of mark ≡ Som
 mine_own n mark l own = ap (λ (o : Option ℕ). if is_owner n o then mark ∷ mine n l else mine n l) own ∙ ap (λ (t : Bool). if t then mark ∷ mine n l else mine n l) (nat_is {a = n} {b = n} refl)
 
 -- what a front has of its caller's own, of which a longer one has no more
-pub mine_seen : (n : ℕ) (seen all : List Mark) → HasSeen owner_of n seen all → mine n all ≡ mine n seen
+pub mine_seen : (n : ℕ) (seen all : List Mark) → HasSeenOwn owner_of n seen all → mine n all ≡ mine n seen
 mine_seen n seen all has = ap (mine n) (sym has.whole) ∙ mine_append n seen has.behind ∙ ap (λ (l : List Mark). mine n seen ++ l) (mine_none n has.behind has.none_own) ∙ append-nil (mine n seen)
 
 -- what was seen, and what a hold added to it
-pub front_goes_on : (n : ℕ) (seen all new marks : List Mark) → HasSeen owner_of n seen all → new ≡ all ++ marks → GoesOn n seen new (mine n marks)
+pub front_goes_on : (n : ℕ) (seen all new marks : List Mark) → HasSeenOwn owner_of n seen all → new ≡ all ++ marks → FrontGoesOn n seen new (mine n marks)
 front_goes_on n seen all new marks has made = record {
   begins = subst (λ (l : List Mark). Begins seen l) (sym made) (begins_grows seen all marks (sees_begins owner_of n seen all has));
   own_marks = ap (mine n) made ∙ mine_append n all marks ∙ ap (λ (l : List Mark). l ++ mine n marks) (mine_seen n seen all has);
 }
 
-pub goes_on_then : (n : ℕ) (a b c own more : List Mark) → GoesOn n a b own → GoesOn n b c more → GoesOn n a c (own ++ more)
+pub goes_on_then : (n : ℕ) (a b c own more : List Mark) → FrontGoesOn n a b own → FrontGoesOn n b c more → FrontGoesOn n a c (own ++ more)
 goes_on_then n a b c own more first then_ = record {
   begins = begins_both a b c first.begins then_.begins;
   own_marks = then_.own_marks ∙ ap (λ (l : List Mark). l ++ more) first.own_marks ∙ append_assoc (mine n a) own more;
@@ -94,7 +94,7 @@ wanted_none n before (Told asked answer ∷ l) none = wanted_none n before l (Al
 pub wanted_stays : (n : ℕ) (old new marks : List Mark) → new ≡ old ++ marks → NoneOwned owner_of n marks → wanted_by n new ≡ wanted_by n old
 wanted_stays n old new marks made none = ap (wanted_by n) made ∙ wanted_append n None old marks ∙ wanted_none n (wanted_by n old) marks none
 
-pub wanted_seen : (n : ℕ) (seen all : List Mark) → HasSeen owner_of n seen all → wanted_by n all ≡ wanted_by n seen
+pub wanted_seen : (n : ℕ) (seen all : List Mark) → HasSeenOwn owner_of n seen all → wanted_by n all ≡ wanted_by n seen
 wanted_seen n seen all has = wanted_stays n seen all has.behind (sym has.whole) has.none_own
 
 pub wanted_of_others : (n m : ℕ) (old new marks : List Mark) → m ≢ n → new ≡ old ++ marks → OnlyOwnedBy owner_of n marks → wanted_by m new ≡ wanted_by m old

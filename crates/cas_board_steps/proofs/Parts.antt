@@ -5,7 +5,7 @@ use Rattle.cas_model.specs.Calls.Step.{one_more}
 use Rattle.cas_model.specs.View.{View, CallView, CallerView, IsAt}
 use Rattle.cas_board_steps.specs.OwnParts.{phase_of, call_part, open_part, caller_part, exchange_part, plan_part, council_part, own_part}
 use Rattle.cas_board_steps.specs.Calls.Conflicts.{told_conflict}
-use Rattle.cas_board_steps.specs.Calls.Open.{IsFree, IsIdle, HasOpen, beside_in, rounds_in, is_met_in, rounds_after}
+use Rattle.cas_board_steps.specs.Calls.Open.{NothingIsOpen, IsIdle, HasOpen, beside_in, rounds_in, is_met_in, rounds_after}
 use Rattle.cas_board_steps.proofs.Exchanges.Councils.{kind_of, no_call_kind, no_call_of, is_like, no_exchange, with_plan}
 
 -- ---- what else a caller has of its own
@@ -44,7 +44,7 @@ pub idle_quiet : {S V : Type 0} (view : View S V) (n : ℕ) → IsIdle (own_part
 idle_quiet view n idle = quiet_of view n idle.council idle.unasked (idle_parts view n idle).1
 
 -- where nothing is open but a change of membership, no call is
-pub free_is_idle : (own : List ℕ) → IsFree own → IsIdle own
+pub free_is_idle : (own : List ℕ) → NothingIsOpen own → IsIdle own
 free_is_idle own free = record { council = with_plan free.plan; unasked = refl; is = free.is ∙ sym (append-nil (plan_part free.plan)) }
 
 -- ---- a call is open

@@ -58,7 +58,7 @@ wanted_by n marks = wanted_after n None marks
 
 -- ---- fronts that go on
 -- the front goes on with these of the caller's own marks
-pub record GoesOn (n : ℕ) (old new own : List Mark) : Type 0 where
+pub record FrontGoesOn (n : ℕ) (old new own : List Mark) : Type 0 where
   pub begins : Begins old new
   pub own_marks : mine n new ≡ mine n old ++ own
 

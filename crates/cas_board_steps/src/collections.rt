@@ -8,10 +8,10 @@ ghost use Rattle.cas_model.specs.Collection.Step.{keep_always};
 ghost use Rattle.cas_model.specs.View.{CallerView, IsAt, meaning};
 ghost use Rattle.cas_collect.specs.declared.collect.CollectStep.TheVariants as step;
 ghost use Rattle.cas_flow.specs.Flow.{queue_at};
-ghost use Rattle.cas_board_steps.specs.Collection.Collecting.{CollectsIn, HasBurial, HasCourse, HasQuestion, HasStep, IsBurialMark, IsCollectAnswer, IsCollectingMark, IsRefusedBurial, IsWithin, Stops, TellsRefusal, most_rounds};
-ghost use Rattle.cas_board_steps.specs.Calls.Deeds.{IsRefusal, harm_by};
+ghost use Rattle.cas_board_steps.specs.Collection.Collecting.{CollectsIn, HasBurial, HasCourse, HasQuestion, HasStep, IsBurialMark, IsCollectAnswer, IsCollectingMark, IsRefusedBurial, HasRoundsWithin, Stops, TellsRefusal, most_rounds};
+ghost use Rattle.cas_board_steps.specs.Calls.Deeds.{IsRefusalBehind, harm_by};
 ghost use Rattle.cas_board_steps.specs.Kept.{IsKept, Makes};
-ghost use Rattle.cas_board_steps.specs.Calls.Open.{IsFree};
+ghost use Rattle.cas_board_steps.specs.Calls.Open.{NothingIsOpen};
 ghost use Rattle.cas_board_steps.specs.Exchanges.Orders.{HasOrder, IsToldIn, OperatesIn};
 ghost use Rattle.cas_board_steps.specs.OwnParts.{own_part};
 ghost use Rattle.cas_board_steps.specs.Calls.Stages.{front_of};
@@ -77,7 +77,7 @@ pub fn order_collection<S: Shelf, V: Disk>(
     tries: u32,
 ) -> Result<KeyCollection, Answer>
     requires kept { IsKept world.old }
-    requires free { IsFree (own_part world.old 0) }
+    requires free { NothingIsOpen (own_part world.old 0) }
     ensures kept { IsKept world.new }
     ensures last_proposer { world.new.last_proposer ≡ world.old.last_proposer }
     ensures makes { Makes 0 world.old world.new [] }
@@ -86,7 +86,7 @@ pub fn order_collection<S: Shelf, V: Disk>(
     ensures keeps { IfOk result (λ collecting. collecting.program ≡ keep_always) }
     ensures tries { IfOk result (λ collecting. collecting.tries ≡ tries) }
     ensures ordered { IfOk result (λ collecting. HasCourse key.now (most_rounds tries) collecting.course (own_part world.new 0) world.new.marks) }
-    ensures refused { IfErr result (λ why. IsRefusal (length world.new.marks) why × IsFree (own_part world.new 0)) }
+    ensures refused { IfErr result (λ why. IsRefusalBehind (length world.new.marks) why × NothingIsOpen (own_part world.new 0)) }
 {
     match prepare(alloc, key, tries) {
         Ok((asked, collecting)) => match open_order(world, &asked) {
@@ -257,7 +257,7 @@ fn go_on_burying<S: Shelf, V: Disk>(
     requires kept { IsKept world.old }
     requires keeps { program.now ≡ keep_always }
     requires at { HasBurial key.now call (own_part world.old 0) world.old.marks }
-    requires within { IsWithin (most_rounds tries) rounds (own_part world.old 0) }
+    requires within { HasRoundsWithin (most_rounds tries) rounds (own_part world.old 0) }
     ensures kept { IsKept world.new }
     ensures last_proposer { world.new.last_proposer ≡ world.old.last_proposer }
     ensures collects { CollectsIn key.now (most_rounds tries) (harm_by verdict) world.old world.new result }
@@ -292,7 +292,7 @@ fn bury_again<S: Shelf, V: Disk>(
     requires unclosed { (seen : CallerView) → IsAt world.old.callers 0 seen → closed_in seen.call ≡ None }
     ensures kept { IsKept world.new }
     ensures last_proposer { world.new.last_proposer ≡ world.old.last_proposer }
-    ensures collects { (tries most : ℕ) → IsWithin tries rounds (own_part world.old 0) → CollectsIn key.now tries most world.old world.new result }
+    ensures collects { (tries most : ℕ) → HasRoundsWithin tries rounds (own_part world.old 0) → CollectsIn key.now tries most world.old world.new result }
 {
     match world.begin_collect(call, key, program) {
         Ok(()) => Ok(Course::Buries {
@@ -318,7 +318,7 @@ fn take_burial_turn<S: Shelf, V: Disk>(
     requires waits { (queue_at world.old.flow 0).messages ≢ [] }
     ensures kept { IsKept world.new }
     ensures last_proposer { world.new.last_proposer ≡ world.old.last_proposer }
-    ensures collects { (tries : ℕ) → IsWithin tries rounds (own_part world.old 0) → CollectsIn key.now tries (harm_by verdict) world.old world.new result }
+    ensures collects { (tries : ℕ) → HasRoundsWithin tries rounds (own_part world.old 0) → CollectsIn key.now tries (harm_by verdict) world.old world.new result }
 {
     match world.turn(0, verdict) {
         Ok(()) => Ok(Course::Buries { call, rounds }),
@@ -340,7 +340,7 @@ fn propose_tombstone<S: Shelf, V: Disk>(
 ) -> Result<Course, OpAnswer>
     requires kept { IsKept world.old }
     requires at { HasBurial key.now call (own_part world.old 0) world.old.marks }
-    requires within { IsWithin (most_rounds tries) rounds (own_part world.old 0) }
+    requires within { HasRoundsWithin (most_rounds tries) rounds (own_part world.old 0) }
     requires preparing { IsInPhase world.old 0 true }
     requires unproposed { (seen : CallerView) → IsAt world.old.callers 0 seen → IfSome seen.call (λ open_call. open_call.proposed ≡ None) }
     ensures kept { IsKept world.new }

@@ -8,7 +8,7 @@ ghost use Rattle.cas_world.specs.Calls.Beginning.{is_refusal};
 ghost use Rattle.cas_world.specs.Readers.{closed_in};
 ghost use Rattle.cas_world.specs.World.{IsInPhase};
 ghost use Rattle.cas_board_steps.specs.Calls.Conflicts.{is_conflict};
-ghost use Rattle.cas_board_steps.specs.Calls.Deeds.{BeginsIn, BeginsNot, EndsIn, GoesOnIn, StraysIn, harm_by};
+ghost use Rattle.cas_board_steps.specs.Calls.Deeds.{BeginsIn, BeginsNot, EndsMarked, GoesOnIn, StraysIn, harm_by};
 ghost use Rattle.cas_board_steps.specs.Kept.{IsKept};
 ghost use Rattle.cas_board_steps.specs.Mine.{wanted_by, wants};
 ghost use Rattle.cas_board_steps.specs.OwnParts.{own_part};
@@ -149,7 +149,7 @@ pub fn go_on<S: Shelf, V: Disk>(
     ensures met { IfOk result (λ stage. is_met_in (own_part world.new caller) ≡ tells_met stage) }
     ensures repeats { OnOk result (is_met_in (own_part world.new caller) ≡ true → may_repeat ≡ true) }
     ensures last { IfErr result (λ told. is_conflict told ≡ true → may_repeat ≡ false) }
-    ensures ends { IfErr result (EndsIn caller call (harm_by verdict) world.old world.new) }
+    ensures ends { IfErr result (EndsMarked caller call (harm_by verdict) world.old world.new) }
 {
     if let Some(told) = world.closed(caller) {
         return Err(world.end(caller, call, told));
@@ -188,7 +188,7 @@ fn begin_again<S: Shelf, V: Disk>(
     ensures met { IfOk result (λ stage. is_met_in (own_part world.new caller) ≡ tells_met stage) }
     ensures unmet { OnOk result (is_met_in (own_part world.new caller) ≡ false) }
     ensures no_conflict { IfErr result (λ told. is_conflict told ≡ false) }
-    ensures ends { (most : ℕ) → IfErr result (EndsIn caller call most world.old world.new) }
+    ensures ends { (most : ℕ) → IfErr result (EndsMarked caller call most world.old world.new) }
 {
     match world.begin(caller, call, key, program) {
         Ok(()) => Ok(stage_of(world, caller)),
@@ -215,7 +215,7 @@ fn take_turn<S: Shelf, V: Disk>(
     ensures met { IfOk result (λ stage. is_met_in (own_part world.new caller) ≡ tells_met stage) }
     ensures unmet { OnOk result (is_met_in (own_part world.new caller) ≡ false) }
     ensures no_conflict { IfErr result (λ told. is_conflict told ≡ false) }
-    ensures ends { IfErr result (EndsIn caller call (harm_by verdict) world.old world.new) }
+    ensures ends { IfErr result (EndsMarked caller call (harm_by verdict) world.old world.new) }
 {
     match world.turn(caller, verdict) {
         Ok(()) => Ok(stage_of(world, caller)),
@@ -247,7 +247,7 @@ fn propose<S: Shelf, V: Disk>(
     ensures met { IfOk result (λ stage. is_met_in (own_part world.new caller) ≡ tells_met stage) }
     ensures repeats { OnOk result (is_met_in (own_part world.new caller) ≡ true → may_repeat ≡ true) }
     ensures last { IfErr result (λ told. is_conflict told ≡ true → may_repeat ≡ false) }
-    ensures ends { (most : ℕ) → IfErr result (EndsIn caller call most world.old world.new) }
+    ensures ends { (most : ℕ) → IfErr result (EndsMarked caller call most world.old world.new) }
 {
     match world.propose(caller) {
         Ok(()) => Ok(stage_of(world, caller)),

@@ -8,11 +8,11 @@ ghost use Rattle.cas_model.specs.Collection.Step.{keep_always};
 ghost use Rattle.cas_flow.specs.Flow.{queue_at};
 ghost use Rattle.cas_members.specs.declared.plan.PlanStep.TheVariants as step;
 ghost use Rattle.cas_world.specs.Eras.Plans.{HasFinished, IsAtEnd, IsFor, IsPartial, IsUnderWay, asked_to, rescanned_of, step_of};
-ghost use Rattle.cas_board_steps.specs.Calls.Deeds.{IsRefusal, harm_by};
+ghost use Rattle.cas_board_steps.specs.Calls.Deeds.{IsRefusalBehind, harm_by};
 ghost use Rattle.cas_board_steps.specs.Kept.{IsKept, Makes};
-ghost use Rattle.cas_board_steps.specs.Eras.Membership.{HasListing, HasPlan, HasRescan, HasRounds, IsListedTo, IsMembersAnswer, IsPlanMark, IsRescanMark, IsRescannedTo, StandsAt};
+ghost use Rattle.cas_board_steps.specs.Eras.Membership.{HasListing, HasPlan, HasRescan, RoundsAreKept, IsListedTo, IsMembersAnswer, IsPlanMark, IsRescanMark, IsRescannedTo, StandsAt};
 ghost use Rattle.cas_board_steps.specs.Mine.{wanted_by, wants};
-ghost use Rattle.cas_board_steps.specs.Calls.Open.{IsFree, rounds_after};
+ghost use Rattle.cas_board_steps.specs.Calls.Open.{NothingIsOpen, rounds_after};
 ghost use Rattle.cas_board_steps.specs.Exchanges.Orders.{HasOrder, IsToldIn, OperatesIn};
 ghost use Rattle.cas_board_steps.specs.OwnParts.{own_part};
 
@@ -71,14 +71,14 @@ pub fn order_members<S: Shelf, V: Disk>(
     aim: &Aim,
 ) -> Result<Program, Answer>
     requires kept { IsKept world.old }
-    requires free { IsFree (own_part world.old 0) }
+    requires free { NothingIsOpen (own_part world.old 0) }
     ensures kept { IsKept world.new }
     ensures last_proposer { world.new.last_proposer ≡ world.old.last_proposer }
     ensures makes { Makes 0 world.old world.new [] }
     ensures counted { rescanned_of world.new.council.plan ≡ rescanned_of world.old.council.plan }
     ensures program { IfOk result (λ program. program ≡ keep_always) }
     ensures ordered { OnOk result (HasOrder (asked_to aim.now.kind aim.now.id) (own_part world.new 0)) }
-    ensures refused { IfErr result (λ why. IsRefusal (length world.new.marks) why × IsFree (own_part world.new 0)) }
+    ensures refused { IfErr result (λ why. IsRefusalBehind (length world.new.marks) why × NothingIsOpen (own_part world.new 0)) }
 {
     match keep_always(alloc) {
         Ok(program) => match open_order(world, &aim.kind.asked(aim.id)) {
@@ -417,7 +417,7 @@ pub fn rescan_on<S: Shelf, V: Disk>(
     ensures goes_on { OnOk result (OperatesIn IsPlanMark (harm_by verdict) world.old world.new) }
     ensures wanted { IfOk result (λ now. now ≢ Rescanning.Counted → wanted_by 0 world.new.marks ≡ wanted_by 0 world.old.marks) }
     ensures rescans { IfOk result (IsRescannedTo (asked_to aim.now.kind aim.now.id) call key.now (own_part world.new 0)) }
-    ensures rounds { IfOk result (HasRounds may_repeat (own_part world.old 0) (own_part world.new 0)) }
+    ensures rounds { IfOk result (RoundsAreKept may_repeat (own_part world.old 0) (own_part world.new 0)) }
     ensures told { (tries : ℕ) → (may_repeat ≡ false → rounds_after (own_part world.old 0) ≡ tries) → IfErr result (IsToldIn (asked_to aim.now.kind aim.now.id) (IsRescanMark tries) (harm_by verdict) world.old world.new) }
     ensures answer { IfErr result (IsMembersAnswer (asked_to aim.now.kind aim.now.id)) }
 {

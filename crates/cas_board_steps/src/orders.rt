@@ -6,9 +6,9 @@ ghost use Rattle.cas_model.specs.Exchanges.Step.{everyone};
 ghost use Rattle.cas_flow.specs.Flow.{queue_at};
 ghost use Rattle.cas_record.specs.declared.mark.Mark.{Mark};
 ghost use Rattle.cas_world.specs.Eras.Plans.{rescanned_of};
-ghost use Rattle.cas_board_steps.specs.Calls.Deeds.{IsRefusal, harm_by};
+ghost use Rattle.cas_board_steps.specs.Calls.Deeds.{IsRefusalBehind, harm_by};
 ghost use Rattle.cas_board_steps.specs.Kept.{IsKept, Makes};
-ghost use Rattle.cas_board_steps.specs.Calls.Open.{IsFree};
+ghost use Rattle.cas_board_steps.specs.Calls.Open.{NothingIsOpen};
 ghost use Rattle.cas_board_steps.specs.Exchanges.Orders.{HasHarms, HasOrder, HasProbe, IsAskingHarm, IsProbeAnswer, IsSilentAtMost, IsToldIn, IsTrueProbe, MarksHarms, OperatesIn, WasAskedBehind};
 ghost use Rattle.cas_board_steps.specs.OwnParts.{own_part};
 ghost use Rattle.cas_board_steps.specs.Calls.Stages.{HasFirst};
@@ -47,13 +47,13 @@ pub(crate) fn open_order<S: Shelf, V: Disk>(
     asked: &Asked,
 ) -> Result<(), Answer>
     requires kept { IsKept world.old }
-    requires free { IsFree (own_part world.old 0) }
+    requires free { NothingIsOpen (own_part world.old 0) }
     ensures kept { IsKept world.new }
     ensures last_proposer { world.new.last_proposer ≡ world.old.last_proposer }
     ensures makes { Makes 0 world.old world.new [] }
     ensures counted { rescanned_of world.new.council.plan ≡ rescanned_of world.old.council.plan }
     ensures ordered { OnOk result (HasOrder asked.now (own_part world.new 0)) }
-    ensures refused { IfErr result (λ why. IsRefusal (length world.new.marks) why × IsFree (own_part world.new 0)) }
+    ensures refused { IfErr result (λ why. IsRefusalBehind (length world.new.marks) why × NothingIsOpen (own_part world.new 0)) }
 {
     match world.order(asked) {
         Ok(()) => Ok(()),
@@ -68,7 +68,7 @@ pub fn order_probe<S: Shelf, V: Disk>(
     key: &Key,
 ) -> Result<ProbeOrder, Answer>
     requires kept { IsKept world.old }
-    requires free { IsFree (own_part world.old 0) }
+    requires free { NothingIsOpen (own_part world.old 0) }
     ensures kept { IsKept world.new }
     ensures last_proposer { world.new.last_proposer ≡ world.old.last_proposer }
     ensures makes { Makes 0 world.old world.new [] }
@@ -76,7 +76,7 @@ pub fn order_probe<S: Shelf, V: Disk>(
     ensures ordered { OnOk result (HasOrder (Asked.Probe key.now) (own_part world.new 0)) }
     ensures question { IfOk result (λ order. order.question ≡ Exchange.Probe key.now) }
     ensures key { IfOk result (λ order. order.key ≡ key.now) }
-    ensures refused { IfErr result (λ why. IsRefusal (length world.new.marks) why × IsFree (own_part world.new 0)) }
+    ensures refused { IfErr result (λ why. IsRefusalBehind (length world.new.marks) why × NothingIsOpen (own_part world.new 0)) }
 {
     match copies_for(key) {
         Ok((asked, order)) => match open_order(world, &asked) {

@@ -30,7 +30,7 @@ use Rattle.cas_model.specs.Calls.Desks.{MayHaveDrawn, EndsRound, LosesMemory}
 use Rattle.cas_model.specs.View.{DiskMeaning, Meaning, View, CallView, CallerView, IsAt}
 use Rattle.cas_model.proofs.Places.{some_is, contains_older}
 use Rattle.cas_model.proofs.Safety.Parts.{low_at, at_low}
-use Rattle.cas_board_world.specs.Blame.{Nobody, blame_by_answer, HasFailed}
+use Rattle.cas_board_world.specs.Blame.{Nobody, blame_by_answer, HasFailedAt}
 use Rattle.cas_board_world.specs.Steady.{AreBlamed, IsBlamed, IsFair, desk_faults, blame_by_call, blame_if_told}
 use Rattle.cas_board_world.proofs.Parts.{stays_above, fair_nobody, desk_goes_on, desk_failed, on_callers, on_mark, on_council, on_telling}
 
@@ -46,7 +46,7 @@ loses_low m key old new ballot by =
     omega (arith, first, second)
 
 -- ---- a round begins
-no_beginning : {S V : Type 0} (m : Meaning S V) (old : View S V) (id : ℕ) (said : Answer) → IsNoBeginning said → (said ≡ answer.Down → HasFailed (desk_faults m) old.desks id) → IsFair m old.acceptors old.desks (blame_by_answer id said)
+no_beginning : {S V : Type 0} (m : Meaning S V) (old : View S V) (id : ℕ) (said : Answer) → IsNoBeginning said → (said ≡ answer.Down → HasFailedAt (desk_faults m) old.desks id) → IsFair m old.acceptors old.desks (blame_by_answer id said)
 no_beginning m old id answer.Down why down = down refl
 no_beginning m old id answer.RecordFull why down = tt
 no_beginning m old id (answer.NoMemory proposed) why down = tt

@@ -32,7 +32,7 @@ use Rattle.cas_model.specs.Calls.Desks.{FailsToDraw}
 use Rattle.cas_model.specs.View.{DiskMeaning, Meaning, View, CallerView, era_at}
 use Rattle.cas_model.proofs.Places.{some_is, newest_or_older, contains_none, contains_at}
 use Rattle.cas_vault.specs.Vault.{disk_of}
-use Rattle.cas_board_world.specs.Blame.{Nobody, blame_by, blame_by_answer, blame_by_op, HasFailed}
+use Rattle.cas_board_world.specs.Blame.{Nobody, blame_by, blame_by_answer, blame_by_op, HasFailedAt}
 use Rattle.cas_board_world.specs.Steady.{AreBlamed, IsBlamed, IsFair, desk_faults, blame_by_exchange, blame_by_order, blame_if_broken, blame_if_said}
 use Rattle.cas_board_world.proofs.Parts.{stays_above, fair_nobody, desk_goes_on, desk_failed, on_marks, on_council, on_telling, on_gathered, hushed_order}
 use Rattle.cas_board_world.proofs.Callers.{loses_low, later_listing}
@@ -162,7 +162,7 @@ refuse_exchange_blamed {S} {V} m old new is by = subst (IsBlamed m) (sym by.view
 -- ---- what was told is gathered
 -- an exchange that was broken off blames the vault of proposer 0
 pub broken_fair : {S V : Type 0} (m : Meaning S V) {acceptors : List (AcceptorView S)} {desks : List (DeskView V)} {eras : List Era} {callers : List CallerView} {council : Council} {marks : List Mark}
-    → AreBlamed m acceptors desks eras callers council marks → (exchange : ExchangeView) → council.exchange ≡ Some exchange → exchange.crashed ≡ true → HasFailed (desk_faults m) desks 0
+    → AreBlamed m acceptors desks eras callers council marks → (exchange : ExchangeView) → council.exchange ≡ Some exchange → exchange.crashed ≡ true → HasFailedAt (desk_faults m) desks 0
 broken_fair {S} {V} m {acceptors} {desks} is exchange is_open crashed =
     subst (λ (b : Bool). IsFair m acceptors desks (blame_if_broken b)) crashed (subst (λ (o : Option ExchangeView). IsFair m acceptors desks (blame_by_exchange o)) is_open is.exchange)
 

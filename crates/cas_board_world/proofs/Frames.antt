@@ -38,7 +38,7 @@ use Rattle.cas_model.proofs.Frames.Harms.{member_low}
 use Rattle.cas_model.proofs.Places.{at_set, newest_or_older, contains_none, contains_at}
 use Rattle.cas_model.proofs.Safety.Parts.{low_at, at_low}
 use Rattle.cas_board_world.specs.Blame.{Nobody, SomeAcceptor, blame_by}
-use Rattle.cas_board_world.specs.Steady.{AreBlamed, AreUsed, IsBlamed, IsFair, desk_faults}
+use Rattle.cas_board_world.specs.Steady.{AreBlamed, WereMembers, IsBlamed, IsFair, desk_faults}
 use Rattle.cas_board_world.proofs.Parts.{rose_above, stays_above, fair_nobody, acceptor_up, acceptor_failed, desk_goes_on, on_callers, on_marks}
 
 -- ---- votes and harms
@@ -87,7 +87,7 @@ down_fair m is id acceptor at down used = elim (is.excused id acceptor at down) 
 in_union : (a b : List ℕ) (n : ℕ) → n < 64 → (has_member a n || has_member b n) ≡ true → has_member (union_of a b) n ≡ true
 in_union a b n low either = has-members_where (λ k. has_member a k || has_member b k) n low ∙ either
 
-asked_used : {S V : Type 0} (old : View S V) (id : ℕ) (used : List ℕ) (phase : OpenPhase) (acceptor : ℕ) → IsSafe old → AreUsed used (era_at old id) → has_member (asked_in (era_at old id) phase) acceptor ≡ true → has_member used acceptor ≡ true
+asked_used : {S V : Type 0} (old : View S V) (id : ℕ) (used : List ℕ) (phase : OpenPhase) (acceptor : ℕ) → IsSafe old → WereMembers used (era_at old id) → has_member (asked_in (era_at old id) phase) acceptor ≡ true → has_member used acceptor ≡ true
 asked_used old id used (Prepare phase) acceptor safe all member =
     all acceptor (in_union (era_at old id).prep (era_at old id).acc acceptor (member_low (era_at old id).prep acceptor (safe.sound.prep_sets id) member) (or_left (has_member (era_at old id).prep acceptor) (has_member (era_at old id).acc acceptor) member))
 asked_used old id used (Accept phase) acceptor safe all member =

@@ -22,8 +22,8 @@ use Rattle.cas_model_causes.proofs.Exchanges.Asking.{probes_ask_all}
 use Rattle.cas_model_causes.proofs.Exchanges.Current.{probes_are_current}
 use Rattle.cas_model_causes.proofs.Exchanges.Probed.{probes_tell_so}
 use Rattle.cas_model_causes.proofs.Exchanges.TooOld.{probes_are_unaged}
-use Rattle.cas_model_causes.specs.Eras.Tellings.{AreTellingsSo, IsPassingBy, TellsTruly}
-use Rattle.cas_board_world.specs.Steady.{AreDesksUp, AreMembersUp, AreUsed, IsBlamed, IsFair, IsSteady, blame_by_call, blame_by_order, blame_by_exchange}
+use Rattle.cas_model_causes.specs.Eras.Tellings.{AreTellingsSo, IsPassingBy, TellingsAreTrue}
+use Rattle.cas_board_world.specs.Steady.{AreDesksUp, AreMembersUp, WereMembers, IsBlamed, IsFair, IsSteady, blame_by_call, blame_by_order, blame_by_exchange}
 
 -- each proposer works in the first era, and one that is not there in one without members
 era_there : (n id : ℕ) (era : Era) → (era_in (replicate n era) id ≡ era) ⊎ (era_in (replicate n era) id ≡ majority_era 0 [])
@@ -31,13 +31,13 @@ era_there zero id era = inr refl
 era_there (suc n) zero era = inl refl
 era_there (suc n) (suc id) era = era_there n id era
 
-both_used : (members used : List ℕ) → ((acceptor : ℕ) → has_member members acceptor ≡ true → has_member used acceptor ≡ true) → AreUsed used (majority_era 0 members)
+both_used : (members used : List ℕ) → ((acceptor : ℕ) → has_member members acceptor ≡ true → has_member used acceptor ≡ true) → WereMembers used (majority_era 0 members)
 both_used members used all acceptor member = elim (or_cases (has_member members acceptor) (has_member members acceptor) (members_where_tells (λ n. has_member members n || has_member members n) acceptor member)) [
   | inl first ↦ all acceptor first
   | inr second ↦ all acceptor second
 ]
 
-none_used : (used : List ℕ) → AreUsed used (majority_era 0 [])
+none_used : (used : List ℕ) → WereMembers used (majority_era 0 [])
 none_used used = both_used [] used (λ acceptor none. absurd (cc none))
 
 opening_blamed : {S V : Type 0} (m : Meaning S V) (members : List ℕ) (view : View S V) → IsOpening m members view → AreMembersUp members view.acceptors → AreDesksUp view.desks → IsBlamed m view
@@ -48,9 +48,9 @@ opening_blamed {S} {V} m members view is members_up desks_up = record {
   order = subst (λ (c : Council). IsFair m view.acceptors view.desks (blame_by_order c.order)) (sym is.council) tt;
   exchange = subst (λ (c : Council). IsFair m view.acceptors view.desks (blame_by_exchange c.exchange)) (sym is.council) tt;
   used_set = subst (λ (c : Council). IsMemberSet c.used) (sym is.council) is.member_set;
-  used = λ id. subst (λ (c : Council). AreUsed c.used (era_in view.eras id)) (sym is.council) (subst (λ (l : List Era). AreUsed members (era_in l id)) (sym is.eras) (elim (era_there 17 id (majority_era 0 members)) [
-    | inl there ↦ subst (AreUsed members) (sym there) (both_used members members (λ acceptor member. member))
-    | inr beyond ↦ subst (AreUsed members) (sym beyond) (none_used members)
+  used = λ id. subst (λ (c : Council). WereMembers c.used (era_in view.eras id)) (sym is.council) (subst (λ (l : List Era). WereMembers members (era_in l id)) (sym is.eras) (elim (era_there 17 id (majority_era 0 members)) [
+    | inl there ↦ subst (WereMembers members) (sym there) (both_used members members (λ acceptor member. member))
+    | inr beyond ↦ subst (WereMembers members) (sym beyond) (none_used members)
   ]));
   later = λ era there. absurd (contains_none (subst (λ (c : Council). Contains (later_of c.plan) era) is.council there));
   asked = λ exchange is_open. absurd (cc (sym (ap (λ (c : Council). c.exchange) is.council) ∙ is_open));
@@ -67,7 +67,7 @@ none_at here none = cc none
 none_at (past at) none = cc none
 
 -- no mark tells anything yet
-opening_truly : {S V : Type 0} (m : Meaning S V) (members : List ℕ) (view : View S V) → IsOpening m members view → TellsTruly view
+opening_truly : {S V : Type 0} (m : Meaning S V) (members : List ℕ) (view : View S V) → IsOpening m members view → TellingsAreTrue view
 opening_truly {S} {V} m members view is = record {
   tellings = subst (λ (l : List Mark). AreTellingsSo (suc view.last_proposer) (reverse l)) (sym is.marks) (record { so = λ at. absurd (none_at at refl) });
   passing = subst (λ (c : Council). IsPassingBy c.order) (sym is.council) tt;

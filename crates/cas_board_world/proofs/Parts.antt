@@ -12,8 +12,8 @@ use Rattle.cas_model.specs.Council.{ExchangeView, OrderView, Council, told_so, t
 use Rattle.cas_model.specs.Eras.Course.{later_of}
 use Rattle.cas_model.specs.View.{Meaning, CallerView, IsAt, era_in}
 use Rattle.cas_model.proofs.Places.{same_or_not, but_set, at_set, at_one, contains_append, newest_or_older, contains_none}
-use Rattle.cas_board_world.specs.Blame.{Blame, Nobody, SomeAcceptor, VaultOf, blame_by, blame_by_op, HasFailed}
-use Rattle.cas_board_world.specs.Steady.{AreBlamed, AreUsed, IsExcused, IsFair, acceptor_faults, desk_faults, blame_by_call, blame_by_order, blame_by_exchange}
+use Rattle.cas_board_world.specs.Blame.{Blame, Nobody, SomeAcceptor, VaultOf, blame_by, blame_by_op, HasFailedAt}
+use Rattle.cas_board_world.specs.Steady.{AreBlamed, WereMembers, IsExcused, IsFair, acceptor_faults, desk_faults, blame_by_call, blame_by_order, blame_by_exchange}
 
 -- ---- faults
 pub rose_above : {old new : ℕ} → Rose old new → 0 < new
@@ -45,7 +45,7 @@ lasts_set {A} faults xs place was now at low p x at_x = elim (same_or_not p plac
   | inr other ↦ (x, other_at xs place p x now other at_x, λ some. some)
 ]
 
-pub failed_then : {A : Type 0} (faults : A → ℕ) (old new : List A) (place : ℕ) → Lasts faults old new → HasFailed faults old place → HasFailed faults new place
+pub failed_then : {A : Type 0} (faults : A → ℕ) (old new : List A) (place : ℕ) → Lasts faults old new → HasFailedAt faults old place → HasFailedAt faults new place
 failed_then faults old new place lasts was =
     let now = lasts place was.one was.at in
     record { one = now.0; at = now.1; failed = now.2 was.failed }
@@ -127,7 +127,7 @@ desk_goes_on {S} {V} m is id was now at low same =
 -- one that has failed, which is at its place then
 pub desk_failed : {S V : Type 0} (m : Meaning S V) {acceptors : List (AcceptorView S)} {desks : List (DeskView V)} {eras : List Era} {callers : List CallerView} {council : Council} {marks : List Mark}
     → AreBlamed m acceptors desks eras callers council marks → (id : ℕ) (was now : DeskView V) → IsAt desks id was → Rose (desk_faults m was) (desk_faults m now)
-    → AreBlamed m acceptors (slice_set desks id now) eras callers council marks × HasFailed (desk_faults m) (slice_set desks id now) id
+    → AreBlamed m acceptors (slice_set desks id now) eras callers council marks × HasFailedAt (desk_faults m) (slice_set desks id now) id
 desk_failed m {acceptors} {desks} is id was now at rose =
     (on_desks m is id was now at (λ before. rose_above rose) (λ down. rose_above rose), record { one = now; at = at_set desks id was now at; failed = rose_above rose })
 
@@ -187,7 +187,7 @@ era_set (e ∷ eras) (suc place) zero era = inl refl
 era_set (e ∷ eras) (suc place) (suc p) era = era_set eras place p era
 
 pub on_eras : {S V : Type 0} (m : Meaning S V) {acceptors : List (AcceptorView S)} {desks : List (DeskView V)} {eras : List Era} {callers : List CallerView} {council : Council} {marks : List Mark}
-    → AreBlamed m acceptors desks eras callers council marks → (id : ℕ) (era : Era) → AreUsed council.used era → AreBlamed m acceptors desks (slice_set eras id era) callers council marks
+    → AreBlamed m acceptors desks eras callers council marks → (id : ℕ) (era : Era) → WereMembers council.used era → AreBlamed m acceptors desks (slice_set eras id era) callers council marks
 on_eras {S} {V} m {acceptors} {desks} {eras} {callers} {council} {marks} is id era used = record {
   excused = is.excused;
   failed = is.failed;
@@ -196,8 +196,8 @@ on_eras {S} {V} m {acceptors} {desks} {eras} {callers} {council} {marks} is id e
   exchange = is.exchange;
   used_set = is.used_set;
   used = λ p. elim (era_set eras id p era) [
-    | inl same ↦ subst (AreUsed council.used) (sym same) (is.used p)
-    | inr new ↦ subst (AreUsed council.used) (sym new) used
+    | inl same ↦ subst (WereMembers council.used) (sym same) (is.used p)
+    | inr new ↦ subst (WereMembers council.used) (sym new) used
   ];
   later = is.later;
   asked = is.asked;
@@ -208,7 +208,7 @@ on_eras {S} {V} m {acceptors} {desks} {eras} {callers} {council} {marks} is id e
 -- who was a member stays
 pub on_council : {S V : Type 0} (m : Meaning S V) {acceptors : List (AcceptorView S)} {desks : List (DeskView V)} {eras : List Era} {callers : List CallerView} {council : Council} {marks : List Mark}
     → AreBlamed m acceptors desks eras callers council marks → (now : Council) → now.used ≡ council.used → IsFair m acceptors desks (blame_by_order now.order) → IsFair m acceptors desks (blame_by_exchange now.exchange)
-    → ((era : Era) → Contains (later_of now.plan) era → AreUsed council.used era)
+    → ((era : Era) → Contains (later_of now.plan) era → WereMembers council.used era)
     → ((exchange : ExchangeView) → now.exchange ≡ Some exchange → (acceptor : ℕ) → has_member exchange.members acceptor ≡ true → has_member council.used acceptor ≡ true)
     → AreBlamed m acceptors desks eras callers now marks
 on_council {S} {V} m {acceptors} {desks} {eras} {callers} {council} {marks} is now same order exchange later asked = record {
@@ -218,8 +218,8 @@ on_council {S} {V} m {acceptors} {desks} {eras} {callers} {council} {marks} is n
   order = order;
   exchange = exchange;
   used_set = subst IsMemberSet (sym same) is.used_set;
-  used = λ id. subst (λ (u : List ℕ). AreUsed u (era_in eras id)) (sym same) (is.used id);
-  later = λ era there. subst (λ (u : List ℕ). AreUsed u era) (sym same) (later era there);
+  used = λ id. subst (λ (u : List ℕ). WereMembers u (era_in eras id)) (sym same) (is.used id);
+  later = λ era there. subst (λ (u : List ℕ). WereMembers u era) (sym same) (later era there);
   asked = λ each is_it acceptor member. subst (λ (u : List ℕ). has_member u acceptor ≡ true) (sym same) (asked each is_it acceptor member);
   marked = is.marked;
 }

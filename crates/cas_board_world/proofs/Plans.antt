@@ -20,7 +20,7 @@ use Rattle.cas_record.specs.declared.operator.Asked.TheVariants as asked
 use Rattle.cas_record.specs.declared.operator.OpAnswer.TheVariants as told
 use Rattle.cas_round.proofs.Lists.{Has, has}
 use Rattle.cas_model.specs.Council.{Council, PlanView, hushed}
-use Rattle.cas_model.specs.Eras.Course.{IsSettled, IsUnderWay, course_of, entering, later_of, next_era}
+use Rattle.cas_model.specs.Eras.Course.{IsSettled, CourseIsUnderWay, course_of, entering, later_of, next_era}
 use Rattle.cas_model.specs.Safe.{IsSafe}
 use Rattle.cas_model.specs.Calls.Desks.{EntersEra, FailsToEnter}
 use Rattle.cas_model.specs.Eras.Step as plans
@@ -137,7 +137,7 @@ opened_blamed {S} {V} m old middle of progress safe is none planned welcomes fau
     same = welcome_council m old middle of welcomes
 
     settled : IsSettled (course_of old)
-    settled = subst (λ (p : Option PlanView). IsUnderWay (course_of old) p) none safe.course.under_way
+    settled = subst (λ (p : Option PlanView). CourseIsUnderWay (course_of old) p) none safe.course.under_way
 
     in_era : (acceptor : ℕ) → has_member (era_at old 0).prep acceptor ≡ true → has_member (union_of (era_at old 0).prep (era_at old 0).acc) acceptor ≡ true
     in_era acceptor member =

@@ -13,7 +13,7 @@ use Rattle.cas_model.specs.Stops.Step as stops
 use Rattle.cas_model.specs.Stops.Step.{LeavesRound, GoesDown, closed_by, closed_by_crash, broken_off_view}
 use Rattle.cas_model.specs.View.{Meaning, View, CallView, IsAt}
 use Rattle.cas_model.proofs.Places.{at_set, some_is}
-use Rattle.cas_board_world.specs.Blame.{Nobody, blame_by_answer, HasFailed}
+use Rattle.cas_board_world.specs.Blame.{Nobody, blame_by_answer, HasFailedAt}
 use Rattle.cas_board_world.specs.Steady.{IsBlamed, IsFair, desk_faults, blame_by_exchange, blame_if_told}
 use Rattle.cas_board_world.proofs.Parts.{rose_above, on_callers, on_council, on_desks}
 
@@ -43,7 +43,7 @@ moved_fair {S} {V} m old id told why now first second call = by_proposed (is_som
 crash_fair : {S V : Type 0} (m : Meaning S V) (old : View S V) (id : ℕ) (desk now : DeskView V) → IsAt old.desks id desk → Rose (desk_faults m desk) (desk_faults m now) → IsFairTurn m old id closed_by_crash desk now
 crash_fair {S} {V} m old id desk now at rose = record { stays = λ some. rose_above rose; failed = λ down. rose_above rose; call = λ call. by_proposed (is_some call.proposed) }
   where
-    failed : HasFailed (desk_faults m) (slice_set old.desks id now) id
+    failed : HasFailedAt (desk_faults m) (slice_set old.desks id now) id
     failed = record { one = now; at = at_set old.desks id desk now at; failed = rose_above rose }
 
     by_proposed : (b : Bool) → IsFair m old.acceptors (slice_set old.desks id now) (blame_by_answer id (if b then answer.Unsettled cause.Crashed else answer.Crashed))
@@ -51,13 +51,13 @@ crash_fair {S} {V} m old id desk now at rose = record { stays = λ some. rose_ab
     by_proposed false = failed
 
 left_failed : {S V : Type 0} (m : Meaning S V) (DeskTurns : DeskView V → DeskView V → Type 0) (closed : CallView → CallView) (old : View S V) (id : ℕ) (new : View S V)
-    → ((desk now : DeskView V) → DeskTurns desk now → Rose (desk_faults m desk) (desk_faults m now)) → LeavesRound DeskTurns closed old id new → HasFailed (desk_faults m) new.desks id
+    → ((desk now : DeskView V) → DeskTurns desk now → Rose (desk_faults m desk) (desk_faults m now)) → LeavesRound DeskTurns closed old id new → HasFailedAt (desk_faults m) new.desks id
 left_failed {S} {V} m DeskTurns closed old id new rose (stops.idle desk now at none turns view) =
     record { one = now; at = subst (λ (v : View S V). IsAt v.desks id now) (sym view) (at_set old.desks id desk now at); failed = rose_above (rose desk now turns) }
 left_failed {S} {V} m DeskTurns closed old id new rose (stops.closes desk now round of_call at some turns view) =
     record { one = now; at = subst (λ (v : View S V). IsAt v.desks id now) (sym view) (at_set old.desks id desk now at); failed = rose_above (rose desk now turns) }
 
-broken_fair : {S V : Type 0} (m : Meaning S V) (view : View S V) (exchange : Option ExchangeView) → HasFailed (desk_faults m) view.desks 0 → IsFair m view.acceptors view.desks (blame_by_exchange (option_map broken_off exchange))
+broken_fair : {S V : Type 0} (m : Meaning S V) (view : View S V) (exchange : Option ExchangeView) → HasFailedAt (desk_faults m) view.desks 0 → IsFair m view.acceptors view.desks (blame_by_exchange (option_map broken_off exchange))
 broken_fair m view None failed = tt
 broken_fair m view (Some exchange) failed = failed
 
@@ -65,7 +65,7 @@ broken_members : {S V : Type 0} (view : View S V) (exchange : Option ExchangeVie
 broken_members view None now is = absurd (cc is)
 broken_members view (Some exchange) now is = (exchange, refl, ap (λ (e : ExchangeView). e.members) (some_is is))
 
-broken_blamed : {S V : Type 0} (m : Meaning S V) (view : View S V) → IsBlamed m view → HasFailed (desk_faults m) view.desks 0 → IsBlamed m (broken_off_view view)
+broken_blamed : {S V : Type 0} (m : Meaning S V) (view : View S V) → IsBlamed m view → HasFailedAt (desk_faults m) view.desks 0 → IsBlamed m (broken_off_view view)
 broken_blamed {S} {V} m view is failed =
     on_council m is (crashed_in view.council) refl is.order (broken_fair m view view.council.exchange failed) is.later
     (λ now same acceptor member.
@@ -74,10 +74,10 @@ broken_blamed {S} {V} m view is failed =
 
 -- by a fault of its disk, and it has failed then
 pub down_blamed : {S V : Type 0} (m : Meaning S V) (DeskTurns : DeskView V → DeskView V → Type 0) (old : View S V) (id : ℕ) (new : View S V) → IsBlamed m old
-    → ((desk now : DeskView V) → DeskTurns desk now → Rose (desk_faults m desk) (desk_faults m now)) → GoesDown DeskTurns old id new → IsBlamed m new × HasFailed (desk_faults m) new.desks id
+    → ((desk now : DeskView V) → DeskTurns desk now → Rose (desk_faults m desk) (desk_faults m now)) → GoesDown DeskTurns old id new → IsBlamed m new × HasFailedAt (desk_faults m) new.desks id
 down_blamed {S} {V} m DeskTurns old id new is rose (stops.of_client client leaves) =
     (left_blamed m DeskTurns closed_by_crash old id new is (λ desk now at turns. crash_fair m old id desk now at (rose desk now turns)) leaves, left_failed m DeskTurns closed_by_crash old id new rose leaves)
 down_blamed {S} {V} m DeskTurns old id new is rose (stops.of_operator middle operator leaves view) =
     let blamed = left_blamed m DeskTurns closed_by_crash old id middle is (λ desk now at turns. crash_fair m old id desk now at (rose desk now turns)) leaves in
     let failed = left_failed m DeskTurns closed_by_crash old id middle rose leaves in
-    (subst (IsBlamed m) (sym view) (broken_blamed m middle blamed (subst (HasFailed (desk_faults m) middle.desks) operator failed)), subst (λ (v : View S V). HasFailed (desk_faults m) v.desks id) (sym view) failed)
+    (subst (IsBlamed m) (sym view) (broken_blamed m middle blamed (subst (HasFailedAt (desk_faults m) middle.desks) operator failed)), subst (λ (v : View S V). HasFailedAt (desk_faults m) v.desks id) (sym view) failed)

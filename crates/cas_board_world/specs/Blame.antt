@@ -36,7 +36,7 @@ blame_by (Told asked answer) = blame_by_op answer
 blame_by other = Nobody
 
 -- at that place is one whose count of faults is above 0
-pub record HasFailed {A : Type 0} (faults : A → ℕ) (all : List A) (place : ℕ) : Type 0 where
+pub record HasFailedAt {A : Type 0} (faults : A → ℕ) (all : List A) (place : ℕ) : Type 0 where
   pub one : A
   pub at : slice_get all place ≡ Some one
   pub failed : 0 < faults one
@@ -44,8 +44,8 @@ pub record HasFailed {A : Type 0} (faults : A → ℕ) (all : List A) (place : �
 -- who is blamed has failed, by these counts of faults
 abbrev pub IsDeserved : {A B : Type 0} → (A → ℕ) → (B → ℕ) → List A → List B → Blame → Type 0
 IsDeserved acceptor_faults vault_faults acceptors vaults Nobody = ⊤
-IsDeserved acceptor_faults vault_faults acceptors vaults SomeAcceptor = (id : ℕ) × HasFailed acceptor_faults acceptors id
-IsDeserved acceptor_faults vault_faults acceptors vaults (VaultOf proposer) = HasFailed vault_faults vaults proposer
+IsDeserved acceptor_faults vault_faults acceptors vaults SomeAcceptor = (id : ℕ) × HasFailedAt acceptor_faults acceptors id
+IsDeserved acceptor_faults vault_faults acceptors vaults (VaultOf proposer) = HasFailedAt vault_faults vaults proposer
 
 -- so has each whom one of the marks blames, by the disks of the acceptors and of the vaults
 abbrev pub AreDeserved : {D : Type 0} → (D → ℕ) → List D → List D → List Mark → Type 0

@@ -18,7 +18,7 @@ use Rattle.cas_model_causes.specs.Exchanges.Answering.{IsAnswering}
 use Rattle.cas_model_causes.specs.Exchanges.Confirmed.{IsAskingAll}
 use Rattle.cas_model_causes.specs.Exchanges.Current.{AreProbesCurrent}
 use Rattle.cas_model_causes.specs.Exchanges.Probed.{IsProbing}
-use Rattle.cas_model_causes.specs.Eras.Tellings.{TellsTruly}
+use Rattle.cas_model_causes.specs.Eras.Tellings.{TellingsAreTrue}
 use Rattle.cas_model_causes.specs.Exchanges.Unaged.{IsUnaged}
 use Rattle.cas_board_world.specs.Blame.{Blame, Nobody, VaultOf, blame_by_answer, blame_by_op, blame_by, IsDeserved}
 
@@ -73,8 +73,8 @@ abbrev pub IsExcused : {S V : Type 0} → Meaning S V → List ℕ → ℕ → A
 IsExcused m used id acceptor = (0 < acceptor_faults m acceptor) ⊎ ((acceptor.started ≡ false) × (has_member used id ≡ false))
 
 -- the members of an era were members
-abbrev pub AreUsed : List ℕ → Era → Type 0
-AreUsed used era = (acceptor : ℕ) → has_member (union_of era.prep era.acc) acceptor ≡ true → has_member used acceptor ≡ true
+abbrev pub WereMembers : List ℕ → Era → Type 0
+WereMembers used era = (acceptor : ℕ) → has_member (union_of era.prep era.acc) acceptor ≡ true → has_member used acceptor ≡ true
 
 -- ---- the whole
 -- Who is down has failed, and who is blamed has, by what was told and by what is marked. Who may be asked was a member.
@@ -85,8 +85,8 @@ pub record AreBlamed {S V : Type 0} (m : Meaning S V) (acceptors : List (Accepto
   pub order : IsFair m acceptors desks (blame_by_order council.order)
   pub exchange : IsFair m acceptors desks (blame_by_exchange council.exchange)
   pub used_set : IsMemberSet council.used
-  pub used : (id : ℕ) → AreUsed council.used (era_in eras id)
-  pub later : (era : Era) → Contains (later_of council.plan) era → AreUsed council.used era
+  pub used : (id : ℕ) → WereMembers council.used (era_in eras id)
+  pub later : (era : Era) → Contains (later_of council.plan) era → WereMembers council.used era
   pub asked : (exchange : ExchangeView) → council.exchange ≡ Some exchange → (acceptor : ℕ) → has_member exchange.members acceptor ≡ true → has_member council.used acceptor ≡ true
   pub marked : (mark : Mark) → Contains marks mark → IsFair m acceptors desks (blame_by mark)
 
@@ -104,7 +104,7 @@ pub record IsSteady {S V : Type 0} (m : Meaning S V) (view : View S V) : Type 0 
   pub probing : m.shelves.tells → m.disks.tells → IsProbing view
   pub unaged : m.shelves.tells → m.disks.tells → IsUnaged m view
   pub current : m.shelves.tells → m.disks.tells → AreProbesCurrent view
-  pub telling : m.shelves.tells → m.disks.tells → TellsTruly view
+  pub telling : m.shelves.tells → m.disks.tells → TellingsAreTrue view
 
 -- ---- the beginning
 abbrev pub AreMembersUp : {S : Type 0} → List ℕ → List (AcceptorView S) → Type 0

@@ -5,7 +5,7 @@ ghost use Rattle.cas_model_causes.specs.Calls.Told.{BeginsBy, PreparesBy, Accept
 ghost use Rattle.cas_model.specs.Step.{Step, Propose, Count, End, Stray, RefuseStray};
 ghost use Rattle.cas_model.specs.Calls.Step.{IsFull, most_marks};
 ghost use Rattle.cas_model.specs.View.{meaning, CallerView, reserved_in_all as seen_in_all};
-ghost use Rattle.cas_model.specs.Laws.{IsKept};
+ghost use Rattle.cas_model.specs.Laws.{AcknowledgedIsKept};
 ghost use Rattle.cas_flow.specs.Flow.{queue_at};
 ghost use Rattle.cas_flow.specs.Message.{head_of};
 ghost use Rattle.cas_record.specs.Logs.Orderly.{IsAboveFloors};
@@ -78,7 +78,7 @@ impl<S: Shelf, V: Disk> SteadyWorld<S, V> {
         ensures told { (caller : CallerView) → slice_get self.old.callers proposer ≡ Some caller → WasTold self.new proposer caller.number result }
         ensures cause { AcceptsBy self.old proposer result }
         ensures above { S.tells → V.tells → TellsAbove self.old proposer result }
-        ensures kept { S.tells → V.tells → (a : AnAcknowledgment) → Stands (Acked a) (reverse self.new.marks) → IsAboveFloors (reverse self.new.marks) a.key a.ballot → IsKept (meaning S.Shelf V.Disk) self.new a }
+        ensures kept { S.tells → V.tells → (a : AnAcknowledgment) → Stands (Acked a) (reverse self.new.marks) → IsAboveFloors (reverse self.new.marks) a.key a.ballot → AcknowledgedIsKept (meaning S.Shelf V.Disk) self.new a }
     {
         self.world.count(proposer)
     }

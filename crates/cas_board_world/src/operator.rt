@@ -10,7 +10,7 @@ ghost use Rattle.cas_model.specs.View.{meaning, reserved_in_all};
 ghost use Rattle.cas_board_world.specs.Steady.{IsSteady};
 ghost use Rattle.cas_world.specs.Collection.Collect.{AreRemovalsDone};
 ghost use Rattle.cas_world.specs.Exchanges.Exchange.{MayAskThis, MayGather, HasGathered, asking_of, gathering_of, WasToldOrder};
-ghost use Rattle.cas_world.specs.Eras.Plans.{HasCollectedAll, HasFinished, MayTell, asked_to, IsUnderWay, MayOpenPlan, MayEnter};
+ghost use Rattle.cas_world.specs.Eras.Plans.{HasCollectedAll, HasFinished, MayTell, asked_to, IsUnderWay, MayOpenPlan, MayEnterNext};
 
 use crate::world::SteadyWorld;
 use cas_ballot::AcceptorId;
@@ -92,7 +92,7 @@ impl<S: Shelf, V: Disk> SteadyWorld<S, V> {
 
     /// As [`World::enter_era`].
     pub fn enter_era(&mut self, proposer: u8) -> Result<(), OpAnswer>
-        requires { MayEnter self.old proposer }
+        requires { MayEnterNext self.old proposer }
         ensures step { Step (meaning S.Shelf V.Disk) self.old (EntersNext proposer) self.new }
         ensures ok { OnOk result ((order : OrderView) → self.old.council.order ≡ Some order → IsUnderWay self.new order.asked) }
         ensures err { IfErr result (WasToldOrder self.new) }

@@ -5,11 +5,11 @@ use Rattle.std.proofs.Math.ListN.{set, length-set}
 use Rattle.std.proofs.lemmas.List.{length-map, length-take-le, get_or-take, get_or_append_left, get_or-append_right}
 use Rattle.std.proofs.lemmas.Bool.{cases_eq, and_parts, leb-true}
 use Rattle.std.proofs.lemmas.Bool.Decides.{nat_tests}
-use Rattle.cas_cells.specs.Format.{frame_at, frame_place, frame_size, cell_place, half_size, is_open, number_of, first_wrong, wrong_in_cell, wrong_at, narrow_in, narrow_told, wide_in, wide_told, count_in, number_told, is_old_head, is_head, head_in, with_count, grown, IsPayload, StandsFor}
+use Rattle.cas_cells.specs.Format.{frame_at, frame_place, frame_size, cell_place, half_size, is_open, number_of, first_wrong, wrong_in_cell, wrong_at, narrow_in, narrow_told, wide_in, wide_told, count_in, number_told, is_old_head, is_head, head_in, with_count, grown, IsPayload, IsImageOf}
 use Rattle.cas_cells.specs.Torn.{Others, SameBelow}
 use Rattle.cas_cells.specs.UnderWay.{change_held, payload_staged, IsNotKept, IsWrittenOver, KeepsOthers}
 use Rattle.cas_cells.specs.Held.{IsShut, SoundAt, FramesHeld, CellHeld, OnDisk, IsRow, MayOpen, payload_held, frame_of, other}
-use Rattle.cas_cells.specs.Cells.{IsUnderWay, IsStaged}
+use Rattle.cas_cells.specs.Cells.{ChangeIsUnderWay, PayloadIsStaged}
 use Rattle.cas_cells.specs.declared.cell.Side.{Side}
 use Rattle.cas_cells.specs.declared.cell.Side.TheVariants.{First, Second}
 use Rattle.cas_cells.specs.declared.cell.Cell.{Cell}
@@ -190,7 +190,7 @@ module _ (narrow : ℕ) where
       subst (λ (f : List ℕ). FramesHeld (half_size narrow i) cell f (frame_at narrow c (frame_of i (other cell.side)))) (sym (same (frame_of i cell.side) (frame_below i n cell.side less)))
       (subst (λ (g : List ℕ). FramesHeld (half_size narrow i) cell (frame_at narrow old (frame_of i cell.side)) g) (sym (same (frame_of i (other cell.side)) (frame_below i n (other cell.side) less))) (held i cell is))
 
-  pub below_stands : (cells : List Cell) (old c : List ℕ) (n : ℕ) → length cells ≤ n → OnDisk narrow old cells → IsRow (map payload_held cells) → narrow ≡ narrow_in (map payload_held cells) → SameBelow narrow (2 * n) old c → StandsFor (map payload_held cells) c
+  pub below_stands : (cells : List Cell) (old c : List ℕ) (n : ℕ) → length cells ≤ n → OnDisk narrow old cells → IsRow (map payload_held cells) → narrow ≡ narrow_in (map payload_held cells) → SameBelow narrow (2 * n) old c → IsImageOf (map payload_held cells) c
   below_stands cells old c n few held row told same = stands narrow c (map payload_held cells) (all_sound narrow c cells (on_below cells old c n few held same)) row told
 
   pub row_push : (cells : List (Option (List ℕ))) (c : List ℕ) → AllSound narrow cells c → SoundAt narrow (length cells) None c → AllSound narrow (cells ++ None ∷ []) c
@@ -208,7 +208,7 @@ module _ (narrow : ℕ) where
   -- what the change of the head leaves, behind which a blank cell stands
   pub growing_stands : (cells : List Cell) (mid c : List ℕ) (cell : Cell) → OnDisk narrow mid cells → IsRow (map payload_held cells) → narrow ≡ narrow_in (map payload_held cells) → IsTrue (is_head (head_in (map payload_held cells))) → wide_in (map payload_held cells) < 4096 → slice_get cells 0 ≡ Some cell
       → IsShut (half_size narrow (length cells)) (frame_at narrow mid (2 * length cells)) → IsShut (half_size narrow (length cells)) (frame_at narrow mid (2 * length cells + 1)) → MayOpen narrow (frame_of 0 (other cell.side)) mid 0 (payload_held cell) (with_count (head_in (map payload_held cells)) (wide_in (map payload_held cells) + 1)) c
-      → StandsFor (map payload_held cells) c ⊎ StandsFor (grown (map payload_held cells)) c
+      → IsImageOf (map payload_held cells) c ⊎ IsImageOf (grown (map payload_held cells)) c
   growing_stands cells mid c cell held row told is few first blank1 blank2 opens = ⊎_elim
       (λ before. inl (leaves_stand narrow cells mid c 0 cell held row told first (record { others = opens.others; here = before })))
       (λ after. inr (stands narrow c (grown view) (subst (λ (l : List (Option (List ℕ))). AllSound narrow l c) (sym (grown_is view row)) (all after)) (grown_row view row is few) (told ∙ sym (grown_narrow view is few))))
@@ -240,17 +240,17 @@ module _ (narrow : ℕ) where
       let apart = frames_apart 0 (length cells) side (λ none. let zero_long : length cells ≡ 0 = none in absurd (omega arith)) in
       (subst (IsShut (half_size narrow (length cells))) (sym (others (2 * length cells) apart.0)) shut.0, subst (IsShut (half_size narrow (length cells))) (sym (others (2 * length cells + 1) apart.1)) shut.1)
 
-  not_kept_staged : (disk : List ℕ) (i : ℕ) (cell : Cell) (step : Step) → IsNotKept step → IsStaged narrow disk i cell step
+  not_kept_staged : (disk : List ℕ) (i : ℕ) (cell : Cell) (step : Step) → IsNotKept step → PayloadIsStaged narrow disk i cell step
   not_kept_staged disk i cell Closed unkept = tt
   not_kept_staged disk i cell (Written staged) unkept = λ kept. let both : true ≡ false = sym kept ∙ unkept in absurd (cc)
 
-  same_staged : (old new : List ℕ) (i : ℕ) (cell : Cell) (step : Step) → frame_at narrow new (frame_of i (other cell.side)) ≡ frame_at narrow old (frame_of i (other cell.side)) → IsStaged narrow old i cell step → IsStaged narrow new i cell step
+  same_staged : (old new : List ℕ) (i : ℕ) (cell : Cell) (step : Step) → frame_at narrow new (frame_of i (other cell.side)) ≡ frame_at narrow old (frame_of i (other cell.side)) → PayloadIsStaged narrow old i cell step → PayloadIsStaged narrow new i cell step
   same_staged old new i cell Closed same staged = tt
   same_staged old new i cell (Written staged) same holds = λ kept. ap (λ (l : List ℕ). drop 1 l) same ∙ holds kept
 
   -- a change under way is still under way after a change of cell 0 was given up
-  pub still_under_way : (old new : List ℕ) (cells : List Cell) (cell cell' : Cell) (change change' : Option Change) → IsUnderWay narrow old cells change → IsWrittenOver 0 change' → KeepsOthers 0 change change' → change_held change' ≡ change_held change → slice_get cells 0 ≡ Some cell → (cell.spare_open ≡ false → cell'.spare_open ≡ false)
-      → ((j : ℕ) (s : Side) → j < length cells → j ≢ 0 → frame_at narrow new (frame_of j s) ≡ frame_at narrow old (frame_of j s)) → IsUnderWay narrow new (set cells 0 cell') change'
+  pub still_under_way : (old new : List ℕ) (cells : List Cell) (cell cell' : Cell) (change change' : Option Change) → ChangeIsUnderWay narrow old cells change → IsWrittenOver 0 change' → KeepsOthers 0 change change' → change_held change' ≡ change_held change → slice_get cells 0 ≡ Some cell → (cell.spare_open ≡ false → cell'.spare_open ≡ false)
+      → ((j : ℕ) (s : Side) → j < length cells → j ≢ 0 → frame_at narrow new (frame_of j s) ≡ frame_at narrow old (frame_of j s)) → ChangeIsUnderWay narrow new (set cells 0 cell') change'
   still_under_way old new cells cell cell' change None way over others held first shut frames = tt
   still_under_way old new cells cell cell' None (Some after) way over others held first shut frames = absurd (cc)
   still_under_way old new cells cell cell' (Some before) (Some after) way over others held first shut frames = λ (m : Cell) (is : slice_get (set cells 0 cell') after.cell ≡ Some m).
@@ -270,6 +270,6 @@ module _ (narrow : ℕ) where
             let this : after ≡ before = cc in
             let there : slice_get cells after.cell ≡ Some m = sym (get_set_other cells 0 after.cell cell' apart) ∙ is in
             let was = way m (subst (λ (k : ℕ). slice_get cells k ≡ Some m) same there) in
-            let staged : IsStaged narrow old after.cell m after.step = subst (λ (ch : Change). IsStaged narrow old ch.cell m ch.step) (sym this) was.1 in
+            let staged : PayloadIsStaged narrow old after.cell m after.step = subst (λ (ch : Change). PayloadIsStaged narrow old ch.cell m ch.step) (sym this) was.1 in
             (was.0, same_staged old new after.cell m after.step (frames after.cell (other m.side) (get_within cells after.cell m there) apart) staged)
       ]

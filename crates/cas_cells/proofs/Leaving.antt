@@ -5,7 +5,7 @@ use Rattle.cas_disk.specs.Disk.{Only, Keeps, ContinuesOnly}
 use Rattle.cas_disk.proofs.Moments.{weaker, then_on}
 use Rattle.cas_cells.specs.Format.{frame_at, frame_size, half_size, next, IsPayload}
 use Rattle.cas_cells.specs.Torn.{Others, GateTorn, TailTorn}
-use Rattle.cas_cells.specs.Held.{tail_of, IsShut, FramesHeld, CellHeld, HoldsTail, payload_held, frame_of, other, Leaves, MayOpen, IsAsBefore, Shuts, Writes, Opens, Still}
+use Rattle.cas_cells.specs.Held.{tail_of, IsShut, FramesHeld, CellHeld, HoldsTail, payload_held, frame_of, other, LeavesPayload, MayOpen, IsAsBefore, Shuts, Writes, OpensSpare, Still}
 use Rattle.cas_cells.specs.declared.cell.Side.{Side}
 use Rattle.cas_cells.specs.declared.cell.Side.TheVariants.{First, Second}
 use Rattle.cas_cells.specs.declared.cell.Cell.{Cell}
@@ -21,13 +21,13 @@ on_ok_both (Err e) f p q = p
 
 module _ (narrow : ℕ) where
   -- a step after other changes of the same frame
-  pub leaves_from : (k i : ℕ) (pay : Option (List ℕ)) (old mid c : List ℕ) → Others narrow k old mid → Leaves narrow k mid i pay c → Leaves narrow k old i pay c
+  pub leaves_from : (k i : ℕ) (pay : Option (List ℕ)) (old mid c : List ℕ) → Others narrow k old mid → LeavesPayload narrow k mid i pay c → LeavesPayload narrow k old i pay c
   leaves_from k i pay old mid c others leaves = record { others = λ j apart. leaves.others j apart ∙ others j apart; here = leaves.here }
 
   pub opens_from : (k i : ℕ) (pay : Option (List ℕ)) (p old mid c : List ℕ) → Others narrow k old mid → MayOpen narrow k mid i pay p c → MayOpen narrow k old i pay p c
   opens_from k i pay p old mid c others opens = record { others = λ j apart. opens.others j apart ∙ others j apart; here = opens.here }
 
-  pub leaves_opens : (k i : ℕ) (pay : Option (List ℕ)) (p old c : List ℕ) → Leaves narrow k old i pay c → MayOpen narrow k old i pay p c
+  pub leaves_opens : (k i : ℕ) (pay : Option (List ℕ)) (p old c : List ℕ) → LeavesPayload narrow k old i pay c → MayOpen narrow k old i pay p c
   leaves_opens k i pay p old c leaves = record { others = leaves.others; here = inl leaves.here }
 
   pub others_from : (k : ℕ) (old mid new : List ℕ) → Others narrow k old mid → Others narrow k mid new → Others narrow k old new
@@ -59,11 +59,11 @@ module _ (narrow : ℕ) where
     whole_at j is = subst (λ (n : ℕ). length (frame_at narrow old n) ≡ frame_size narrow n) (sym is) (spare_whole ∙ sym (size_of_side narrow i (other cell.side)))
 
     -- nothing changed
-    pub leaves_same : Leaves narrow k old i (payload_held cell) old
+    pub leaves_same : LeavesPayload narrow k old i (payload_held cell) old
     leaves_same = record { others = λ j apart. refl; here = cell_sound narrow old i cell held }
 
     -- the gate of the open spare is written
-    pub leaves_gate : (c : List ℕ) → cell.spare_open ≡ true → GateTorn narrow k old c → Leaves narrow k old i (payload_held cell) c
+    pub leaves_gate : (c : List ℕ) → cell.spare_open ≡ true → GateTorn narrow k old c → LeavesPayload narrow k old i (payload_held cell) c
     leaves_gate c opened torn = record {
       others = torn.others;
       here = sound_from narrow cell.side c i (payload_held cell) current (frame_at narrow c k) (torn.others (frame_of i cell.side) (sides_apart i cell.side)) refl
@@ -71,11 +71,11 @@ module _ (narrow : ℕ) where
     }
 
     -- the gate of the open spare is written, in a run
-    pub closing : {D : Type 0} {moment : D → ℕ} {left_since : D → ℕ → List ℕ → Type 0} {d0 d1 : D} {j : ℕ} → cell.spare_open ≡ true → j ≡ k → ContinuesOnly moment left_since d0 d1 (GateTorn narrow j old) → ContinuesOnly moment left_since d0 d1 (Leaves narrow k old i (payload_held cell))
-    closing opened is_k run = weaker _ _ _ _ _ (Leaves narrow k old i (payload_held cell)) (λ c torn. leaves_gate c opened (subst (λ (n : ℕ). GateTorn narrow n old c) is_k torn)) run
+    pub closing : {D : Type 0} {moment : D → ℕ} {left_since : D → ℕ → List ℕ → Type 0} {d0 d1 : D} {j : ℕ} → cell.spare_open ≡ true → j ≡ k → ContinuesOnly moment left_since d0 d1 (GateTorn narrow j old) → ContinuesOnly moment left_since d0 d1 (LeavesPayload narrow k old i (payload_held cell))
+    closing opened is_k run = weaker _ _ _ _ _ (LeavesPayload narrow k old i (payload_held cell)) (λ c torn. leaves_gate c opened (subst (λ (n : ℕ). GateTorn narrow n old c) is_k torn)) run
 
     -- the tail of the closed spare is written
-    pub leaves_tail : (c : List ℕ) → cell.spare_open ≡ false → TailTorn narrow k old c → Leaves narrow k old i (payload_held cell) c
+    pub leaves_tail : (c : List ℕ) → cell.spare_open ≡ false → TailTorn narrow k old c → LeavesPayload narrow k old i (payload_held cell) c
     leaves_tail c closed torn = record {
       others = torn.others;
       here = sound_from narrow cell.side c i (payload_held cell) current (frame_at narrow c k) (torn.others (frame_of i cell.side) (sides_apart i cell.side)) refl
@@ -127,7 +127,7 @@ module _ (narrow : ℕ) where
         ap (λ (s : Side). drop 1 (frame_at narrow new (frame_of i (other s)))) same.side ∙ tail ∙ ap (λ (n : ℕ). tail_of (half_size narrow i) (next n) p) (sym same.number)
 
     -- the spare was opened
-    pub held_opened : (after : Cell) (new payload : List ℕ) → IsPayload (half_size narrow i) payload → drop 1 spare ≡ tail_of (half_size narrow i) (next cell.number) payload → Others narrow k old new → frame_at narrow new k ≡ 1 ∷ drop 1 spare → Opens payload cell after → CellHeld narrow new i after
+    pub held_opened : (after : Cell) (new payload : List ℕ) → IsPayload (half_size narrow i) payload → drop 1 spare ≡ tail_of (half_size narrow i) (next cell.number) payload → Others narrow k old new → frame_at narrow new k ≡ 1 ∷ drop 1 spare → OpensSpare payload cell after → CellHeld narrow new i after
     held_opened after new payload fits staged others is opens =
         let same : frame_at narrow new (frame_of i cell.side) ≡ current = others (frame_of i cell.side) (sides_apart i cell.side) in
         let frames : FramesHeld (half_size narrow i) after (frame_at narrow new k) current = opened_held (half_size narrow i) (sized narrow (2 * i)) cell after payload current spare (frame_at narrow new k) held fits staged is spare_whole opens in
@@ -141,7 +141,7 @@ module _ (narrow : ℕ) where
 
   -- the three steps of one cell after one another, in which a crash leaves its old payload or the new
   module _ {D : Type 0} {moment : D → ℕ} {left_since : D → ℕ → List ℕ → Type 0} {d0 d1 d2 d3 : D} {old mid1 mid2 p : List ℕ} {i j : ℕ} {cell cell1 cell2 : Cell} where
-    pub three_steps : Shuts cell cell1 → IsAsBefore cell1 cell2 → ContinuesOnly moment left_since d0 d1 (Leaves narrow (frame_of i (other cell.side)) old i (payload_held cell)) → ContinuesOnly moment left_since d1 d2 (Leaves narrow (frame_of i (other cell1.side)) mid1 i (payload_held cell1)) → ContinuesOnly moment left_since d2 d3 (GateTorn narrow j mid2)
+    pub three_steps : Shuts cell cell1 → IsAsBefore cell1 cell2 → ContinuesOnly moment left_since d0 d1 (LeavesPayload narrow (frame_of i (other cell.side)) old i (payload_held cell)) → ContinuesOnly moment left_since d1 d2 (LeavesPayload narrow (frame_of i (other cell1.side)) mid1 i (payload_held cell1)) → ContinuesOnly moment left_since d2 d3 (GateTorn narrow j mid2)
         → CellHeld narrow mid2 i cell2 → IsPayload (half_size narrow i) p → HoldsTail narrow mid2 i cell2 p → j ≡ frame_of i (other cell2.side) → Others narrow (frame_of i (other cell.side)) old mid1 → Others narrow (frame_of i (other cell1.side)) mid1 mid2
         → ContinuesOnly moment left_since d0 d3 (MayOpen narrow (frame_of i (other cell.side)) old i (payload_held cell) p)
     three_steps shuts stays first second third held fits staged is_j others1 others2 =
@@ -155,10 +155,10 @@ module _ (narrow : ℕ) where
         let old_mid2 : Others narrow k old mid2 = others_from k old mid1 mid2 others1 others2' in
         then_on moment left_since d0 d2 d3 (MayOpen narrow k old i pay p)
         (then_on moment left_since d0 d1 d2 (MayOpen narrow k old i pay p)
-        (weaker moment left_since d0 d1 (Leaves narrow k old i pay) (MayOpen narrow k old i pay p) (λ image leaves. leaves_opens k i pay p old image leaves) first)
-        (weaker moment left_since d1 d2 (Leaves narrow k1 mid1 i (payload_held cell1)) (MayOpen narrow k old i pay p)
+        (weaker moment left_since d0 d1 (LeavesPayload narrow k old i pay) (MayOpen narrow k old i pay p) (λ image leaves. leaves_opens k i pay p old image leaves) first)
+        (weaker moment left_since d1 d2 (LeavesPayload narrow k1 mid1 i (payload_held cell1)) (MayOpen narrow k old i pay p)
         (λ image leaves. leaves_opens k i pay p old image (leaves_from k i pay old mid1 image others1
-        (subst (λ (n : ℕ). Leaves narrow n mid1 i pay image) same (subst (λ (o : Option (List ℕ)). Leaves narrow k1 mid1 i o image) shuts.held leaves)))) second))
+        (subst (λ (n : ℕ). LeavesPayload narrow n mid1 i pay image) same (subst (λ (o : Option (List ℕ)). LeavesPayload narrow k1 mid1 i o image) shuts.held leaves)))) second))
         (weaker moment left_since d2 d3 (GateTorn narrow j mid2) (MayOpen narrow k old i pay p)
         (λ image torn. opens_from k i pay p old mid2 image old_mid2
         (subst (λ (n : ℕ). MayOpen narrow n mid2 i pay p image) same2 (subst (λ (o : Option (List ℕ)). MayOpen narrow k2 mid2 i o p image) (stays.held ∙ shuts.held)

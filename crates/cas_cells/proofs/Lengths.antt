@@ -7,7 +7,7 @@ use Rattle.cas_disk.specs.Disk.{ContinuesOnly}
 use Rattle.cas_disk.proofs.Moments.{then_on, weaker}
 use Rattle.cas_cells.specs.Format.{frame_at, frame_place, frame_size}
 use Rattle.cas_cells.specs.Torn.{Others}
-use Rattle.cas_cells.specs.Held.{CellHeld, Leaves, MayOpen, frame_of, other}
+use Rattle.cas_cells.specs.Held.{CellHeld, LeavesPayload, MayOpen, frame_of, other}
 use Rattle.cas_cells.specs.Length.{NotLonger}
 use Rattle.cas_cells.specs.declared.cell.Cell.{Cell}
 use Rattle.cas_cells.proofs.Places.{size_of_side}
@@ -57,10 +57,10 @@ module _ {D : Type 0} (moment : D → ℕ) (left_since : D → ℕ → List ℕ 
 
   -- a step of a cell
   pub step_no_longer : (narrow : ℕ) (old new : D) (seen : List ℕ) (i : ℕ) (cell : Cell) (pay : Option (List ℕ)) → may_leave old seen → CellHeld narrow seen i cell
-      → ContinuesOnly moment left_since old new (Leaves narrow (frame_of i (other cell.side)) seen i pay) → NotLonger moment left_since may_leave old new 0
+      → ContinuesOnly moment left_since old new (LeavesPayload narrow (frame_of i (other cell.side)) seen i pay) → NotLonger moment left_since may_leave old new 0
   step_no_longer narrow old new seen i cell pay stays held run =
       let k = frame_of i (other cell.side) in
-      no_longer_than_seen old new seen (Leaves narrow k seen i pay) stays (λ c leaves. others_short narrow k seen c (spare_whole narrow cell seen i held ∙ sym (size_of_side narrow i (other cell.side))) leaves.others) run
+      no_longer_than_seen old new seen (LeavesPayload narrow k seen i pay) stays (λ c leaves. others_short narrow k seen c (spare_whole narrow cell seen i held ∙ sym (size_of_side narrow i (other cell.side))) leaves.others) run
 
   -- the step that opens its spare
   pub opening_no_longer : (narrow : ℕ) (old new : D) (seen : List ℕ) (i : ℕ) (cell : Cell) (pay : Option (List ℕ)) (p : List ℕ) → may_leave old seen → CellHeld narrow seen i cell

@@ -4,7 +4,7 @@ use Rattle.std.proofs.Common.{◌≡◌, ◌≢◌, inl, inr, ℕ, zero, suc, �
 use Rattle.std.proofs.Math.ListN.{set}
 use Rattle.std.proofs.lemmas.Bool.{cases_eq}
 use Rattle.std.proofs.lemmas.Bool.Decides.{nat_tests}
-use Rattle.cas_cells.specs.Format.{frame_at, cell_place, half_size, narrow_in, narrow_told, wrong_at, payload_at, wrong_from, payloads_from, count_told, StandsFor}
+use Rattle.cas_cells.specs.Format.{frame_at, cell_place, half_size, narrow_in, narrow_told, wrong_at, payload_at, wrong_from, payloads_from, count_told, IsImageOf}
 use Rattle.cas_cells.specs.Torn.{Others}
 use Rattle.cas_cells.specs.Held.{on, SoundAt, FramesHeld, CellHeld, OnDisk, IsRow, payload_held, frame_of, other}
 use Rattle.cas_cells.specs.declared.cell.Side.{Side}
@@ -90,7 +90,7 @@ module _ (narrow : ℕ) where
       (rw (whole, not_less (2 * half_size narrow i), rest.0), λ t. same t ∷ rest.1 t)
 
   -- a row that is sound stands for its cells
-  pub stands : (disk : List ℕ) (cells : List (Option (List ℕ))) → AllSound narrow cells disk → IsRow cells → narrow ≡ narrow_in cells → StandsFor cells disk
+  pub stands : (disk : List ℕ) (cells : List (Option (List ℕ))) → AllSound narrow cells disk → IsRow cells → narrow ≡ narrow_in cells → IsImageOf cells disk
   stands disk [] each row is = absurd row
   stands disk (None ∷ cells) each row is = absurd row
   stands disk (Some head ∷ cells) each row told =

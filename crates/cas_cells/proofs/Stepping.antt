@@ -4,12 +4,12 @@ use Rattle.std.proofs.Common.{◌≡◌, ◌⊎◌, inl, ◌+◌, ◌*◌, ◌<�
 use Rattle.std.proofs.Math.ListN.{set}
 use Rattle.cas_disk.specs.Disk.{ContinuesOnly}
 use Rattle.cas_disk.proofs.Moments.{at_rest, weaker, then_on}
-use Rattle.cas_cells.specs.Format.{frame_at, cell_place, half_size, narrow_in, wide_in, count_in, is_head, head_in, with_count, grown, StandsFor, IsBeforeOrAfter}
+use Rattle.cas_cells.specs.Format.{frame_at, cell_place, half_size, narrow_in, wide_in, count_in, is_head, head_in, with_count, grown, IsImageOf, IsBeforeOrAfter}
 use Rattle.cas_cells.specs.Length.{NotLonger}
 use Rattle.cas_cells.specs.Torn.{SameBelow}
 use Rattle.cas_cells.specs.UnderWay.{change_held, staged_in}
-use Rattle.cas_cells.specs.Held.{Leaves, MayOpen, IsNew, IsShut, IsRow, OnDisk, payload_held, frame_of, other}
-use Rattle.cas_cells.specs.Cells.{cells_of, Stands, Agrees, staged_of}
+use Rattle.cas_cells.specs.Held.{LeavesPayload, MayOpen, IsNew, IsShut, IsRow, OnDisk, payload_held, frame_of, other}
+use Rattle.cas_cells.specs.Cells.{cells_of, CellsStand, Agrees, staged_of}
 use Rattle.cas_cells.specs.declared.cell.Cell.{Cell}
 use Rattle.cas_cells.specs.declared.cells.Cells.{Cells}
 use Rattle.cas_cells.specs.declared.change.Change.{Change}
@@ -21,20 +21,20 @@ use Rattle.cas_cells.proofs.Growing.{on_below, below_stands, growing_stands}
 use Rattle.cas_cells.proofs.Using.{within_row, at_index, first_there, leaves_stand, may_open_stands, row_changed, narrow_changed, stands_now, blank_stands}
 use Rattle.cas_cells.proofs.Lengths.{within_more, step_no_longer, opening_no_longer, then_opening_no_longer}
 
-module _ {D : Type 0} {tells : Type 0} {moment : D → ℕ} {left_since : D → ℕ → List ℕ → Type 0} {seen : D → List ℕ} {may_leave : D → List ℕ → Type 0} {self : Cells D} (s : Stands tells seen may_leave self) (here : tells) where
+module _ {D : Type 0} {tells : Type 0} {moment : D → ℕ} {left_since : D → ℕ → List ℕ → Type 0} {seen : D → List ℕ} {may_leave : D → List ℕ → Type 0} {self : Cells D} (s : CellsStand tells seen may_leave self) (here : tells) where
   -- nothing was written yet
-  pub rests : (P : List ℕ → Type 0) → (StandsFor (cells_of self) (seen self.disk) → P (seen self.disk)) → ((c : List ℕ) → left_since self.disk (moment self.disk) c → may_leave self.disk c) → ContinuesOnly moment left_since self.disk self.disk P
+  pub rests : (P : List ℕ → Type 0) → (IsImageOf (cells_of self) (seen self.disk) → P (seen self.disk)) → ((c : List ℕ) → left_since self.disk (moment self.disk) c → may_leave self.disk c) → ContinuesOnly moment left_since self.disk self.disk P
   rests P so now = at_rest moment left_since self.disk (seen self.disk) (may_leave self.disk) P now (s.durable here) (so (stands_now tells seen may_leave self s here))
 
   -- a step of a cell that keeps its payload
   pub step_stands : {new : D} (i : ℕ) (cell : Cell) → i ≤ count_in (cells_of self) → cell ≡ get_or self.cells.items i cell
-      → ContinuesOnly moment left_since self.disk new (Leaves self.narrow (frame_of i (other cell.side)) (seen self.disk) i (payload_held cell)) → ContinuesOnly moment left_since self.disk new (StandsFor (cells_of self))
+      → ContinuesOnly moment left_since self.disk new (LeavesPayload self.narrow (frame_of i (other cell.side)) (seen self.disk) i (payload_held cell)) → ContinuesOnly moment left_since self.disk new (IsImageOf (cells_of self))
   step_stands i cell within is run =
-      weaker moment left_since self.disk _ (Leaves self.narrow (frame_of i (other cell.side)) (seen self.disk) i (payload_held cell)) (StandsFor (cells_of self))
+      weaker moment left_since self.disk _ (LeavesPayload self.narrow (frame_of i (other cell.side)) (seen self.disk) i (payload_held cell)) (IsImageOf (cells_of self))
       (λ image leaves. leaves_stand self.narrow self.cells.items (seen self.disk) image i cell (s.on_disk here) s.row s.narrow (at_index self.cells.items i cell s.row within is) leaves) run
 
   pub step_length : {new : D} (i : ℕ) (cell : Cell) → i ≤ count_in (cells_of self) → cell ≡ get_or self.cells.items i cell → may_leave self.disk (seen self.disk)
-      → ContinuesOnly moment left_since self.disk new (Leaves self.narrow (frame_of i (other cell.side)) (seen self.disk) i (payload_held cell)) → NotLonger moment left_since may_leave self.disk new 0
+      → ContinuesOnly moment left_since self.disk new (LeavesPayload self.narrow (frame_of i (other cell.side)) (seen self.disk) i (payload_held cell)) → NotLonger moment left_since may_leave self.disk new 0
   step_length i cell within is stays run =
       step_no_longer moment left_since may_leave self.narrow self.disk _ (seen self.disk) i cell (payload_held cell) stays (s.on_disk here i cell (at_index self.cells.items i cell s.row within is)) run
 
@@ -46,7 +46,7 @@ module _ {D : Type 0} {tells : Type 0} {moment : D → ℕ} {left_since : D → 
       let agrees = subst (λ (ch : Option Change). Agrees (change_held ch) (cells_of self)) taken s.agrees in
       let named : staged_of self ≡ p = ap (λ (ch : Option Change). staged_in (change_held ch)) taken in
       weaker moment left_since self.disk _ (MayOpen self.narrow (frame_of i (other cell.side)) (seen self.disk) i (payload_held cell) read) (IsBeforeOrAfter (cells_of self) (set (cells_of self) i (Some (staged_of self))))
-      (λ image opens. subst (λ (q : List ℕ). StandsFor (cells_of self) image ⊎ StandsFor (set (cells_of self) i (Some q)) image) (sym named)
+      (λ image opens. subst (λ (q : List ℕ). IsImageOf (cells_of self) image ⊎ IsImageOf (set (cells_of self) i (Some q)) image) (sym named)
       (may_open_stands self.narrow self.cells.items (seen self.disk) image i cell p (s.on_disk here) s.row s.narrow (at_index self.cells.items i cell s.row within is) (within_row self.cells.items i s.row within) (row_changed (cells_of self) i p s.row agrees.1) (s.narrow ∙ sym (narrow_changed (cells_of self) i p s.row agrees.1))
       (subst (λ (q : List ℕ). MayOpen self.narrow (frame_of i (other cell.side)) (seen self.disk) i (payload_held cell) q image) same opens))) run
 
@@ -82,7 +82,7 @@ module _ {cells room : List Cell} {n wide : ℕ} {cell : Cell} {head : List ℕ}
     told = tells ∙ ap (λ (k : ℕ). with_count (head_in (map payload_held cells)) (k + 1)) wide_is;
   }
 
-module _ {D : Type 0} {tells : Type 0} {moment : D → ℕ} {left_since : D → ℕ → List ℕ → Type 0} {seen : D → List ℕ} {may_leave : D → List ℕ → Type 0} {self : Cells D} {mid new : D} {n : ℕ} {cell : Cell} {head : List ℕ} (s : Stands tells seen may_leave self) (here : tells) (read : Reads self.cells.items n cell head)
+module _ {D : Type 0} {tells : Type 0} {moment : D → ℕ} {left_since : D → ℕ → List ℕ → Type 0} {seen : D → List ℕ} {may_leave : D → List ℕ → Type 0} {self : Cells D} {mid new : D} {n : ℕ} {cell : Cell} {head : List ℕ} (s : CellsStand tells seen may_leave self) (here : tells) (read : Reads self.cells.items n cell head)
     (run : ContinuesOnly moment left_since mid new (MayOpen self.narrow (frame_of 0 (other cell.side)) (seen mid) 0 (payload_held cell) head)) (below : SameBelow self.narrow (2 * (n + 1)) (seen self.disk) (seen mid)) where
   still : OnDisk self.narrow (seen mid) self.cells.items
   still = on_below self.narrow self.cells.items (seen self.disk) (seen mid) (n + 1) (omega (arith, read.behind)) (s.on_disk here) below

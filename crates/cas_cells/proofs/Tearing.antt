@@ -2,7 +2,7 @@
 use Rattle.std.proofs.Common.{◌≡◌, ◌≢◌, ⊎_elim, ℕ, suc, ◌+◌, ◌-◌, ◌*◌, ◌<◌, ◌≤◌, List, [], ◌∷◌, ◌++◌, length, get_or, take, drop, refl, sym, ◌∙◌, ap, arith, length-append, length-take, length-drop}
 use Rattle.std.proofs.lemmas.List.{take_at, drop_at, drop-drop, drop-take, take-take, take-append-le, length-take-le, get_or-take, get_or-drop}
 use Rattle.std.proofs.lemmas.Bool.{cases_lt}
-use Rattle.cas_disk.specs.Disk.{Holds, Torn}
+use Rattle.cas_disk.specs.Disk.{HoldsBytes, Torn}
 use Rattle.cas_cells.specs.Format.{frame_at, frame_place, frame_size, cell_place, half_size}
 use Rattle.cas_cells.specs.Torn.{GateTorn, TailTorn, SameBelow}
 use Rattle.cas_cells.specs.Held.{IsShut}
@@ -10,7 +10,7 @@ use Rattle.cas_cells.proofs.Places.{sized, place_below, place_second, size_secon
 use Rattle.cas_cells.proofs.Lists.{regroup}
 
 -- what a write does as a whole it may do in part
-pub holds_torn : (old new bytes : List ℕ) (at : ℕ) → at ≤ length old → Holds old at bytes new → Torn at (length bytes) old new
+pub holds_torn : (old new bytes : List ℕ) (at : ℕ) → at ≤ length old → HoldsBytes old at bytes new → Torn at (length bytes) old new
 holds_torn old new bytes at within holds =
     let front : length (take at old ++ bytes) ≡ at + length bytes = omega (arith, length-append (take at old) bytes, length-take-le at old within) in
     let rest = drop (at + length bytes) old in
@@ -23,13 +23,13 @@ holds_torn old new bytes at within holds =
     }
 
 -- what was written stands there, and behind it what stood there
-held_behind : (old new bytes : List ℕ) (at : ℕ) → at ≤ length old → Holds old at bytes new → drop at new ≡ bytes ++ drop (at + length bytes) old
+held_behind : (old new bytes : List ℕ) (at : ℕ) → at ≤ length old → HoldsBytes old at bytes new → drop at new ≡ bytes ++ drop (at + length bytes) old
 held_behind old new bytes at within holds =
     let rest = drop (at + length bytes) old in
     ap (λ (l : List ℕ). drop at l) (holds ∙ regroup (take at old) bytes rest)
     ∙ drop_at (take at old) (bytes ++ rest) at (length-take-le at old within)
 
-pub held_bytes : (old new bytes : List ℕ) (at : ℕ) → at ≤ length old → Holds old at bytes new → take (length bytes) (drop at new) ≡ bytes
+pub held_bytes : (old new bytes : List ℕ) (at : ℕ) → at ≤ length old → HoldsBytes old at bytes new → take (length bytes) (drop at new) ≡ bytes
 held_bytes old new bytes at within holds =
     ap (λ (l : List ℕ). take (length bytes) l) (held_behind old new bytes at within holds) ∙ take_at bytes (drop (at + length bytes) old) (length bytes) refl
 
@@ -128,7 +128,7 @@ module _ (narrow : ℕ) where
       }
 
   -- a gate was written
-  pub gate_held : (k g : ℕ) (old new : List ℕ) → length (frame_at narrow old k) ≡ frame_size narrow k → Holds old (frame_place narrow k) (g ∷ []) new → frame_at narrow new k ≡ g ∷ drop 1 (frame_at narrow old k)
+  pub gate_held : (k g : ℕ) (old new : List ℕ) → length (frame_at narrow old k) ≡ frame_size narrow k → HoldsBytes old (frame_place narrow k) (g ∷ []) new → frame_at narrow new k ≡ g ∷ drop 1 (frame_at narrow old k)
   gate_held k g old new whole holds =
       let within : frame_place narrow k ≤ length old = omega (arith, frame_within old k whole) in
       let torn = gate_torn k old new whole (holds_torn old new (g ∷ []) (frame_place narrow k) within holds) in
@@ -136,7 +136,7 @@ module _ (narrow : ℕ) where
       gate_tail (frame_at narrow new k) (omega (arith, torn.size, (sized narrow k).least)) ∙ (λ i. gate i ∷ torn.tail i)
 
   -- a front of a tail was written
-  pub tail_held : (k : ℕ) (tail old new : List ℕ) → length (frame_at narrow old k) ≡ frame_size narrow k → length tail + 1 ≤ frame_size narrow k → Holds old (frame_place narrow k + 1) tail new → drop 1 (frame_at narrow new k) ≡ tail ++ drop (length tail + 1) (frame_at narrow old k)
+  pub tail_held : (k : ℕ) (tail old new : List ℕ) → length (frame_at narrow old k) ≡ frame_size narrow k → length tail + 1 ≤ frame_size narrow k → HoldsBytes old (frame_place narrow k + 1) tail new → drop 1 (frame_at narrow new k) ≡ tail ++ drop (length tail + 1) (frame_at narrow old k)
   tail_held k tail old new whole long holds =
       let within : frame_place narrow k + 1 ≤ length old = omega (arith, frame_within old k whole, (sized narrow k).least) in
       let place = frame_place narrow k in
@@ -155,7 +155,7 @@ module _ (narrow : ℕ) where
   same_below i n old c torn j less = frames_below old c (cell_place narrow i) n j torn (place_below narrow j (2 * i) less)
 
   -- zeros were written over a cell
-  pub blank_held : (i : ℕ) (old new z : List ℕ) → length z ≡ 2 * half_size narrow i → ((o : ℕ) → o < length z → get_or z o 0 ≡ 0) → cell_place narrow i ≤ length old → Holds old (cell_place narrow i) z new
+  pub blank_held : (i : ℕ) (old new z : List ℕ) → length z ≡ 2 * half_size narrow i → ((o : ℕ) → o < length z → get_or z o 0 ≡ 0) → cell_place narrow i ≤ length old → HoldsBytes old (cell_place narrow i) z new
       → IsShut (half_size narrow i) (frame_at narrow new (2 * i)) × IsShut (half_size narrow i) (frame_at narrow new (2 * i + 1))
   blank_held i old new z size zero within holds =
       (shut_at (2 * i) 0 (omega arith) refl (omega (arith, least)), shut_at (2 * i + 1) (half_size narrow i) (place_second narrow i) (size_second narrow i) (omega (arith, least)))

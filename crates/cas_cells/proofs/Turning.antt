@@ -6,7 +6,7 @@ use Rattle.std.proofs.Common.{◌≡◌, ◌≢◌, ◌⊎◌, inl, inr, ℕ, �
 use Rattle.std.proofs.lemmas.Bool.{cases_eq}
 use Rattle.std.proofs.lemmas.Bool.Decides.{nat_tests}
 use Rattle.cas_cells.specs.Format.{next, IsPayload}
-use Rattle.cas_cells.specs.Held.{on, tail_of, IsFrame, IsShut, IsOlder, IsBlank, IsZeroBehind, used_by, FramesHeld, payload_held, other, IsAsBefore, Writes, Opens, Shuts}
+use Rattle.cas_cells.specs.Held.{on, tail_of, IsFrame, IsShut, IsOlder, IsBlank, IsZeroBehind, used_by, FramesHeld, payload_held, other, IsAsBefore, Writes, OpensSpare, Shuts}
 use Rattle.cas_cells.specs.declared.cell.Side.{Side}
 use Rattle.cas_cells.specs.declared.cell.Side.TheVariants.{First, Second}
 use Rattle.cas_cells.specs.declared.cell.Cell.{Cell}
@@ -135,7 +135,7 @@ module _ (size : ℕ) (fit : IsSize size) where
   is_some_map cell = map_some cell.payload
 
   -- once it is open, the cell in memory says so
-  pub opened_held : (cell cell' : Cell) (p current spare spare' : List ℕ) → FramesHeld size cell current spare → IsPayload size p → drop 1 spare ≡ tail_of size (next cell.number) p → spare' ≡ 1 ∷ drop 1 spare → length spare ≡ size → Opens p cell cell' → FramesHeld size cell' spare' current
+  pub opened_held : (cell cell' : Cell) (p current spare spare' : List ℕ) → FramesHeld size cell current spare → IsPayload size p → drop 1 spare ≡ tail_of size (next cell.number) p → spare' ≡ 1 ∷ drop 1 spare → length spare ≡ size → OpensSpare p cell cell' → FramesHeld size cell' spare' current
   opened_held cell cell' p current spare spare' held fits holds is long opens =
       let frame : IsFrame size (next cell.number) p spare' = record { bytes = is ∙ ap (λ (l : List ℕ). 1 ∷ l) holds; small = next_small cell.number cell.small; fits = fits } in
       record {

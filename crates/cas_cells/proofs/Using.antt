@@ -8,10 +8,10 @@ use Rattle.cas_disk.specs.Disk.{Keeps}
 use Rattle.cas_disk.specs.declared.disk.DiskFault.{DiskFault}
 use Rattle.cas_disk.specs.declared.disk.DiskFault.TheVariants.{Failed, NoMemory as NoMemoryOfDisk}
 use Rattle.cas_cells.specs.FaultOf.{fault_of}
-use Rattle.cas_cells.specs.Format.{frame_at, half_size, count_in, narrow_in, head_in, IsPayload, TellsSame, StandsFor}
+use Rattle.cas_cells.specs.Format.{frame_at, half_size, count_in, narrow_in, head_in, IsPayload, TellsSame, IsImageOf}
 use Rattle.cas_cells.specs.declared.cell.Side.{Side}
-use Rattle.cas_cells.specs.Held.{IsBlank, IsNew, IsShut, IsFrame, IsOlder, FramesHeld, Leaves, MayOpen, CellHeld, OnDisk, IsRow, payload_held, frame_of, other}
-use Rattle.cas_cells.specs.Cells.{Stands, IsUnderWay, Agrees}
+use Rattle.cas_cells.specs.Held.{IsBlank, IsNew, IsShut, IsFrame, IsOlder, FramesHeld, LeavesPayload, MayOpen, CellHeld, OnDisk, IsRow, payload_held, frame_of, other}
+use Rattle.cas_cells.specs.Cells.{CellsStand, ChangeIsUnderWay, Agrees}
 use Rattle.cas_cells.specs.UnderWay.{change_held, payload_staged}
 use Rattle.cas_cells.specs.declared.cell.Cell.{Cell}
 use Rattle.cas_cells.specs.declared.cells.Cells.{Cells}
@@ -82,8 +82,8 @@ head_changed narrow (Some head ∷ cells) zero p row fits was = subst (λ (size 
 head_changed narrow (Some head ∷ cells) (suc i) p row fits was = was
 
 -- the disk is as it was, and so is what the cells show
-pub stands_kept : {D : Type 0} (tells : Type 0) (seen : D → List ℕ) (may_leave : D → List ℕ → Type 0) (cells cells' : Cells D) → Stands tells seen may_leave cells → cells'.cells.items ≡ cells.cells.items → cells'.narrow ≡ cells.narrow → cells'.change ≡ cells.change
-    → (tells → Keeps (seen cells.disk) (seen cells'.disk) (may_leave cells.disk) (may_leave cells'.disk)) → Stands tells seen may_leave cells'
+pub stands_kept : {D : Type 0} (tells : Type 0) (seen : D → List ℕ) (may_leave : D → List ℕ → Type 0) (cells cells' : Cells D) → CellsStand tells seen may_leave cells → cells'.cells.items ≡ cells.cells.items → cells'.narrow ≡ cells.narrow → cells'.change ≡ cells.change
+    → (tells → Keeps (seen cells.disk) (seen cells'.disk) (may_leave cells.disk) (may_leave cells'.disk)) → CellsStand tells seen may_leave cells'
 stands_kept tells seen may_leave cells cells' is same narrow_same change keeps = record {
   row = subst (λ (l : List Cell). IsRow (map payload_held l)) (sym same) is.row;
   narrow = narrow_same ∙ is.narrow ∙ ap (λ (l : List Cell). narrow_in (map payload_held l)) (sym same);
@@ -91,31 +91,31 @@ stands_kept tells seen may_leave cells cells' is same narrow_same change keeps =
   agrees = subst (λ (l : List Cell). Agrees (change_held cells'.change) (map payload_held l)) (sym same) (subst (λ (ch : Option Change). Agrees (change_held ch) (map payload_held cells.cells.items)) (sym change) is.agrees);
   on_disk = λ t. subst (λ (m : ℕ). OnDisk m (seen cells'.disk) cells'.cells.items) (sym narrow_same)
       (subst (λ (d : List ℕ). OnDisk cells.narrow d cells'.cells.items) (sym (keeps t).content) (subst (λ (l : List Cell). OnDisk cells.narrow (seen cells.disk) l) (sym same) (is.on_disk t)));
-  under_way = λ t. subst (λ (m : ℕ). IsUnderWay m (seen cells'.disk) cells'.cells.items cells'.change) (sym narrow_same) (subst (λ (d : List ℕ). IsUnderWay cells.narrow d cells'.cells.items cells'.change) (sym (keeps t).content)
-      (subst (λ (ch : Option Change). IsUnderWay cells.narrow (seen cells.disk) cells'.cells.items ch) (sym change) (subst (λ (l : List Cell). IsUnderWay cells.narrow (seen cells.disk) l cells.change) (sym same) (is.under_way t))));
+  under_way = λ t. subst (λ (m : ℕ). ChangeIsUnderWay m (seen cells'.disk) cells'.cells.items cells'.change) (sym narrow_same) (subst (λ (d : List ℕ). ChangeIsUnderWay cells.narrow d cells'.cells.items cells'.change) (sym (keeps t).content)
+      (subst (λ (ch : Option Change). ChangeIsUnderWay cells.narrow (seen cells.disk) cells'.cells.items ch) (sym change) (subst (λ (l : List Cell). ChangeIsUnderWay cells.narrow (seen cells.disk) l cells.change) (sym same) (is.under_way t))));
   durable = λ t image left. is.durable t image ((keeps t).outcomes image left) ∙ sym (keeps t).content;
 }
 
 -- where the disk tells its content, it stands for the cells in use
-pub stands_now : {D : Type 0} (tells : Type 0) (seen : D → List ℕ) (may_leave : D → List ℕ → Type 0) (cells : Cells D) → Stands tells seen may_leave cells → tells → StandsFor (map payload_held cells.cells.items) (seen cells.disk)
+pub stands_now : {D : Type 0} (tells : Type 0) (seen : D → List ℕ) (may_leave : D → List ℕ → Type 0) (cells : Cells D) → CellsStand tells seen may_leave cells → tells → IsImageOf (map payload_held cells.cells.items) (seen cells.disk)
 stands_now tells seen may_leave cells is t = stands cells.narrow (seen cells.disk) (map payload_held cells.cells.items) (all_sound cells.narrow (seen cells.disk) cells.cells.items (is.on_disk t)) is.row is.narrow
 
 module _ (narrow : ℕ) where
   -- what a step leaves that keeps its cell's payload stands for the same row
-  pub leaves_stand : (cells : List Cell) (old c : List ℕ) (i : ℕ) (cell : Cell) → OnDisk narrow old cells → IsRow (map payload_held cells) → narrow ≡ narrow_in (map payload_held cells) → slice_get cells i ≡ Some cell → Leaves narrow (frame_of i (other cell.side)) old i (payload_held cell) c → StandsFor (map payload_held cells) c
+  pub leaves_stand : (cells : List Cell) (old c : List ℕ) (i : ℕ) (cell : Cell) → OnDisk narrow old cells → IsRow (map payload_held cells) → narrow ≡ narrow_in (map payload_held cells) → slice_get cells i ≡ Some cell → LeavesPayload narrow (frame_of i (other cell.side)) old i (payload_held cell) c → IsImageOf (map payload_held cells) c
   leaves_stand cells old c i cell held row told is leaves =
       stands narrow c (map payload_held cells) (row_kept narrow (map payload_held cells) old c i (other cell.side) (payload_held cell) (all_sound narrow old cells held) leaves.others (get_map payload_held cells i cell is) leaves.here) row told
 
   -- what the third step leaves stands for the row before it or after it
   pub may_open_stands : (cells : List Cell) (old c : List ℕ) (i : ℕ) (cell : Cell) (p : List ℕ) → OnDisk narrow old cells → IsRow (map payload_held cells) → narrow ≡ narrow_in (map payload_held cells) → slice_get cells i ≡ Some cell → i < length cells → IsRow (set (map payload_held cells) i (Some p)) → narrow ≡ narrow_in (set (map payload_held cells) i (Some p)) → MayOpen narrow (frame_of i (other cell.side)) old i (payload_held cell) p c
-      → StandsFor (map payload_held cells) c ⊎ StandsFor (set (map payload_held cells) i (Some p)) c
+      → IsImageOf (map payload_held cells) c ⊎ IsImageOf (set (map payload_held cells) i (Some p)) c
   may_open_stands cells old c i cell p held row told is within row' told' opens = ⊎_elim
       (λ before. inl (leaves_stand cells old c i cell held row told is (record { others = opens.others; here = before })))
       (λ after. inr (stands narrow c (set (map payload_held cells) i (Some p)) (row_set narrow (map payload_held cells) old c i (other cell.side) (Some p) (all_sound narrow old cells held) opens.others (omega (arith, length-map cells payload_held)) after) row' told'))
       opens.here
 
   -- the spare of the cell under change is closed
-  pub shut_under_way : (disk : List ℕ) (cells : List Cell) (change : Option Change) (i : ℕ) (pay : Option (List ℕ)) (cell : Cell) → IsUnderWay narrow disk cells change → change_held change ≡ Some (i, pay) → slice_get cells i ≡ Some cell → cell.spare_open ≡ false
+  pub shut_under_way : (disk : List ℕ) (cells : List Cell) (change : Option Change) (i : ℕ) (pay : Option (List ℕ)) (cell : Cell) → ChangeIsUnderWay narrow disk cells change → change_held change ≡ Some (i, pay) → slice_get cells i ≡ Some cell → cell.spare_open ≡ false
   shut_under_way disk cells None i pay cell way held is = absurd (cc)
   shut_under_way disk cells (Some change) i pay cell way held is =
       let both : (change.cell, payload_staged change.step) ≡ (i, pay) = cc in

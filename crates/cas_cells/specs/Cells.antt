@@ -32,21 +32,21 @@ Agrees None cells = Unit {0}
 Agrees (Some change) cells = MatchOption change.1 (Unit {0}) (λ p. FitsCell cells change.0 p × ((change.0 ≡ 0) → TellsSame p cells))
 
 -- the payload stands in the spare, if it was kept there
-abbrev pub IsStaged : ℕ → List ℕ → ℕ → Cell → Step → Type 0
-IsStaged narrow disk i cell Closed = Unit {0}
-IsStaged narrow disk i cell (Written staged) = staged.kept ≡ true → HoldsTail narrow disk i cell staged.payload.items
+abbrev pub PayloadIsStaged : ℕ → List ℕ → ℕ → Cell → Step → Type 0
+PayloadIsStaged narrow disk i cell Closed = Unit {0}
+PayloadIsStaged narrow disk i cell (Written staged) = staged.kept ≡ true → HoldsTail narrow disk i cell staged.payload.items
 
 -- the spare of the cell under change is closed, and what was written stands in it
-abbrev pub IsUnderWay : ℕ → List ℕ → List Cell → Option Change → Type 0
-IsUnderWay narrow disk cells None = Unit {0}
-IsUnderWay narrow disk cells (Some change) = (cell : Cell) → slice_get cells change.cell ≡ Some cell → (cell.spare_open ≡ false) × IsStaged narrow disk change.cell cell change.step
+abbrev pub ChangeIsUnderWay : ℕ → List ℕ → List Cell → Option Change → Type 0
+ChangeIsUnderWay narrow disk cells None = Unit {0}
+ChangeIsUnderWay narrow disk cells (Some change) = (cell : Cell) → slice_get cells change.cell ≡ Some cell → (cell.spare_open ≡ false) × PayloadIsStaged narrow disk change.cell cell change.step
 
 -- the cells are in use: cell 0 tells how many there are, and where the disk tells its content, what the cells show stands on it
-pub record Stands {D : Type 0} (tells : Type 0) (seen : D → List ℕ) (may_leave : D → List ℕ → Type 0) (cells : Cells D) : Type 0 where
+pub record CellsStand {D : Type 0} (tells : Type 0) (seen : D → List ℕ) (may_leave : D → List ℕ → Type 0) (cells : Cells D) : Type 0 where
   pub row : IsRow (cells_of cells)
   pub narrow : cells.narrow ≡ narrow_in (cells_of cells)
   pub head : IsPayload 512 (head_in (cells_of cells))
   pub agrees : Agrees (change_of cells) (cells_of cells)
   pub on_disk : tells → OnDisk cells.narrow (seen cells.disk) cells.cells.items
-  pub under_way : tells → IsUnderWay cells.narrow (seen cells.disk) cells.cells.items cells.change
+  pub under_way : tells → ChangeIsUnderWay cells.narrow (seen cells.disk) cells.cells.items cells.change
   pub durable : tells → Only (seen cells.disk) (may_leave cells.disk)

@@ -189,10 +189,10 @@ abbrev pub foreign_at : List ℕ → Option ℕ
 foreign_at disk = if nat_lt (wrong_at 0 disk 0) 1024 then Some (wrong_at 0 disk 0) else foreign_behind (payload_at 0 disk 0) disk
 
 -- a disk is of this format and stands for these cells
-pub record StandsFor (cells : List (Option (List ℕ))) (disk : List ℕ) : Type 0 where
+pub record IsImageOf (cells : List (Option (List ℕ))) (disk : List ℕ) : Type 0 where
   pub sound : foreign_at disk ≡ None
   pub same : cells_on disk ≡ cells
 
 -- it stands for the cells before a change or for those after it
 abbrev pub IsBeforeOrAfter : List (Option (List ℕ)) → List (Option (List ℕ)) → List ℕ → Type 0
-IsBeforeOrAfter before after disk = StandsFor before disk ⊎ StandsFor after disk
+IsBeforeOrAfter before after disk = IsImageOf before disk ⊎ IsImageOf after disk

@@ -105,7 +105,7 @@ pub record SoundAt (narrow i : ℕ) (payload : Option (List ℕ)) (disk : List �
   pub same : payload_at narrow disk i ≡ payload
 
 -- frame k changed, and cell i has this payload
-pub record Leaves (narrow k : ℕ) (old : List ℕ) (i : ℕ) (payload : Option (List ℕ)) (c : List ℕ) : Type 0 where
+pub record LeavesPayload (narrow k : ℕ) (old : List ℕ) (i : ℕ) (payload : Option (List ℕ)) (c : List ℕ) : Type 0 where
   pub others : Others narrow k old c
   pub here : SoundAt narrow i payload c
 
@@ -135,7 +135,7 @@ pub record Writes (payload : List ℕ) (cell cell' : Cell) : Type 0 where
   pub used : cell'.spare_used ≡ length payload + 3
 
 -- what a cell says once its spare is open: the spare is current
-pub record Opens (payload : List ℕ) (cell cell' : Cell) : Type 0 where
+pub record OpensSpare (payload : List ℕ) (cell cell' : Cell) : Type 0 where
   pub held : payload_held cell' ≡ Some payload
   pub side : cell'.side ≡ other cell.side
   pub number : cell'.number ≡ next cell.number

@@ -3,7 +3,7 @@ ghost use Rattle.std.specs.Prelude.{◌≡◌, ◌≢◌, ◌<◌, ◌≤◌, �
 ghost use Rattle.std.specs.Option.{option_copied};
 ghost use Rattle.cas_disk.specs.Disk.{ContinuesOnly, Only, Keeps, Elapses};
 ghost use Rattle.cas_cells.specs.Fault.{HasCellCause, IsFaultOfDisk};
-ghost use Rattle.cas_cells.specs.Format.{narrow_in, narrow_told, wide_in, wide_told, count_in, count_told, is_head, head_in, with_count, grown, foreign_at, cell_place, payload_place, IsPayload, FitsCell, TellsSame, StandsFor, IsBeforeOrAfter};
+ghost use Rattle.cas_cells.specs.Format.{narrow_in, narrow_told, wide_in, wide_told, count_in, count_told, is_head, head_in, with_count, grown, foreign_at, cell_place, payload_place, IsPayload, FitsCell, TellsSame, IsImageOf, IsBeforeOrAfter};
 ghost use Rattle.cas_cells.specs.Length.{NotLonger};
 ghost use Rattle.cas_cells.specs.Reading.{OnlyRead};
 ghost use Rattle.cas_cells.specs.Held.{payload_held, IsNew};
@@ -39,7 +39,7 @@ pub struct Cells<D: Disk> {
 }
 
 impl<D: Disk> Cells<D> {
-    ghost use Rattle.cas_cells.specs.Cells.{disk_of, cells_of, change_of, staged_of, Stands};
+    ghost use Rattle.cas_cells.specs.Cells.{disk_of, cells_of, change_of, staged_of, CellsStand};
 
     /// Cells on this disk, none of them known. It touches nothing.
     pub fn over(alloc: Global, disk: D) -> Cells<D>
@@ -69,7 +69,7 @@ impl<D: Disk> Cells<D> {
 
     /// Where the payload of a cell begins on the disk. A blank cell has none.
     pub fn payload_place(&self, cell: u32) -> Option<u64>
-        requires stands { Stands D.tells D.seen D.may_leave self.now }
+        requires stands { CellsStand D.tells D.seen D.may_leave self.now }
         requires within { cell ≤ count_in (cells_of self.now) }
         ensures place { D.tells → result ≡ payload_place (narrow_in (cells_of self.now)) (D.seen (disk_of self.now)) cell }
         ensures small { IfSome result (λ place. place ≤ 9216 * (cell + 1)) }
@@ -85,7 +85,7 @@ impl<D: Disk> Cells<D> {
 
     /// Where a cell begins on the disk.
     pub fn place(&self, cell: u32) -> u64
-        requires stands { Stands D.tells D.seen D.may_leave self.now }
+        requires stands { CellsStand D.tells D.seen D.may_leave self.now }
         requires within { cell ≤ count_in (cells_of self.now) }
         ensures place { result ≡ cell_place (narrow_in (cells_of self.now)) cell }
         ensures small { result ≤ 9216 * cell }
@@ -125,14 +125,14 @@ impl<D: Disk> Cells<D> {
     /// Begins a change of a cell anew: closes the spare of the cell. Where it is closed already nothing is written. After
     /// `NoMemory` all that is seen is as before.
     pub fn close_spare(&mut self, cell: u32) -> Result<(), CellFault>
-        requires stands { Stands D.tells D.seen D.may_leave self.old }
+        requires stands { CellsStand D.tells D.seen D.may_leave self.old }
         requires within { cell ≤ count_in (cells_of self.old) }
         ensures closed { OnOk result (change_of self.new ≡ Some (cell, None)) }
         ensures same { OnErr result (change_of self.new ≡ change_of self.old) }
         ensures cells { cells_of self.new ≡ cells_of self.old }
-        ensures stands { OnOk result (Stands D.tells D.seen D.may_leave self.new) }
-        ensures after_no_memory { IsErrOf result CellFault.NoMemory → Stands D.tells D.seen D.may_leave self.new }
-        ensures any_moment { D.tells → ContinuesOnly D.moment D.left_since (disk_of self.old) (disk_of self.new) (StandsFor (cells_of self.old)) }
+        ensures stands { OnOk result (CellsStand D.tells D.seen D.may_leave self.new) }
+        ensures after_no_memory { IsErrOf result CellFault.NoMemory → CellsStand D.tells D.seen D.may_leave self.new }
+        ensures any_moment { D.tells → ContinuesOnly D.moment D.left_since (disk_of self.old) (disk_of self.new) (IsImageOf (cells_of self.old)) }
         ensures length { D.tells → NotLonger D.moment D.left_since D.may_leave (disk_of self.old) (disk_of self.new) 0 }
         ensures cause { IsFaultOfDisk result (D.fault_count (disk_of self.old)) (D.fault_count (disk_of self.new)) }
     {
@@ -148,7 +148,7 @@ impl<D: Disk> Cells<D> {
     /// Writes a payload into the closed spare of the cell under change: of 1 to 508 bytes where the cell is narrow, and of 1 to 4,604
     /// where it is wide. One for cell 0 tells the same numbers of cells. After `NoMemory` all that is seen is as before.
     pub fn write_spare(&mut self, cell: u32, payload: &[u8]) -> Result<(), CellFault>
-        requires stands { Stands D.tells D.seen D.may_leave self.old }
+        requires stands { CellsStand D.tells D.seen D.may_leave self.old }
         requires within { cell ≤ count_in (cells_of self.old) }
         requires closed { change_of self.old ≡ Some (cell, None) }
         requires fits { FitsCell (cells_of self.old) cell payload.now }
@@ -156,9 +156,9 @@ impl<D: Disk> Cells<D> {
         ensures written { OnOk result (change_of self.new ≡ Some (cell, Some payload.now)) }
         ensures same { OnErr result (change_of self.new ≡ change_of self.old) }
         ensures cells { cells_of self.new ≡ cells_of self.old }
-        ensures stands { OnOk result (Stands D.tells D.seen D.may_leave self.new) }
-        ensures after_no_memory { IsErrOf result CellFault.NoMemory → Stands D.tells D.seen D.may_leave self.new }
-        ensures any_moment { D.tells → ContinuesOnly D.moment D.left_since (disk_of self.old) (disk_of self.new) (StandsFor (cells_of self.old)) }
+        ensures stands { OnOk result (CellsStand D.tells D.seen D.may_leave self.new) }
+        ensures after_no_memory { IsErrOf result CellFault.NoMemory → CellsStand D.tells D.seen D.may_leave self.new }
+        ensures any_moment { D.tells → ContinuesOnly D.moment D.left_since (disk_of self.old) (disk_of self.new) (IsImageOf (cells_of self.old)) }
         ensures length { D.tells → NotLonger D.moment D.left_since D.may_leave (disk_of self.old) (disk_of self.new) 0 }
         ensures cause { IsFaultOfDisk result (D.fault_count (disk_of self.old)) (D.fault_count (disk_of self.new)) }
     {
@@ -176,15 +176,15 @@ impl<D: Disk> Cells<D> {
     /// Opens the written spare of the cell under change, which then holds the payload that was written. After `NoMemory` all that is
     /// seen is as before.
     pub fn open_spare(&mut self, cell: u32) -> Result<(), CellFault>
-        requires stands { Stands D.tells D.seen D.may_leave self.old }
+        requires stands { CellsStand D.tells D.seen D.may_leave self.old }
         requires within { cell ≤ count_in (cells_of self.old) }
         requires written { change_of self.old ≡ Some (cell, Some (staged_of self.old)) }
         ensures changed { OnOk result (cells_of self.new ≡ slice_set (cells_of self.old) cell (Some (staged_of self.old))) }
         ensures done { OnOk result (change_of self.new ≡ None) }
         ensures same { OnErr result (change_of self.new ≡ change_of self.old) }
         ensures cells { OnErr result (cells_of self.new ≡ cells_of self.old) }
-        ensures stands { OnOk result (Stands D.tells D.seen D.may_leave self.new) }
-        ensures after_no_memory { IsErrOf result CellFault.NoMemory → Stands D.tells D.seen D.may_leave self.new }
+        ensures stands { OnOk result (CellsStand D.tells D.seen D.may_leave self.new) }
+        ensures after_no_memory { IsErrOf result CellFault.NoMemory → CellsStand D.tells D.seen D.may_leave self.new }
         ensures any_moment { D.tells → ContinuesOnly D.moment D.left_since (disk_of self.old) (disk_of self.new) (IsBeforeOrAfter (cells_of self.old) (slice_set (cells_of self.old) cell (Some (staged_of self.old)))) }
         ensures length { D.tells → NotLonger D.moment D.left_since D.may_leave (disk_of self.old) (disk_of self.new) 0 }
         ensures cause { IsFaultOfDisk result (D.fault_count (disk_of self.old)) (D.fault_count (disk_of self.new)) }
@@ -212,15 +212,15 @@ impl<D: Disk> Cells<D> {
     /// Appends a blank wide cell and raises the number of wide cells that the head in cell 0 tells by one. No change is then under way.
     /// After `NoMemory` all that is seen is as before.
     pub fn grow(&mut self) -> Result<(), CellFault>
-        requires stands { Stands D.tells D.seen D.may_leave self.old }
+        requires stands { CellsStand D.tells D.seen D.may_leave self.old }
         requires head { IsTrue (is_head (head_in (cells_of self.old))) }
         requires room { wide_in (cells_of self.old) < 4096 }
         ensures grown { OnOk result (cells_of self.new ≡ grown (cells_of self.old)) }
         ensures done { OnOk result (change_of self.new ≡ None) }
         ensures same { OnErr result (change_of self.new ≡ change_of self.old) }
         ensures cells { OnErr result (cells_of self.new ≡ cells_of self.old) }
-        ensures stands { OnOk result (Stands D.tells D.seen D.may_leave self.new) }
-        ensures after_no_memory { IsErrOf result CellFault.NoMemory → Stands D.tells D.seen D.may_leave self.new }
+        ensures stands { OnOk result (CellsStand D.tells D.seen D.may_leave self.new) }
+        ensures after_no_memory { IsErrOf result CellFault.NoMemory → CellsStand D.tells D.seen D.may_leave self.new }
         ensures any_moment { D.tells → ContinuesOnly D.moment D.left_since (disk_of self.old) (disk_of self.new) (IsBeforeOrAfter (cells_of self.old) (grown (cells_of self.old))) }
         ensures length { D.tells → NotLonger D.moment D.left_since D.may_leave (disk_of self.old) (disk_of self.new) (1024 * (narrow_in (cells_of self.old) + 1) + 9216 * (wide_in (cells_of self.old) + 1)) }
         ensures cause { IsFaultOfDisk result (D.fault_count (disk_of self.old)) (D.fault_count (disk_of self.new)) }
@@ -242,12 +242,12 @@ impl<D: Disk> Cells<D> {
     /// which may not be blank. After an `Err` what is seen is as before. The disk is only read.
     pub fn recover(&mut self) -> Result<(), CellFault>
         requires { D.tells → Only (D.seen (disk_of self.old)) (D.may_leave (disk_of self.old)) }
-        ensures recovered { D.tells → OnOk result (StandsFor (cells_of self.new) (D.seen (disk_of self.old))) }
+        ensures recovered { D.tells → OnOk result (IsImageOf (cells_of self.new) (D.seen (disk_of self.old))) }
         ensures foreign { D.tells → (at : ℕ) → IsErrOf result (CellFault.Foreign at) → foreign_at (D.seen (disk_of self.old)) ≡ Some at }
         ensures done { OnOk result (change_of self.new ≡ None) }
         ensures same { OnErr result (change_of self.new ≡ change_of self.old) }
         ensures cells { OnErr result (cells_of self.new ≡ cells_of self.old) }
-        ensures stands { OnOk result (Stands D.tells D.seen D.may_leave self.new) }
+        ensures stands { OnOk result (CellsStand D.tells D.seen D.may_leave self.new) }
         ensures read { D.tells → OnlyRead D.moment D.left_since D.seen D.may_leave (disk_of self.old) (disk_of self.new) }
         ensures length { D.tells → NotLonger D.moment D.left_since D.may_leave (disk_of self.old) (disk_of self.new) 0 }
         ensures cause { HasCellCause result (D.fault_count (disk_of self.old)) (D.fault_count (disk_of self.new)) }
@@ -268,7 +268,7 @@ impl<D: Disk> Cells<D> {
         ensures done { OnOk result (change_of self.new ≡ None) }
         ensures same { OnErr result (change_of self.new ≡ change_of self.old) }
         ensures cells { OnErr result (cells_of self.new ≡ cells_of self.old) }
-        ensures stands { OnOk result (Stands D.tells D.seen D.may_leave self.new) }
+        ensures stands { OnOk result (CellsStand D.tells D.seen D.may_leave self.new) }
         ensures length { D.tells → NotLonger D.moment D.left_since D.may_leave (disk_of self.old) (disk_of self.new) 1024 }
         ensures cause { IsFaultOfDisk result (D.fault_count (disk_of self.old)) (D.fault_count (disk_of self.new)) }
     {
@@ -303,7 +303,7 @@ impl<D: Disk> Cells<D> {
         ensures now { D.tells → D.moment (disk_of self.new) ≡ D.moment (disk_of self.old) }
         ensures cells { cells_of self.new ≡ cells_of self.old }
         ensures change { change_of self.new ≡ change_of self.old }
-        ensures stands { Stands D.tells D.seen D.may_leave self.old → Stands D.tells D.seen D.may_leave self.new }
+        ensures stands { CellsStand D.tells D.seen D.may_leave self.old → CellsStand D.tells D.seen D.may_leave self.new }
         ensures faults { D.fault_count (disk_of self.new) ≡ D.fault_count (disk_of self.old) }
     {
         self.disk.forget_past();

@@ -1,6 +1,6 @@
 //! Writes that are on the disk when they return: some bytes, the gate of a frame, and what stands behind a gate.
 ghost use Rattle.std.specs.Prelude.{◌≡◌, ◌≤◌, ◌+◌, ◌*◌, ◌^◌, ◌<◌, ◌∷◌, ◌++◌, [], ℕ, length, drop, slice_index, OnOk, IsErrOf};
-ghost use Rattle.cas_disk.specs.Disk.{Holds, Torn, Only, Keeps, ContinuesOnly, HasCause};
+ghost use Rattle.cas_disk.specs.Disk.{HoldsBytes, Torn, Only, Keeps, ContinuesOnly, HasCause};
 ghost use Rattle.cas_disk.specs.declared.disk.DiskFault.TheVariants.{NoMemory};
 ghost use Rattle.cas_cells.specs.Format.{frame_at, frame_size, cell_place, half_size};
 ghost use Rattle.cas_cells.specs.Torn.{Others, GateTorn, TailTorn, SameBelow};
@@ -13,7 +13,7 @@ use cas_disk::{Disk, DiskFault};
 /// Writes bytes and syncs. Where all was on the disk before, a crash in it leaves that with any bytes in the range.
 pub fn put<D: Disk>(disk: &mut D, at: u64, bytes: &[u8]) -> Result<(), DiskFault>
     requires room { D.tells → at ≤ length (D.seen disk.old) }
-    ensures held { D.tells → OnOk result (Holds (D.seen disk.old) at bytes.now (D.seen disk.new)) }
+    ensures held { D.tells → OnOk result (HoldsBytes (D.seen disk.old) at bytes.now (D.seen disk.new)) }
     ensures durable { D.tells → OnOk result (Only (D.seen disk.new) (D.may_leave disk.new)) }
     ensures any_moment { D.tells → Only (D.seen disk.old) (D.may_leave disk.old) → ContinuesOnly D.moment D.left_since disk.old disk.new (Torn at (length bytes.now) (D.seen disk.old)) }
     ensures length { D.tells → NotLonger D.moment D.left_since D.may_leave disk.old disk.new (at + length bytes.now) }

@@ -4,7 +4,7 @@ ghost use Rattle.cas_disk.specs.Disk.{Only, Keeps, ContinuesOnly, HasCause};
 ghost use Rattle.cas_disk.specs.declared.disk.DiskFault.TheVariants.{NoMemory};
 ghost use Rattle.cas_cells.specs.Format.{frame_at, half_size, next, IsPayload};
 ghost use Rattle.cas_cells.specs.Torn.{Others};
-ghost use Rattle.cas_cells.specs.Held.{frame_of, place_on, other, payload_held, IsNew, CellHeld, HoldsTail, Shuts, Writes, IsAsBefore, Opens, Leaves, MayOpen, Still};
+ghost use Rattle.cas_cells.specs.Held.{frame_of, place_on, other, payload_held, IsNew, CellHeld, HoldsTail, Shuts, Writes, IsAsBefore, OpensSpare, LeavesPayload, MayOpen, Still};
 
 use crate::cell::{Cell, Side};
 use crate::frame::{WIDE_FRAME, half_size, next, tail_of};
@@ -50,7 +50,7 @@ pub fn shut_spare<D: Disk>(
     ensures others { D.tells → OnOk result (Others narrow (frame_of index (other cell.old.side)) (D.seen disk.old) (D.seen disk.new)) }
     ensures tail { D.tells → OnOk result (drop 1 (frame_at narrow (D.seen disk.new) (frame_of index (other cell.old.side))) ≡ drop 1 (frame_at narrow (D.seen disk.old) (frame_of index (other cell.old.side)))) }
     ensures durable { D.tells → OnOk result (Only (D.seen disk.new) (D.may_leave disk.new)) }
-    ensures any_moment { D.tells → ContinuesOnly D.moment D.left_since disk.old disk.new (Leaves narrow (frame_of index (other cell.old.side)) (D.seen disk.old) index (payload_held cell.old)) }
+    ensures any_moment { D.tells → ContinuesOnly D.moment D.left_since disk.old disk.new (LeavesPayload narrow (frame_of index (other cell.old.side)) (D.seen disk.old) index (payload_held cell.old)) }
     ensures unchanged { D.tells → IsErrOf result NoMemory → Keeps (D.seen disk.old) (D.seen disk.new) (D.may_leave disk.old) (D.may_leave disk.new) }
     ensures cause { HasCause result (D.fault_count disk.old) (D.fault_count disk.new) }
 {
@@ -81,7 +81,7 @@ pub fn write_spare<D: Disk>(
     ensures others { D.tells → OnOk result (Others narrow (frame_of index (other cell.old.side)) (D.seen disk.old) (D.seen disk.new)) }
     ensures staged { D.tells → OnOk result (HoldsTail narrow (D.seen disk.new) index cell.new payload.now) }
     ensures durable { D.tells → OnOk result (Only (D.seen disk.new) (D.may_leave disk.new)) }
-    ensures any_moment { D.tells → ContinuesOnly D.moment D.left_since disk.old disk.new (Leaves narrow (frame_of index (other cell.old.side)) (D.seen disk.old) index (payload_held cell.old)) }
+    ensures any_moment { D.tells → ContinuesOnly D.moment D.left_since disk.old disk.new (LeavesPayload narrow (frame_of index (other cell.old.side)) (D.seen disk.old) index (payload_held cell.old)) }
     ensures unchanged { D.tells → IsErrOf result NoMemory → Keeps (D.seen disk.old) (D.seen disk.new) (D.may_leave disk.old) (D.may_leave disk.new) }
     ensures cause { HasCause result (D.fault_count disk.old) (D.fault_count disk.new) }
 {
@@ -124,7 +124,7 @@ pub fn keep_staged<D: Disk>(
     ensures others { D.tells → OnOk result (Others narrow (frame_of index (other cell.old.side)) (D.seen disk.old) (D.seen disk.new)) }
     ensures staged { D.tells → OnOk result (HoldsTail narrow (D.seen disk.new) index cell.new payload.now) }
     ensures durable { D.tells → OnOk result (Only (D.seen disk.new) (D.may_leave disk.new)) }
-    ensures any_moment { D.tells → ContinuesOnly D.moment D.left_since disk.old disk.new (Leaves narrow (frame_of index (other cell.old.side)) (D.seen disk.old) index (payload_held cell.old)) }
+    ensures any_moment { D.tells → ContinuesOnly D.moment D.left_since disk.old disk.new (LeavesPayload narrow (frame_of index (other cell.old.side)) (D.seen disk.old) index (payload_held cell.old)) }
     ensures unchanged { D.tells → IsErrOf result NoMemory → Keeps (D.seen disk.old) (D.seen disk.new) (D.may_leave disk.old) (D.may_leave disk.new) }
     ensures kept { OnErr result (kept.new ≡ kept.old) }
     ensures cause { HasCause result (D.fault_count disk.old) (D.fault_count disk.new) }
@@ -153,7 +153,7 @@ pub fn open_spare<D: Disk>(
     requires staged { D.tells → kept.old ≡ true → HoldsTail narrow (D.seen disk.old) index cell.old payload.now }
     requires durable { D.tells → Only (D.seen disk.old) (D.may_leave disk.old) }
     ensures stays { IsAsBefore cell.old cell.new }
-    ensures opened { D.tells → OnOk result ((after : Cell) → Opens payload.now cell.new after → CellHeld narrow (D.seen disk.new) index after) }
+    ensures opened { D.tells → OnOk result ((after : Cell) → OpensSpare payload.now cell.new after → CellHeld narrow (D.seen disk.new) index after) }
     ensures others { D.tells → OnOk result (Others narrow (frame_of index (other cell.old.side)) (D.seen disk.old) (D.seen disk.new)) }
     ensures durable { D.tells → OnOk result (Only (D.seen disk.new) (D.may_leave disk.new)) }
     ensures any_moment { D.tells → ContinuesOnly D.moment D.left_since disk.old disk.new (MayOpen narrow (frame_of index (other cell.old.side)) (D.seen disk.old) index (payload_held cell.old) payload.now) }
@@ -197,7 +197,7 @@ pub fn change_cell<D: Disk>(
 /// Makes the spare of a cell current, with this payload.
 pub fn turn(cell: &mut Cell, payload: Vec<u8>)
     requires { IsPayload 4608 payload.items }
-    ensures { Opens payload.items cell.old cell.new }
+    ensures { OpensSpare payload.items cell.old cell.new }
 {
     let spare_open = cell.payload.is_some();
     let spare_used = match &cell.payload {

@@ -4,7 +4,7 @@ use Rattle.std.specs.Prelude.{◌⊎◌, ◌==◌, codes}
 use Rattle.std.specs.Str.{bytes_eq}
 use Rattle.std.proofs.lemmas.Slice.Eq.{bytes_eq-Decides}
 use Rattle.std.proofs.lemmas.Bool.{eqb-true, eqb-false, ne_eqb, false_from_ne_true}
-use Rattle.cas_change_text.specs.Escapes.{is_plain, hex_value, byte_from, StandsFor, SpellsEach, Spells, onto, unescaped, text_of}
+use Rattle.cas_change_text.specs.Escapes.{is_plain, hex_value, byte_from, StandsForByte, SpellsEach, SpellsEscaped, onto, unescaped, text_of}
 
 -- bytes in front, where there are bytes behind them
 abbrev pub in_front : List ℕ → Option (List ℕ) → Option (List ℕ)
@@ -35,7 +35,7 @@ unescaped-plain sign (high ∷ low ∷ rest) plain =
     ap (λ b. cond b (onto (Some sign) (unescaped (high ∷ low ∷ rest))) (cond (sign == 37) (onto (byte_from (hex_value high) (hex_value low)) (unescaped rest)) None)) plain
 
 -- what stands for one byte, in front of what stands for others
-front_again : (front rest : List ℕ) (byte : ℕ) (bytes : List ℕ) → StandsFor front byte → unescaped rest ≡ Some bytes → unescaped (front ++ rest) ≡ Some (byte ∷ bytes)
+front_again : (front rest : List ℕ) (byte : ℕ) (bytes : List ℕ) → StandsForByte front byte → unescaped rest ≡ Some bytes → unescaped (front ++ rest) ≡ Some (byte ∷ bytes)
 front_again [] rest byte bytes stands others = absurd stands
 front_again (sign ∷ []) rest byte bytes stands others = unescaped-plain sign rest stands.0 ∙ (λ i. onto (Some (stands.1 i)) (others i))
 front_again (sign ∷ digit ∷ []) rest byte bytes stands others = absurd stands
@@ -83,7 +83,7 @@ SpellsEach-found (sign ∷ high ∷ low ∷ rest) bytes e =
     ]
 
 -- a word that spells a text is read as that text
-pub text_of-again : (bytes word : List ℕ) → Spells word bytes → text_of word ≡ Some bytes
+pub text_of-again : (bytes word : List ℕ) → SpellsEscaped word bytes → text_of word ≡ Some bytes
 text_of-again [] word spelled = ap text_of spelled
 text_of-again (byte ∷ bytes) word spelled =
     let stands : unescaped word ≡ Some (byte ∷ bytes) = SpellsEach-again (byte ∷ bytes) word spelled in
@@ -98,15 +98,15 @@ text_of-again (byte ∷ bytes) word spelled =
     not_empty (b ∷ w) e = ne_eqb (length (b ∷ w)) 0 (λ zero. omega arith)
 
 -- a word spells the text that it is read as
-pub text_of-found : (word bytes : List ℕ) → text_of word ≡ Some bytes → Spells word bytes
+pub text_of-found : (word bytes : List ℕ) → text_of word ≡ Some bytes → SpellsEscaped word bytes
 text_of-found word bytes e = elim (chosen (bytes_eq word (codes "%-")) (Some []) (cond (length word == 0) None (unescaped word)) (Some bytes) e) [
-  | inl p ↦ subst (Spells word) (let is : [] ≡ bytes = cc (p.1) in is) ((bytes_eq-Decides word (codes "%-")).0 p.0)
+  | inl p ↦ subst (SpellsEscaped word) (let is : [] ≡ bytes = cc (p.1) in is) ((bytes_eq-Decides word (codes "%-")).0 p.0)
   | inr p ↦ elim (chosen (length word == 0) None (unescaped word) (Some bytes) p.1) [
     | inl q ↦ absurd (cc (q.1))
     | inr q ↦ each bytes (eqb-false (length word) 0 q.0) (SpellsEach-found word bytes q.1)
   ]
 ]
   where
-    each : (bs : List ℕ) → (length word ≡ 0 → ⊥) → SpellsEach word bs → Spells word bs
+    each : (bs : List ℕ) → (length word ≡ 0 → ⊥) → SpellsEach word bs → SpellsEscaped word bs
     each [] some spelled = absurd (some (ap length spelled))
     each (b ∷ bs) some spelled = spelled

@@ -27,7 +27,7 @@ use Rattle.cas_change_text.specs.Grammar.{IsPair, IsTextWord, IsGuard, IsAct, Is
 use Rattle.cas_change_text.specs.Printing.{guard_text, act_text, clause_text, program_text, body_text, state_text}
 use Rattle.cas_change_text.specs.Ranges.{TextFits, GuardFits, ActFits, ClauseFits, BodyFits, StateFits}
 use Rattle.cas_change_text.specs.Decimal.{is_numeral, number_after, u64_of, i64_of, is_negative, digits_of}
-use Rattle.cas_change_text.specs.Escapes.{is_plain, hex_value, hex_digit, escaped_byte, escaped, StandsFor, SpellsEach, Spells}
+use Rattle.cas_change_text.specs.Escapes.{is_plain, hex_value, hex_digit, escaped_byte, escaped, StandsForByte, SpellsEach, SpellsEscaped}
 use Rattle.cas_change_text.specs.Words.{Word, is_blank, words_of}
 use Rattle.cas_change_text.proofs.WordLists.{kept}
 
@@ -143,10 +143,10 @@ hex_value-hex_digit n below = elim (cases_lt n 10) [
         rw (le-ltb n 10 le, le-leb 48 (55 + n) (omega arith), lt-leb (55 + n) 57 (omega arith), le-leb 65 (55 + n) (omega arith), le-leb (55 + n) 70 (omega arith), back) refl
 
 -- what is printed for a byte stands for it
-StandsFor-escaped_byte : (byte : ℕ) → byte < 256 → StandsFor (escaped_byte byte) byte
+StandsFor-escaped_byte : (byte : ℕ) → byte < 256 → StandsForByte (escaped_byte byte) byte
 StandsFor-escaped_byte byte fits = go (is_plain byte) refl
   where
-    go : (b : Bool) → is_plain byte ≡ b → StandsFor (cond b (byte ∷ []) (37 ∷ hex_digit (byte / 16) ∷ hex_digit (byte % 16) ∷ [])) byte
+    go : (b : Bool) → is_plain byte ≡ b → StandsForByte (cond b (byte ∷ []) (37 ∷ hex_digit (byte / 16) ∷ hex_digit (byte % 16) ∷ [])) byte
     go true e = (e, refl)
     go false e =
         let whole : byte / 16 * 16 + byte % 16 ≡ byte = omega arith in
@@ -156,7 +156,7 @@ SpellsEach-escaped : (bytes : List ℕ) → AllByRecursion (λ byte. byte < 256)
 SpellsEach-escaped [] fits = refl
 SpellsEach-escaped (byte ∷ bytes) fits = (escaped_byte byte, flat_map escaped_byte bytes, StandsFor-escaped_byte byte fits.0, SpellsEach-escaped bytes fits.1, refl)
 
-pub Spells-escaped : (bytes : List ℕ) → AllByRecursion (λ byte. byte < 256) bytes → Spells (escaped bytes) bytes
+pub Spells-escaped : (bytes : List ℕ) → AllByRecursion (λ byte. byte < 256) bytes → SpellsEscaped (escaped bytes) bytes
 Spells-escaped [] fits = refl
 Spells-escaped (byte ∷ bytes) fits = SpellsEach-escaped (byte ∷ bytes) fits
 

@@ -20,22 +20,22 @@ byte_from (Some high) None = None
 byte_from None low = None
 
 -- what stands for one byte: the byte itself where it is plain, or a percent sign and its two digits
-abbrev pub StandsFor : List ℕ → ℕ → Type 0
-StandsFor [] byte = ⊥
-StandsFor (sign ∷ []) byte = (is_plain sign ≡ true) × (sign ≡ byte)
-StandsFor (sign ∷ digit ∷ []) byte = ⊥
-StandsFor (sign ∷ high ∷ low ∷ []) byte = (sign ≡ 37) × (byte_from (hex_value high) (hex_value low) ≡ Some byte)
-StandsFor (sign ∷ high ∷ low ∷ more ∷ rest) byte = ⊥
+abbrev pub StandsForByte : List ℕ → ℕ → Type 0
+StandsForByte [] byte = ⊥
+StandsForByte (sign ∷ []) byte = (is_plain sign ≡ true) × (sign ≡ byte)
+StandsForByte (sign ∷ digit ∷ []) byte = ⊥
+StandsForByte (sign ∷ high ∷ low ∷ []) byte = (sign ≡ 37) × (byte_from (hex_value high) (hex_value low) ≡ Some byte)
+StandsForByte (sign ∷ high ∷ low ∷ more ∷ rest) byte = ⊥
 
 -- what stands for each of these bytes, one after another
 abbrev pub SpellsEach : List ℕ → List ℕ → Type 0
 SpellsEach word [] = word ≡ []
-SpellsEach word (byte ∷ bytes) = (front rest : List ℕ) × StandsFor front byte × SpellsEach rest bytes × (word ≡ front ++ rest)
+SpellsEach word (byte ∷ bytes) = (front rest : List ℕ) × StandsForByte front byte × SpellsEach rest bytes × (word ≡ front ++ rest)
 
 -- the word spells a text of these bytes. The empty text is a percent sign and a minus
-abbrev pub Spells : List ℕ → List ℕ → Type 0
-Spells word [] = word ≡ codes "%-"
-Spells word (byte ∷ bytes) = SpellsEach word (byte ∷ bytes)
+abbrev pub SpellsEscaped : List ℕ → List ℕ → Type 0
+SpellsEscaped word [] = word ≡ codes "%-"
+SpellsEscaped word (byte ∷ bytes) = SpellsEach word (byte ∷ bytes)
 
 -- the byte of an upper-case hexadecimal digit
 abbrev pub hex_digit : ℕ → ℕ

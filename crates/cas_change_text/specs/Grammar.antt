@@ -12,7 +12,7 @@ use Rattle.cas_change.specs.declared.state.Body.TheVariants.{Number, Text}
 use Rattle.cas_change.specs.declared.state.State.{State}
 use Rattle.cas_change.specs.declared.state.State.TheVariants.{Empty, Held}
 use Rattle.cas_change_text.specs.Decimal.{u64_of, i64_of}
-use Rattle.cas_change_text.specs.Escapes.{Spells}
+use Rattle.cas_change_text.specs.Escapes.{SpellsEscaped}
 use Rattle.cas_change_text.specs.Words.{Word}
 
 -- two words: a name, and a number or a text
@@ -21,7 +21,7 @@ IsPair words name P = (word : Word) × (words ≡ name ∷ word ∷ []) × P wor
 
 -- the word spells this text, which has at most 4,000 bytes
 abbrev pub IsTextWord : List ℕ → Word → Type 0
-IsTextWord bytes word = Spells word bytes × IsText bytes
+IsTextWord bytes word = SpellsEscaped word bytes × IsText bytes
 
 abbrev pub IsGuard : List Word → Guard → Type 0
 IsGuard words Always = words ≡ codes "always" ∷ []

@@ -6,14 +6,14 @@ use Rattle.cas_change_text.specs.Grammar.{IsClauses, IsProgram, IsState}
 use Rattle.cas_change_text.specs.Words.{Word}
 
 -- some text begins with these words
-abbrev pub Begins : (List Word → Type 0) → List Word → Type 0
-Begins Text words = (rest : List Word) × Text (words ++ rest)
+abbrev pub BeginsText : (List Word → Type 0) → List Word → Type 0
+BeginsText Text words = (rest : List Word) × Text (words ++ rest)
 
 -- these words break off before what follows: they are no whole text where nothing does, and else no text begins with
 -- them and the word that follows
 abbrev pub BreaksOff : (List Word → Type 0) → List Word → List Word → Type 0
 BreaksOff Text before [] = Text before → ⊥
-BreaksOff Text before (word ∷ rest) = Begins Text (before ++ word ∷ []) → ⊥
+BreaksOff Text before (word ∷ rest) = BeginsText Text (before ++ word ∷ []) → ⊥
 
 -- the first word that fits no text stands at this place, or is missing there: the words before it begin one, where a limit
 -- to the number of parts is passed over, and with it they begin none
@@ -22,7 +22,7 @@ pub record IsFirstMisfit (Unlimited Text : List Word → Type 0) (words : List W
   pub rest : List Word
   pub split : words ≡ before ++ rest
   pub stands : place ≡ length before
-  pub begins : Begins Unlimited before
+  pub begins : BeginsText Unlimited before
   pub breaks_off : BreaksOff Text before rest
 
 -- the words of a program, of any number of clauses, and of a state

@@ -4,7 +4,7 @@ use Rattle.std.proofs.Common.{◌≡◌, ℕ, ◌+◌, ◌-◌, ◌≤◌, take-
 use Rattle.std.proofs.lemmas.List.{take_at, drop_at, take-append-le, length-take-le, take_min, drop-drop}
 use Rattle.std.proofs.lemmas.Bool.{and_from}
 use Rattle.std.proofs.lemmas.Bool.Decides.{nat_tests}
-use Rattle.cas_disk.specs.Disk.{Torn, Holds}
+use Rattle.cas_disk.specs.Disk.{Torn, HoldsBytes}
 use Rattle.cas_disk.specs.Medium.{undo, undone, fits, all_fit, IsImage}
 use Rattle.cas_disk.specs.declared.medium.Write.{Write}
 use Rattle.cas_disk.proofs.Moments.{torn_nothing}
@@ -41,7 +41,7 @@ pub record Keeping (w : Write) (old new piece : List ℕ) : Type 0 where
   pub at_most_end : w.at ≤ length old
   pub long : w.len ≡ length piece
   pub overwritten : w.old.items ≡ take w.len (drop w.at old)
-  pub holds : Holds old w.at piece new
+  pub holds : HoldsBytes old w.at piece new
 
 front_of : (w : Write) (old new piece : List ℕ) → Keeping w old new piece → length (take w.at old ++ piece) ≡ w.at + w.len
 front_of w old new piece k =

@@ -2,7 +2,7 @@
 ghost use Rattle.std.specs.Prelude.{◌≡◌, ◌-◌, ◌≤◌, List, ℕ, min, length, take, drop, IfOk, OnOk, IfErr, IsErrOf};
 ghost use Rattle.cas_base.specs.Faults.{FailsByCount};
 ghost use Rattle.cas_disk.specs.declared.disk.DiskFault.TheVariants.{NoMemory};
-ghost use Rattle.cas_disk.specs.Disk.{Holds, Torn, Follows, Only, Keeps, Elapses, HasCause};
+ghost use Rattle.cas_disk.specs.Disk.{HoldsBytes, Torn, OutcomesFollow, Only, Keeps, Elapses, HasCause};
 
 use std::alloc::{AllocError, AllocFailed};
 
@@ -76,9 +76,9 @@ pub trait Disk {
     /// end, also where the call failed. `Failed` comes only where the count of faults rose. After `NoMemory` nothing changed.
     fn write_at(&mut self, at: u64, bytes: &[u8]) -> Result<(), DiskFault>
         requires { tells → at ≤ length (seen self.old) }
-        ensures written { tells → OnOk result (Holds (seen self.old) at bytes.now (seen self.new)) }
+        ensures written { tells → OnOk result (HoldsBytes (seen self.old) at bytes.now (seen self.new)) }
         ensures unchanged { tells → IsErrOf result NoMemory → Keeps (seen self.old) (seen self.new) (may_leave self.old) (may_leave self.new) }
-        ensures crash { tells → Follows (Torn at (length bytes.now)) (may_leave self.old) (may_leave self.new) }
+        ensures crash { tells → OutcomesFollow (Torn at (length bytes.now)) (may_leave self.old) (may_leave self.new) }
         ensures time { tells → Elapses (moment self.old) (moment self.new) (left_since self.old) (left_since self.new) (may_leave self.new) }
         ensures cause { HasCause result (fault_count self.old) (fault_count self.new) };
 

@@ -1,7 +1,7 @@
 //! What a disk in memory holds: its bytes, the writes since the last sync, and what is needed to say which contents a crash
 //! could leave at each moment that is not forgotten. Which calls fail, and when the disk crashes, is decided elsewhere.
 ghost use Rattle.std.specs.Prelude.{◌≡◌, ◌⊎◌, [], ◌∷◌, ◌++◌, ◌<◌, ◌≤◌, ◌+◌, ◌^◌, IsTrue, OnOk, OnErr, length, take, drop, vec_len, vec_capacity};
-ghost use Rattle.cas_disk.specs.Disk.{Holds, Torn, Follows, Elapses};
+ghost use Rattle.cas_disk.specs.Disk.{HoldsBytes, Torn, OutcomesFollow, Elapses};
 ghost use Rattle.cas_disk.specs.Medium.{undo, undone, fits, all_fit, IsImage, started_with, Closes};
 
 use rand_core::SeedableRng;
@@ -94,8 +94,8 @@ impl Medium {
     /// Writes over what is there, and past the end. After an `Err` nothing changed.
     pub fn write(&mut self, at: usize, piece: &[u8]) -> Result<(), AllocError>
         requires { at ≤ length self.old.bytes.items }
-        ensures held { OnOk result (Holds self.old.bytes.items at piece.now self.new.bytes.items) }
-        ensures crash { Follows (Torn at (length piece.now)) (may_leave_in self.old) (may_leave_in self.new) }
+        ensures held { OnOk result (HoldsBytes self.old.bytes.items at piece.now self.new.bytes.items) }
+        ensures crash { OutcomesFollow (Torn at (length piece.now)) (may_leave_in self.old) (may_leave_in self.new) }
         ensures durable { durable_in self.new ≡ durable_in self.old }
         ensures time { Elapses (moment_in self.old) (moment_in self.new) (left_in self.old) (left_in self.new) (may_leave_in self.new) }
         ensures bytes_err { OnErr result (self.new.bytes.items ≡ self.old.bytes.items) }
@@ -168,7 +168,7 @@ fn push_newest(pending: &mut Vec<Write>, write: Write)
 /// Puts bytes over what is there, and past the end. After an `Err` nothing changed.
 fn put(bytes: &mut Vec<u8>, at: usize, piece: &[u8]) -> Result<(), AllocError>
     requires { at ≤ length bytes.old.items }
-    ensures ok { OnOk result (Holds bytes.old.items at piece.now bytes.new.items) }
+    ensures ok { OnOk result (HoldsBytes bytes.old.items at piece.now bytes.new.items) }
     ensures err { OnErr result (bytes.new.items ≡ bytes.old.items) }
 {
     let over = piece.len().min(bytes.len() - at);

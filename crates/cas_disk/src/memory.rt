@@ -2,7 +2,7 @@
 //! leave. It tells its content and what a crash may leave.
 ghost use Rattle.std.specs.Prelude.{◌≡◌, ◌≤◌, ◌<◌, ◌-◌, ◌^◌, ⊤, ℕ, List, false, IsTrue, min, length, take, drop, IfOk, OnOk, OnErr, IsErrOf, MatchResult};
 ghost use Rattle.cas_base.specs.Faults.{Rose, FailsByCount};
-ghost use Rattle.cas_disk.specs.Disk.{Holds, Torn, Follows, Only, Keeps, Elapses, HasCause};
+ghost use Rattle.cas_disk.specs.Disk.{HoldsBytes, Torn, OutcomesFollow, Only, Keeps, Elapses, HasCause};
 ghost use Rattle.cas_disk.specs.Memory.{trouble_at};
 
 pub use crate::medium::Image;
@@ -168,15 +168,15 @@ impl Disk for MemoryDisk {
     fn write_at(&mut self, at: u64, bytes: &[u8]) -> Result<(), DiskFault>
         requires { at ≤ length (bytes_of self.old) }
         ensures call { IsCall result self.old self.new }
-        ensures written { OnOk result (Holds (bytes_of self.old) at bytes.now (bytes_of self.new)) }
+        ensures written { OnOk result (HoldsBytes (bytes_of self.old) at bytes.now (bytes_of self.new)) }
         ensures unchanged { IsErrOf result DiskFault.NoMemory → Keeps (bytes_of self.old) (bytes_of self.new) (may_leave_in self.old.medium) (may_leave_in self.new.medium) }
 
         // Where it fails nothing is written, unless the disk stops here: then the write is under way.
         ensures failed { IsErrOf result DiskFault.Failed → stops_next self.old ≡ false → self.new.medium ≡ self.old.medium }
-        ensures under_way { IsErrOf result DiskFault.Failed → IsTrue (stops_next self.old) → Holds (bytes_of self.old) at bytes.now (bytes_of self.new) }
+        ensures under_way { IsErrOf result DiskFault.Failed → IsTrue (stops_next self.old) → HoldsBytes (bytes_of self.old) at bytes.now (bytes_of self.new) }
         ensures durable { durable_of self.new ≡ durable_of self.old }
 
-        ensures crash { Follows (Torn at (length bytes.now)) (may_leave_in self.old.medium) (may_leave_in self.new.medium) }
+        ensures crash { OutcomesFollow (Torn at (length bytes.now)) (may_leave_in self.old.medium) (may_leave_in self.new.medium) }
         ensures time { Elapses (moment_in self.old.medium) (moment_in self.new.medium) (left_in self.old.medium) (left_in self.new.medium) (may_leave_in self.new.medium) }
         ensures cause { HasCause result (faults_of self.old) (faults_of self.new) }
     {

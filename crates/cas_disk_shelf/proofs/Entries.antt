@@ -18,30 +18,30 @@ use Rattle.cas_wire.specs.Reading.{Reading, ◌>>=◌, key_at, ballot_at, accept
 use Rattle.cas_wire.specs.Spelling.{key_spelling, ballot_spelling, state_spelling, accepted_spelling, optional_spelling, FitsState, FitsAccepted}
 use Rattle.cas_wire.proofs.Formats.{IsFormat, pair_format, made_format, optional_format}
 use Rattle.cas_wire.proofs.PartFormats.{key_format, ballot_format, accepted_or_none_format}
-use Rattle.cas_disk_shelf.specs.Cell.{Entry, entry_spelling, cell_spelling, FitsSlot, entry_of, entry_at, whole, entry_in}
+use Rattle.cas_disk_shelf.specs.Cell.{KeyedSlot, entry_spelling, cell_spelling, FitsSlot, entry_of, entry_at, whole, entry_in}
 
 abbrev refused : {A : Type 0} → ℕ → Result A ℕ
 refused at = Err at
 
 -- a key and its slot have a spelling
-abbrev pub FitsEntry : Entry → Type 0
+abbrev pub FitsEntry : KeyedSlot → Type 0
 FitsEntry entry = IsKey entry.0 × FitsSlot entry.1
 
-entry_parts : Entry → List ℕ × (Ballot × Option Accepted)
+entry_parts : KeyedSlot → List ℕ × (Ballot × Option Accepted)
 entry_parts entry = (entry.0, (entry.1.promise, entry.1.accepted))
 
-entry_again : (entry : Entry) (rest : List ℕ) → FitsEntry entry → entry_at (entry_spelling entry ++ rest) ≡ Ok (entry, rest)
+entry_again : (entry : KeyedSlot) (rest : List ℕ) → FitsEntry entry → entry_at (entry_spelling entry ++ rest) ≡ Ok (entry, rest)
 unfolding entry_parts
 entry_again entry rest fits =
     let format = made_format entry_of entry_parts (λ p fits. refl) (λ entry. refl) (pair_format key_format (pair_format ballot_format accepted_or_none_format)) in
     format.again entry rest (fits.0, (fits.1.promise, fits.1.accepted))
 
-cell_again : (entry : Option Entry) (rest : List ℕ) → IfSome entry FitsEntry → optional_at entry_at (cell_spelling entry ++ rest) ≡ Ok (entry, rest)
+cell_again : (entry : Option KeyedSlot) (rest : List ℕ) → IfSome entry FitsEntry → optional_at entry_at (cell_spelling entry ++ rest) ≡ Ok (entry, rest)
 cell_again None rest fits = refl
-cell_again (Some entry) rest fits = ap (λ (read : Reading Entry). read >>= λ a. Ok (Some a.0, a.1)) (entry_again entry rest fits)
+cell_again (Some entry) rest fits = ap (λ (read : Reading KeyedSlot). read >>= λ a. Ok (Some a.0, a.1)) (entry_again entry rest fits)
 
 -- a cell is read as it was written
-pub read_again : (entry : Option Entry) → IfSome entry FitsEntry → entry_in (cell_spelling entry) ≡ Ok entry
+pub read_again : (entry : Option KeyedSlot) → IfSome entry FitsEntry → entry_in (cell_spelling entry) ≡ Ok entry
 unfolding entry_in
 read_again entry fits =
     ap (whole (cell_spelling entry)) (ap (optional_at entry_at) (sym (append-nil (cell_spelling entry))) ∙ cell_again entry [] fits)
@@ -88,10 +88,10 @@ entry_format =
       within = λ bytes left fits e. format.within bytes left fits e;
     }
 
-whole_told : (bytes : List ℕ) (r : Reading (Option Entry)) (entry : Option Entry) → whole bytes r ≡ Ok entry → (rest : List ℕ) × (r ≡ Ok (entry, rest)) × (length rest ≡ 0)
+whole_told : (bytes : List ℕ) (r : Reading (Option KeyedSlot)) (entry : Option KeyedSlot) → whole bytes r ≡ Ok entry → (rest : List ℕ) × (r ≡ Ok (entry, rest)) × (length rest ≡ 0)
 whole_told bytes (Ok x) entry e = by_rest (nat_eq (length x.1) 0) refl e
   where
-    by_rest : (b : Bool) → nat_eq (length x.1) 0 ≡ b → (if b then Ok x.0 else refused (length bytes - length x.1)) ≡ Ok entry → (rest : List ℕ) × (◌≡◌ {A = Reading (Option Entry)} (Ok x) (Ok (entry, rest))) × (length rest ≡ 0)
+    by_rest : (b : Bool) → nat_eq (length x.1) 0 ≡ b → (if b then Ok x.0 else refused (length bytes - length x.1)) ≡ Ok entry → (rest : List ℕ) × (◌≡◌ {A = Reading (Option KeyedSlot)} (Ok x) (Ok (entry, rest))) × (length rest ≡ 0)
     by_rest true none e' =
         let same : x.0 ≡ entry = cc in
         (x.1, (λ t. Ok (same t, x.1)), eqb-true (length x.1) 0 none)

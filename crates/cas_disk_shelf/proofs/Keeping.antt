@@ -27,7 +27,7 @@ use Rattle.cas_disk_shelf.specs.declared.shelf.DiskShelf.{DiskShelf}
 use Rattle.cas_disk_shelf.specs.Head.{head_spelling, FitsHead}
 use Rattle.cas_disk_shelf.specs.Cell.{cell_spelling, FitsSlot}
 use Rattle.cas_disk_shelf.specs.Memory.{cell_of, is_free, head_for, AreOf, IsMemoryOf, freed, taken}
-use Rattle.cas_disk_shelf.specs.Shelf.{disk_of, contents_of, ContinuesOnly, IsUp}
+use Rattle.cas_disk_shelf.specs.Shelf.{disk_of, contents_of, ShelfContinuesOnly, ShelfIsUp}
 use Rattle.cas_disk_shelf.specs.ShelfLaws.{spelled, up_spells}
 use Rattle.cas_disk_shelf.proofs.Leaving.{reads_only, at_rest}
 use Rattle.cas_disk_shelf.proofs.Changing.{wide_behind, grown_told, grow_are}
@@ -115,38 +115,38 @@ pub same_wide : (cells : List (Option (List ℕ))) (head : List ℕ) → TellsSa
 same_wide [] head told row = absurd row
 same_wide (c ∷ cells) head told row = told.wide
 
-module _ {D : Type 0} (tells : Type 0) (seen : D → List ℕ) (may_leave : D → List ℕ → Type 0) (moment : D → ℕ) (left_since : D → ℕ → List ℕ → Type 0) (old : DiskShelf D) (new : D) (up : IsUp tells seen may_leave old) where
+module _ {D : Type 0} (tells : Type 0) (seen : D → List ℕ) (may_leave : D → List ℕ → Type 0) (moment : D → ℕ) (left_since : D → ℕ → List ℕ → Type 0) (old : DiskShelf D) (new : D) (up : ShelfIsUp tells seen may_leave old) where
   abbrev row_before : List (Option (List ℕ))
   row_before = cells.cells_of old.cells
 
   pub put_moment : (key : List ℕ) (slot : Slot) (payload : List ℕ) (i : ℕ) → IsKey key → FitsSlot slot → payload ≡ cell_spelling (Some (key, slot)) → cell_of old.memory key ≡ Some i → DiskContinuesOnly moment left_since (disk_of old) new (IsBeforeOrAfter row_before (set row_before i (Some payload)))
-      → ContinuesOnly moment left_since (disk_of old) new (IsOldOrNew (contents_of old) (with_kept (contents_of old) key slot))
+      → ShelfContinuesOnly moment left_since (disk_of old) new (IsOldOrNew (contents_of old) (with_kept (contents_of old) key slot))
   put_moment key slot payload i named fits spells own run =
       let within = own_within row_before (contents_of old) _ _ up.memory.shown.in_step up.row.row key i own in
       old_or_new tells seen may_leave moment left_since old new (set row_before i (Some payload)) (with_kept (contents_of old) key slot) _ _ up (row_behind row_before i (Some payload) within.0 up.row.row)
       (rewritten row_before (contents_of old) _ _ up.memory.shown up.row.row key slot payload i named fits spells own) run
 
   pub add_moment : (key : List ℕ) (slot : Slot) (payload : List ℕ) (i : ℕ) → IsKey key → FitsSlot slot → payload ≡ cell_spelling (Some (key, slot)) → cell_of old.memory key ≡ None → is_free old.memory i ≡ true → slot_count (contents_of old).slots < 4096 → DiskContinuesOnly moment left_since (disk_of old) new (IsBeforeOrAfter row_before (set row_before i (Some payload)))
-      → ContinuesOnly moment left_since (disk_of old) new (IsOldOrNew (contents_of old) (with_kept (contents_of old) key slot))
+      → ShelfContinuesOnly moment left_since (disk_of old) new (IsOldOrNew (contents_of old) (with_kept (contents_of old) key slot))
   add_moment key slot payload i named fits spells none free room run =
       let within = free_within row_before (contents_of old) _ _ up.memory.shown.in_step up.row.row i free in
       old_or_new tells seen may_leave moment left_since old new (set row_before i (Some payload)) (with_kept (contents_of old) key slot) _ _ up (row_behind row_before i (Some payload) within.0 up.row.row)
       (added row_before (contents_of old) _ _ up.memory.shown up.row.row key slot payload i named fits spells none free room) run
 
   pub drop_moment : (key payload : List ℕ) (i : ℕ) → payload ≡ cell_spelling None → cell_of old.memory key ≡ Some i → DiskContinuesOnly moment left_since (disk_of old) new (IsBeforeOrAfter row_before (set row_before i (Some payload)))
-      → ContinuesOnly moment left_since (disk_of old) new (IsOldOrNew (contents_of old) (without_kept (contents_of old) key))
+      → ShelfContinuesOnly moment left_since (disk_of old) new (IsOldOrNew (contents_of old) (without_kept (contents_of old) key))
   drop_moment key payload i spells own run =
       let within = own_within row_before (contents_of old) _ _ up.memory.shown.in_step up.row.row key i own in
       old_or_new tells seen may_leave moment left_since old new (set row_before i (Some payload)) (without_kept (contents_of old) key) _ _ up (row_behind row_before i (Some payload) within.0 up.row.row)
       (dropped row_before (contents_of old) _ _ up.memory.shown up.row.row key payload i spells own) run
 
   pub raise_moment : (ages : Ages) (payload : List ℕ) → FitsHead (head_for row_before ages) → payload ≡ head_spelling (head_for row_before ages) → DiskContinuesOnly moment left_since (disk_of old) new (IsBeforeOrAfter row_before (set row_before 0 (Some payload)))
-      → ContinuesOnly moment left_since (disk_of old) new (IsOldOrNew (contents_of old) (record (contents_of old) { ages = ages }))
+      → ShelfContinuesOnly moment left_since (disk_of old) new (IsOldOrNew (contents_of old) (record (contents_of old) { ages = ages }))
   raise_moment ages payload fits spells run =
       old_or_new tells seen may_leave moment left_since old new (set row_before 0 (Some payload)) (record (contents_of old) { ages = ages }) _ _ up (row_first row_before payload (tells_same row_before ages payload fits spells) up.row.row)
       (raised row_before (contents_of old) _ _ up.memory.shown up.row.row ages payload fits spells) run
 
-  pub grow_moment : wide_in row_before < 4096 → DiskContinuesOnly moment left_since (disk_of old) new (IsBeforeOrAfter row_before (grown row_before)) → ContinuesOnly moment left_since (disk_of old) new (λ left. left ≡ Ok (contents_of old))
+  pub grow_moment : wide_in row_before < 4096 → DiskContinuesOnly moment left_since (disk_of old) new (IsBeforeOrAfter row_before (grown row_before)) → ShelfContinuesOnly moment left_since (disk_of old) new (λ left. left ≡ Ok (contents_of old))
   grow_moment room run =
       reads_only moment left_since (disk_of old) new (IsBeforeOrAfter row_before (grown row_before)) (λ left. left ≡ Ok (contents_of old))
       (λ c either. ⊎_elim
@@ -156,15 +156,15 @@ module _ {D : Type 0} (tells : Type 0) (seen : D → List ℕ) (may_leave : D �
       run
 
   -- the disk was not touched
-  pub still : new ≡ disk_of old → ((c : List ℕ) → left_since (disk_of old) (moment (disk_of old)) c → may_leave (disk_of old) c) → tells → ContinuesOnly moment left_since (disk_of old) new (λ left. left ≡ Ok (contents_of old))
+  pub still : new ≡ disk_of old → ((c : List ℕ) → left_since (disk_of old) (moment (disk_of old)) c → may_leave (disk_of old) c) → tells → ShelfContinuesOnly moment left_since (disk_of old) new (λ left. left ≡ Ok (contents_of old))
   still same now t = at_rest moment left_since (disk_of old) new may_leave (λ left. left ≡ Ok (contents_of old)) same now (λ c left. up_spells tells seen may_leave old up t c left)
 
-  pub still_old : (after : Contents) → new ≡ disk_of old → ((c : List ℕ) → left_since (disk_of old) (moment (disk_of old)) c → may_leave (disk_of old) c) → tells → ContinuesOnly moment left_since (disk_of old) new (IsOldOrNew (contents_of old) after)
+  pub still_old : (after : Contents) → new ≡ disk_of old → ((c : List ℕ) → left_since (disk_of old) (moment (disk_of old)) c → may_leave (disk_of old) c) → tells → ShelfContinuesOnly moment left_since (disk_of old) new (IsOldOrNew (contents_of old) after)
   still_old after same now t = at_rest moment left_since (disk_of old) new may_leave (IsOldOrNew (contents_of old) after) same now (λ c left. inl (up_spells tells seen may_leave old up t c left))
 
 -- ---- the shelf is up again
 
-module _ {D : Type 0} (tells : Type 0) (seen : D → List ℕ) (may_leave : D → List ℕ → Type 0) (old new : DiskShelf D) (up : IsUp tells seen may_leave old) where
+module _ {D : Type 0} (tells : Type 0) (seen : D → List ℕ) (may_leave : D → List ℕ → Type 0) (old new : DiskShelf D) (up : ShelfIsUp tells seen may_leave old) where
   abbrev row_of : List (Option (List ℕ))
   row_of = cells.cells_of old.cells
 
@@ -175,34 +175,34 @@ module _ {D : Type 0} (tells : Type 0) (seen : D → List ℕ) (may_leave : D �
   ballots_fit : (slot : Slot) → FitsSlot slot → SlotBallotsFit slot
   ballots_fit slot fits = record { promise = fits.promise; accepted = none_beyond slot.accepted fits.accepted }
 
-  pub rewritten_up : (key : List ℕ) (slot : Slot) (payload : List ℕ) (i : ℕ) → IsKey key → FitsSlot slot → payload ≡ cell_spelling (Some (key, slot)) → cell_of old.memory key ≡ Some i → cells.Stands tells seen may_leave new.cells → cells.cells_of new.cells ≡ set row_of i (Some payload) → new.memory.held ≡ with_kept old.memory.held key slot → new.memory.index ≡ old.memory.index → new.memory.free ≡ old.memory.free → slot_count new.memory.held.slots ≡ slot_count old.memory.held.slots
-      → IsUp tells seen may_leave new
+  pub rewritten_up : (key : List ℕ) (slot : Slot) (payload : List ℕ) (i : ℕ) → IsKey key → FitsSlot slot → payload ≡ cell_spelling (Some (key, slot)) → cell_of old.memory key ≡ Some i → cells.CellsStand tells seen may_leave new.cells → cells.cells_of new.cells ≡ set row_of i (Some payload) → new.memory.held ≡ with_kept old.memory.held key slot → new.memory.index ≡ old.memory.index → new.memory.free ≡ old.memory.free → slot_count new.memory.held.slots ≡ slot_count old.memory.held.slots
+      → ShelfIsUp tells seen may_leave new
   rewritten_up key slot payload i named fits spells own stands changed held index free count = record {
     row = stands;
     memory = subst (λ (l : List (Option (List ℕ))). IsMemoryOf l new.memory) (sym changed) (rewritten_memory row_of old.memory new.memory up.memory up.row.row key slot payload i named fits spells own held index free count);
     fits = subst AllBallotsFit (sym held) (put_fits old.memory.held key slot up.fits (ballots_fit slot fits));
   }
 
-  pub added_up : (key : List ℕ) (slot : Slot) (payload : List ℕ) (i : ℕ) → IsKey key → FitsSlot slot → payload ≡ cell_spelling (Some (key, slot)) → cell_of old.memory key ≡ None → is_free old.memory i ≡ true → slot_count (contents_of old).slots < 4096 → cells.Stands tells seen may_leave new.cells → cells.cells_of new.cells ≡ set row_of i (Some payload) → new.memory.held ≡ with_kept old.memory.held key slot
+  pub added_up : (key : List ℕ) (slot : Slot) (payload : List ℕ) (i : ℕ) → IsKey key → FitsSlot slot → payload ≡ cell_spelling (Some (key, slot)) → cell_of old.memory key ≡ None → is_free old.memory i ≡ true → slot_count (contents_of old).slots < 4096 → cells.CellsStand tells seen may_leave new.cells → cells.cells_of new.cells ≡ set row_of i (Some payload) → new.memory.held ≡ with_kept old.memory.held key slot
       → ((q : List ℕ) → cell_of new.memory q ≡ moved (cell_of old.memory) key i q) → ((j : ℕ) → is_free new.memory j ≡ taken (is_free old.memory) i j) → index_map_len new.memory.index ≡ index_map_len old.memory.index + 1 → btree_set_len new.memory.free + 1 ≡ btree_set_len old.memory.free → slot_count new.memory.held.slots ≡ slot_count old.memory.held.slots + 1
-      → IsUp tells seen may_leave new
+      → ShelfIsUp tells seen may_leave new
   added_up key slot payload i named fits spells none is_unused room stands changed held keys frees index_len free_len count = record {
     row = stands;
     memory = subst (λ (l : List (Option (List ℕ))). IsMemoryOf l new.memory) (sym changed) (added_memory row_of old.memory new.memory up.memory up.row.row key slot payload i named fits spells none is_unused room held keys frees index_len free_len count);
     fits = subst AllBallotsFit (sym held) (put_fits old.memory.held key slot up.fits (ballots_fit slot fits));
   }
 
-  pub dropped_up : (key payload : List ℕ) (i : ℕ) → payload ≡ cell_spelling None → cell_of old.memory key ≡ Some i → cells.Stands tells seen may_leave new.cells → cells.cells_of new.cells ≡ set row_of i (Some payload) → new.memory.held ≡ without_kept old.memory.held key
+  pub dropped_up : (key payload : List ℕ) (i : ℕ) → payload ≡ cell_spelling None → cell_of old.memory key ≡ Some i → cells.CellsStand tells seen may_leave new.cells → cells.cells_of new.cells ≡ set row_of i (Some payload) → new.memory.held ≡ without_kept old.memory.held key
       → ((q : List ℕ) → cell_of new.memory q ≡ removed (cell_of old.memory) key q) → ((j : ℕ) → is_free new.memory j ≡ freed (is_free old.memory) i j) → index_map_len new.memory.index + 1 ≡ index_map_len old.memory.index → btree_set_len new.memory.free ≡ btree_set_len old.memory.free + 1 → slot_count new.memory.held.slots + 1 ≡ slot_count old.memory.held.slots
-      → IsUp tells seen may_leave new
+      → ShelfIsUp tells seen may_leave new
   dropped_up key payload i spells own stands changed held keys frees index_len free_len count = record {
     row = stands;
     memory = subst (λ (l : List (Option (List ℕ))). IsMemoryOf l new.memory) (sym changed) (dropped_memory row_of old.memory new.memory up.memory up.row.row key payload i spells own held keys frees index_len free_len count);
     fits = subst AllBallotsFit (sym held) (removal_fits old.memory.held key up.fits);
   }
 
-  pub raised_up : (ages : Ages) (payload : List ℕ) → FitsHead (head_for row_of ages) → payload ≡ head_spelling (head_for row_of ages) → cells.Stands tells seen may_leave new.cells → cells.cells_of new.cells ≡ set row_of 0 (Some payload) → new.memory.held ≡ record old.memory.held { ages = ages } → new.memory.index ≡ old.memory.index → new.memory.free ≡ old.memory.free
-      → IsUp tells seen may_leave new
+  pub raised_up : (ages : Ages) (payload : List ℕ) → FitsHead (head_for row_of ages) → payload ≡ head_spelling (head_for row_of ages) → cells.CellsStand tells seen may_leave new.cells → cells.cells_of new.cells ≡ set row_of 0 (Some payload) → new.memory.held ≡ record old.memory.held { ages = ages } → new.memory.index ≡ old.memory.index → new.memory.free ≡ old.memory.free
+      → ShelfIsUp tells seen may_leave new
   raised_up ages payload fits spells stands changed held index free = record {
     row = stands;
     memory = subst (λ (l : List (Option (List ℕ))). IsMemoryOf l new.memory) (sym changed)
@@ -210,8 +210,8 @@ module _ {D : Type 0} (tells : Type 0) (seen : D → List ℕ) (may_leave : D �
     fits = subst AllBallotsFit (sym held) (λ key. up.fits key);
   }
 
-  pub grown_up : wide_in row_of < 4096 → cells.Stands tells seen may_leave new.cells → cells.cells_of new.cells ≡ grown row_of → new.memory.held ≡ old.memory.held → new.memory.index ≡ old.memory.index → ((j : ℕ) → is_free new.memory j ≡ freed (is_free old.memory) (1 + count_in row_of) j) → btree_set_len new.memory.free ≡ btree_set_len old.memory.free + 1
-      → IsUp tells seen may_leave new
+  pub grown_up : wide_in row_of < 4096 → cells.CellsStand tells seen may_leave new.cells → cells.cells_of new.cells ≡ grown row_of → new.memory.held ≡ old.memory.held → new.memory.index ≡ old.memory.index → ((j : ℕ) → is_free new.memory j ≡ freed (is_free old.memory) (1 + count_in row_of) j) → btree_set_len new.memory.free ≡ btree_set_len old.memory.free + 1
+      → ShelfIsUp tells seen may_leave new
   grown_up room stands changed held index frees free_len = record {
     row = stands;
     memory = subst (λ (l : List (Option (List ℕ))). IsMemoryOf l new.memory) (sym changed)
@@ -220,8 +220,8 @@ module _ {D : Type 0} (tells : Type 0) (seen : D → List ℕ) (may_leave : D �
   }
 
   -- nothing changed, as look-ups see it
-  pub same_up : cells.Stands tells seen may_leave new.cells → cells.cells_of new.cells ≡ row_of → new.memory.held ≡ old.memory.held → ((q : List ℕ) → cell_of new.memory q ≡ cell_of old.memory q) → ((j : ℕ) → is_free new.memory j ≡ is_free old.memory j) → index_map_len new.memory.index ≡ index_map_len old.memory.index → btree_set_len new.memory.free ≡ btree_set_len old.memory.free
-      → IsUp tells seen may_leave new
+  pub same_up : cells.CellsStand tells seen may_leave new.cells → cells.cells_of new.cells ≡ row_of → new.memory.held ≡ old.memory.held → ((q : List ℕ) → cell_of new.memory q ≡ cell_of old.memory q) → ((j : ℕ) → is_free new.memory j ≡ is_free old.memory j) → index_map_len new.memory.index ≡ index_map_len old.memory.index → btree_set_len new.memory.free ≡ btree_set_len old.memory.free
+      → ShelfIsUp tells seen may_leave new
   same_up stands same held keys frees index_len free_len = record {
     row = stands;
     memory = subst (λ (l : List (Option (List ℕ))). IsMemoryOf l new.memory) (sym same) (same_memory row_of old.memory new.memory held keys frees index_len free_len up.memory);
@@ -229,7 +229,7 @@ module _ {D : Type 0} (tells : Type 0) (seen : D → List ℕ) (may_leave : D �
   }
 
 -- the cells are as they were
-pub still_up : {D : Type 0} (tells : Type 0) (seen : D → List ℕ) (may_leave : D → List ℕ → Type 0) (old new : DiskShelf D) → IsUp tells seen may_leave old → cells.Stands tells seen may_leave new.cells → cells.cells_of new.cells ≡ cells.cells_of old.cells → new.memory ≡ old.memory → IsUp tells seen may_leave new
+pub still_up : {D : Type 0} (tells : Type 0) (seen : D → List ℕ) (may_leave : D → List ℕ → Type 0) (old new : DiskShelf D) → ShelfIsUp tells seen may_leave old → cells.CellsStand tells seen may_leave new.cells → cells.cells_of new.cells ≡ cells.cells_of old.cells → new.memory ≡ old.memory → ShelfIsUp tells seen may_leave new
 still_up tells seen may_leave old new up stands same memory = record {
   row = stands;
   memory = subst (λ (m : Memory). IsMemoryOf (cells.cells_of new.cells) m) (sym memory) (subst (λ (l : List (Option (List ℕ))). IsMemoryOf l old.memory) (sym same) up.memory);

@@ -13,12 +13,12 @@ use Rattle.cas_cells.specs.Held.{IsRow}
 use Rattle.cas_disk_shelf.specs.declared.codec.Head.{Head}
 use Rattle.cas_disk_shelf.specs.declared.memory.Loaded.{Loaded}
 use Rattle.cas_disk_shelf.specs.Head.{head_of, is_old, IsSpelledHead}
-use Rattle.cas_disk_shelf.specs.Cell.{Entry}
+use Rattle.cas_disk_shelf.specs.Cell.{KeyedSlot}
 use Rattle.cas_disk_shelf.specs.HeadLaws.{as-narrow-told, as-wide-told}
-use Rattle.cas_disk_shelf.specs.Image.{Place, Read, cell_in, entry_held, is_twin, is_one_too_many, left_behind, left_in, moved, read_cells, removed, with_ages}
+use Rattle.cas_disk_shelf.specs.Image.{CellPlace, ReadSlots, cell_in, entry_held, is_twin, is_one_too_many, left_behind, left_in, moved, read_cells, removed, with_ages}
 use Rattle.cas_disk_shelf.specs.KeyLaws.{at_most_more, freed_own, freed_other, removed_own, removed_other}
 use Rattle.cas_disk_shelf.specs.Loading.{IsHeadOf, IsReadTo}
-use Rattle.cas_disk_shelf.specs.Memory.{alone_in, cell_of, is_free, freed, head_for, AreCounted, AreKnown, Holds, IsLoadedFrom, IsReadFrom, Show}
+use Rattle.cas_disk_shelf.specs.Memory.{alone_in, cell_of, is_free, freed, head_for, AreCounted, AreKnown, CellHolds, IsLoadedFrom, IsReadFrom, Show}
 use Rattle.cas_disk_shelf.specs.ShelfLaws.{none_known, none_show, read_nothing, read_narrow, read_too_many, read_twin, read_wide, read_wrong, twin_told}
 use Rattle.cas_disk_shelf.specs.ShowLaws.{IsStep, narrow_known, new_shows, next_step, nothing_known, nothing_shows, none_of, only_there, twin_shows, wide_known}
 
@@ -77,11 +77,11 @@ module _ (row : List (Option (List ℕ))) (n m : ℕ) (next : m ≡ n + 1) where
   it : m ≡ suc n
   it = omega (arith, next)
 
-  held_next : (r : Result (Option Entry) ℕ) → entry_held (payload m) ≡ r → entry_held (payload (suc n)) ≡ r
+  held_next : (r : Result (Option KeyedSlot) ℕ) → entry_held (payload m) ≡ r → entry_held (payload (suc n)) ≡ r
   held_next r holds = ap (λ (j : ℕ). entry_held (payload j)) (sym it) ∙ holds
 
   -- what is wrong is told
-  module _ (place : ℕ → Place) (read : Read) (before : read_cells row place n ≡ Ok read) where
+  module _ (place : ℕ → CellPlace) (read : ReadSlots) (before : read_cells row place n ≡ Ok read) where
     pub wrong_next : (at : ℕ) → entry_held (payload m) ≡ Err at → read_cells row place m ≡ Err ((place m).1 + at)
     wrong_next at holds = ap (read_cells row place) it ∙ read_wrong row place n read before at (held_next (Err at) holds) ∙ ap (λ (j : ℕ). Err ((place j).1 + at)) (sym it)
 
@@ -160,7 +160,7 @@ module _ (row : List (Option (List ℕ))) (n m : ℕ) (next : m ≡ n + 1) where
             let h = is.known.alone key v twin_of.1 in
             let told = twin_told row m v (sym (ap (is_twin row m) twin_of.1) ∙ twin) in
             let same : h.2.0 ≡ slot = by_payload v h.2.0 told.1 h.2.1.holds in
-            let shows : Show narrow payload m slots = twin_shows narrow payload payload n m m step slots is.show key slot holds v h.0 told.0 (subst (λ (s : Slot). Holds payload n v key s) same h.2.1)
+            let shows : Show narrow payload m slots = twin_shows narrow payload payload n m m step slots is.show key slot holds v h.0 told.0 (subst (λ (s : Slot). CellHolds payload n v key s) same h.2.1)
             (only_there narrow payload n (cell_of old.memory) (alone_in old) (is_free old.memory) is.known key v twin_of.1) told.1 in
             record {
               show = subst (λ (c : Contents). Show narrow payload m c.slots) (sym held) shows;
@@ -256,7 +256,7 @@ not_some None e = refl
 not_some (Some s) e = absurd cc
 
 -- cells of which one is wrong, behind a right head
-pub cells_wrong : (row : List (Option (List ℕ))) (place : ℕ → Place) (head : Head) (at : ℕ) → IsRow row → IsHeadOf row head → read_cells row place (count_in row) ≡ Err at → left_in place row ≡ Err at
+pub cells_wrong : (row : List (Option (List ℕ))) (place : ℕ → CellPlace) (head : Head) (at : ℕ) → IsRow row → IsHeadOf row head → read_cells row place (count_in row) ≡ Err at → left_in place row ≡ Err at
 cells_wrong [] place head at is_row is wrong = absurd is_row
 cells_wrong (None ∷ cells) place head at is_row is wrong = absurd is_row
 cells_wrong (Some payload ∷ cells) place head at is_row is wrong = ap (left_behind place (Some payload ∷ cells)) is.read ∙ ap (with_ages head.ages) wrong

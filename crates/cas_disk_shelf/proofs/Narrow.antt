@@ -14,20 +14,20 @@ use Rattle.cas_slot.specs.Contents.{Contents}
 use Rattle.cas_slot.specs.Slots.{Slots, slot_at, slot_count}
 use Rattle.cas_disk.specs.Disk.{ContinuesOnly}
 use Rattle.cas_disk.proofs.Moments.{started, then_on, weaker}
-use Rattle.cas_cells.specs.Cells.{Stands, cells_of, disk_of}
+use Rattle.cas_cells.specs.Cells.{CellsStand, cells_of, disk_of}
 use Rattle.cas_cells.specs.Length.{NotLonger}
 use Rattle.cas_cells.specs.declared.cells.Cells.{Cells}
 use Rattle.cas_cells.proofs.Survival.{crash_leaves}
-use Rattle.cas_cells.specs.Format.{count_in, narrow_in, wide_in, head_in, grown, StandsFor, IsBeforeOrAfter}
+use Rattle.cas_cells.specs.Format.{count_in, narrow_in, wide_in, head_in, grown, IsImageOf, IsBeforeOrAfter}
 use Rattle.cas_cells.specs.Held.{IsRow}
 use Rattle.cas_cells.proofs.Counting.{row_length}
 use Rattle.cas_disk_shelf.specs.declared.memory.Loaded.{Loaded}
-use Rattle.cas_disk_shelf.specs.Cell.{Entry}
+use Rattle.cas_disk_shelf.specs.Cell.{KeyedSlot}
 use Rattle.cas_disk_shelf.specs.Head.{head_of, head_spelling, FitsHead}
 use Rattle.cas_disk_shelf.specs.HeadLaws.{head_again}
 use Rattle.cas_disk_shelf.specs.Image.{cell_in, entry_held, left_on, moved, removed}
 use Rattle.cas_disk_shelf.specs.KeyLaws.{freed_own, freed_other, removed_own, removed_other, taken_own, taken_other}
-use Rattle.cas_disk_shelf.specs.Memory.{alone_in, cell_of, is_free, head_for, freed, taken, AreCleared, AreCounted, AreKnown, Holds, InStep, IsKnown, IsLoadedFrom, IsMemoryOf, IsMoving, Show}
+use Rattle.cas_disk_shelf.specs.Memory.{alone_in, cell_of, is_free, head_for, freed, taken, AreCleared, AreCounted, AreKnown, CellHolds, InStep, CellIsKnown, IsLoadedFrom, IsMemoryOf, IsMoving, Show}
 use Rattle.cas_disk_shelf.specs.ShelfLaws.{cell_is, get_some, read_spelled}
 use Rattle.cas_disk_shelf.specs.ShowLaws.{IsStep, cleared_known, cleared_shows, next_step, nothing_known, nothing_shows, only_there, same_known, same_shows, twin_shows, wide_known}
 use Rattle.cas_disk_shelf.proofs.Changing.{IsGrown, grown_head, head_behind, narrow_behind, wide_behind}
@@ -44,7 +44,7 @@ pub record IsShown (row : List (Option (List ℕ))) (contents : Contents) : Type
   pub show : Show (narrow_in row) (cell_in row) (count_in row) contents.slots
   pub few : slot_count contents.slots ≤ 4096
 
-pub shown_is : (row : List (Option (List ℕ))) (contents : Contents) (disk : List ℕ) → IsShown row contents → StandsFor row disk → left_on disk ≡ Ok contents
+pub shown_is : (row : List (Option (List ℕ))) (contents : Contents) (disk : List ℕ) → IsShown row contents → IsImageOf row disk → left_on disk ≡ Ok contents
 shown_is row contents disk is stands = read_spelled row contents disk is.is_row is.told is.show is.few stands
 
 pub shown_of : (row : List (Option (List ℕ))) (loaded : Loaded) → IsRow row → IsMoving row loaded → IsShown row loaded.memory.held
@@ -57,7 +57,7 @@ shown_moment moment left_since old new row row' contents before after run =
     (λ c either. ⊎_elim (λ stands. shown_is row contents c before stands) (λ stands. shown_is row' contents c after stands) either) run
 
 -- the disk was not touched
-pub shown_still : {D : Type 0} (tells : Type 0) (seen : D → List ℕ) (may_leave : D → List ℕ → Type 0) (moment : D → ℕ) (left_since : D → ℕ → List ℕ → Type 0) (now : Cells D) (contents : Contents) → Stands tells seen may_leave now → IsShown (cells_of now) contents → ((c : List ℕ) → left_since (disk_of now) (moment (disk_of now)) c → may_leave (disk_of now) c) → tells → ContinuesOnly moment left_since (disk_of now) (disk_of now) (λ c. left_on c ≡ Ok contents)
+pub shown_still : {D : Type 0} (tells : Type 0) (seen : D → List ℕ) (may_leave : D → List ℕ → Type 0) (moment : D → ℕ) (left_since : D → ℕ → List ℕ → Type 0) (now : Cells D) (contents : Contents) → CellsStand tells seen may_leave now → IsShown (cells_of now) contents → ((c : List ℕ) → left_since (disk_of now) (moment (disk_of now)) c → may_leave (disk_of now) c) → tells → ContinuesOnly moment left_since (disk_of now) (disk_of now) (λ c. left_on c ≡ Ok contents)
 shown_still tells seen may_leave moment left_since now contents stands shown only t =
     started moment left_since (disk_of now) (λ c. left_on c ≡ Ok contents) (λ c left. shown_is (cells_of now) contents c shown (crash_leaves tells seen may_leave now stands t c (only c left)))
 
@@ -229,7 +229,7 @@ module _ (row : List (Option (List ℕ))) (old : Loaded) (is : IsMoving row old)
 
     -- the payload of a narrow cell, in which a key stands alone, is put in a free cell
     module _ (v : ℕ) (key : List ℕ) (alone : alone_in old key ≡ Some v) (own : cell_in row v ≡ Some payload) (free : is_free old.memory w ≡ true) where
-      first : (v ≤ narrow) × (cell_of old.memory key ≡ None) × ((slot : Slot) × Holds (cell_in row) last v key slot)
+      first : (v ≤ narrow) × (cell_of old.memory key ≡ None) × ((slot : Slot) × CellHolds (cell_in row) last v key slot)
       first = is.behind.known.alone key v alone
 
       spare : (narrow < w) × (w ≤ last) × (entry_held (cell_in row w) ≡ Ok None)
@@ -241,7 +241,7 @@ module _ (row : List (Option (List ℕ))) (old : Loaded) (is : IsMoving row old)
       copy_step : IsStep (cell_in row) (cell_in changed) last last w
       copy_step = record {
         same = λ i pos' low apart. others i apart;
-        vacant = λ q s h. let no : ◌≡◌ {A = Result (Option Entry) ℕ} (Ok None) (Ok (Some (q, s))) = sym spare.2 ∙ h.holds in cc;
+        vacant = λ q s h. let no : ◌≡◌ {A = Result (Option KeyedSlot) ℕ} (Ok None) (Ok (Some (q, s))) = sym spare.2 ∙ h.holds in cc;
         more = omega arith;
         behind = pos;
         within = spare.1;
@@ -268,7 +268,7 @@ module _ (row : List (Option (List ℕ))) (old : Loaded) (is : IsMoving row old)
 
     -- a narrow cell is freed, whose key stands in a wide cell too
     module _ (key : List ℕ) (slot : Slot) (near : w ≤ narrow) (held : entry_held (cell_in row w) ≡ Ok (Some (key, slot))) (none : alone_in old key ≡ None) (nothing_there : entry_held (Some payload) ≡ Ok None) where
-      that : Holds (cell_in row) last w key slot
+      that : CellHolds (cell_in row) last w key slot
       that = record { behind = pos; within = omega (arith, near); holds = held }
 
       its_cell : (o : Option ℕ) → cell_of old.memory key ≡ o → (u : ℕ) × (cell_of old.memory key ≡ Some u)
@@ -316,19 +316,19 @@ module _ (row : List (Option (List ℕ))) (loaded : Loaded) (is_row : IsRow row)
   known = is.behind.known
 
   -- only wide cells hold slots
-  is_wide : (i : ℕ) (key : List ℕ) (slot : Slot) → Holds (cell_in row) (count_in row) i key slot → narrow_in row < i
+  is_wide : (i : ℕ) (key : List ℕ) (slot : Slot) → CellHolds (cell_in row) (count_in row) i key slot → narrow_in row < i
   is_wide i key slot h = elim (cases_lt (narrow_in row) i) [
     | inl far ↦ far
-    | inr near ↦ absurd (let no : ◌≡◌ {A = Result (Option Entry) ℕ} (Ok None) (Ok (Some (key, slot))) = sym (cleared i h.behind near) ∙ h.holds in cc)
+    | inr near ↦ absurd (let no : ◌≡◌ {A = Result (Option KeyedSlot) ℕ} (Ok None) (Ok (Some (key, slot))) = sym (cleared i h.behind near) ∙ h.holds in cc)
   ]
 
   at_cell : (i : ℕ) → i ≤ count_in row → (cell : Option (List ℕ)) × (slice_get row i ≡ Some cell)
   at_cell i low = get_some row i (omega (arith, low, row_length row is_row))
 
-  known_by : (i : ℕ) (entry : Option Entry) → 0 < i → i ≤ count_in row → entry_held (cell_in row i) ≡ Ok entry → IsKnown (narrow_in row) (cell_of loaded.memory) (is_free loaded.memory) i (Ok entry)
+  known_by : (i : ℕ) (entry : Option KeyedSlot) → 0 < i → i ≤ count_in row → entry_held (cell_in row i) ≡ Ok entry → CellIsKnown (narrow_in row) (cell_of loaded.memory) (is_free loaded.memory) i (Ok entry)
   known_by i None pos low e = λ far. known.spare i far low e
   known_by i (Some entry) pos low e =
-      let h : Holds (cell_in row) (count_in row) i entry.0 entry.1 = record { behind = pos; within = low; holds = e } in
+      let h : CellHolds (cell_in row) (count_in row) i entry.0 entry.1 = record { behind = pos; within = low; holds = e } in
       known.wide i entry.0 entry.1 h (is_wide i entry.0 entry.1 h)
 
   in_step : InStep (narrow_in row) loaded.memory.held (cell_of loaded.memory) (is_free loaded.memory) row
@@ -337,7 +337,7 @@ module _ (row : List (Option (List ℕ))) (loaded : Loaded) (is_row : IsRow row)
         let within = slice_get_within row i cell there in
         let low : i ≤ count_in row = omega (arith, within, row_length row is_row) in
         let e = show.each i pos low in
-        subst (IsKnown (narrow_in row) (cell_of loaded.memory) (is_free loaded.memory) i) (sym (ap entry_held (sym (cell_is row i cell there)) ∙ e.1)) (known_by i e.0 pos low e.1);
+        subst (CellIsKnown (narrow_in row) (cell_of loaded.memory) (is_free loaded.memory) i) (sym (ap entry_held (sym (cell_is row i cell there)) ∙ e.1)) (known_by i e.0 pos low e.1);
     free = λ i f.
         let h = known.free i f in
         let c = at_cell i h.1 in

@@ -12,7 +12,7 @@ use Rattle.cas_slot.specs.Contents.{Contents, kept_at}
 use Rattle.cas_slot.specs.Limits.{AllBallotsFit}
 use Rattle.cas_slot.specs.Slots.{no_slots, slot_count}
 use Rattle.cas_slot.proofs.LimitLemmas.{nothing_fits}
-use Rattle.cas_cells.specs.Format.{count_in, narrow_in, wide_in, narrow_told, wide_told, foreign_at, StandsFor, IsBeforeOrAfter}
+use Rattle.cas_cells.specs.Format.{count_in, narrow_in, wide_in, narrow_told, wide_told, foreign_at, IsImageOf, IsBeforeOrAfter}
 use Rattle.cas_cells.specs.Held.{IsRow}
 use Rattle.cas_disk_shelf.specs.declared.codec.Head.{Head}
 use Rattle.cas_disk_shelf.specs.declared.memory.Loaded.{Loaded}
@@ -20,7 +20,7 @@ use Rattle.cas_disk_shelf.specs.declared.memory.Memory.{Memory}
 use Rattle.cas_disk_shelf.specs.Head.{head_spelling, FitsHead}
 use Rattle.cas_disk_shelf.specs.HeadLaws.{narrow-told, wide-told}
 use Rattle.cas_disk_shelf.specs.Image.{left_by, left_in, left_on, place_on}
-use Rattle.cas_disk_shelf.specs.Memory.{cell_of, is_free, head_for, IsCounted, IsMemoryOf, IsMoving, IsReadFrom}
+use Rattle.cas_disk_shelf.specs.Memory.{cell_of, is_free, head_for, CellsAreCounted, IsMemoryOf, IsMoving, IsReadFrom}
 use Rattle.cas_disk_shelf.specs.ShelfLaws.{read_spelled}
 use Rattle.cas_disk_shelf.proofs.Changing.{first_told}
 use Rattle.cas_disk_shelf.proofs.Lists.{get_set_other}
@@ -35,7 +35,7 @@ unfolding left_on
 frames_wrong disk at wrong = ap (λ (o : Option ℕ). left_by o disk) wrong
 
 -- a disk of whose cells a payload is wrong
-pub payloads_wrong : (row : List (Option (List ℕ))) (disk now : List ℕ) (at : ℕ) → now ≡ disk → StandsFor row disk → left_in (place_on now) row ≡ Err at → left_on disk ≡ Err at
+pub payloads_wrong : (row : List (Option (List ℕ))) (disk now : List ℕ) (at : ℕ) → now ≡ disk → IsImageOf row disk → left_in (place_on now) row ≡ Err at → left_on disk ≡ Err at
 unfolding left_on
 payloads_wrong row disk now at same stands wrong =
     ap (λ (o : Option ℕ). left_by o disk) stands.sound
@@ -73,7 +73,7 @@ no_slots_behind payload i cell pos there = let low = slice_get_within (Some payl
 
 -- the memory of a row that is a head alone
 pub new_memory : (head : Head) (payload : List ℕ) (row : List (Option (List ℕ))) (memory : Memory) → FitsHead head → head.narrow ≡ 0 → head.count ≡ 0 → payload ≡ head_spelling head → row ≡ Some payload ∷ []
-    → memory.held ≡ record { slots = no_slots; ages = head.ages } → ((key : List ℕ) → cell_of memory key ≡ None) → ((i : ℕ) → is_free memory i ≡ false) → IsCounted memory 0 → IsMemoryOf row memory
+    → memory.held ≡ record { slots = no_slots; ages = head.ages } → ((key : List ℕ) → cell_of memory key ≡ None) → ((i : ℕ) → is_free memory i ≡ false) → CellsAreCounted memory 0 → IsMemoryOf row memory
 new_memory head payload row memory fits none none' spells is held keys free counted =
     let narrow : narrow_told payload ≡ head.narrow = ap narrow_told spells ∙ narrow-told head fits in
     let wide : wide_told payload ≡ head.count = ap wide_told spells ∙ wide-told head fits in
@@ -91,7 +91,7 @@ new_memory head payload row memory fits none none' spells is held keys free coun
           none = λ key e. ap (λ (c : Contents). kept_at c key) held ∙ map.get-empty (slice_cmp nat_cmp) key;
         };
       };
-      counted = subst (IsCounted memory) (omega (arith, wide, none')) counted;
+      counted = subst (CellsAreCounted memory) (omega (arith, wide, none')) counted;
     } in
     subst (λ (l : List (Option (List ℕ))). IsMemoryOf l memory) (sym is) alone
 

@@ -9,9 +9,9 @@ use Rattle.cas_base.proofs.Bools.{some_is}
 use Rattle.cas_slot.specs.declared.slot.Slot.{Slot}
 use Rattle.cas_slot.specs.Contents.{Contents, with_kept, without_kept}
 use Rattle.cas_disk_shelf.specs.KeyLaws.{by_key, put_same, put_other, take_same, take_other, moved_own, moved_other, removed_own, removed_other, freed_own, freed_other, taken_own, taken_other}
-use Rattle.cas_disk_shelf.specs.Cell.{Entry}
+use Rattle.cas_disk_shelf.specs.Cell.{KeyedSlot}
 use Rattle.cas_disk_shelf.specs.Image.{entry_held, moved, removed}
-use Rattle.cas_disk_shelf.specs.Memory.{InStep, IsCell, IsKnown, freed, taken}
+use Rattle.cas_disk_shelf.specs.Memory.{InStep, IsCell, CellIsKnown, freed, taken}
 use Rattle.cas_disk_shelf.proofs.Lists.{get_set_same, get_set_other, get_before, get_last}
 
 -- ---- cells
@@ -19,20 +19,20 @@ use Rattle.cas_disk_shelf.proofs.Lists.{get_set_same, get_set_other, get_before,
 no_number : (i : ℕ) → Some i ≡ None → ⊥
 no_number i e = cc
 
-no_entry : (x : Entry) → Some x ≡ None → ⊥
+no_entry : (x : KeyedSlot) → Some x ≡ None → ⊥
 no_entry x e = cc
 
 yes_no : true ≡ false → ⊥
 yes_no e = cc
 
-read_is : (x y : Option Entry) (r : Result (Option Entry) ℕ) → r ≡ Ok x → r ≡ Ok y → x ≡ y
+read_is : (x y : Option KeyedSlot) (r : Result (Option KeyedSlot) ℕ) → r ≡ Ok x → r ≡ Ok y → x ≡ y
 read_is x y r e f = cc
 
-key_is : (x y : Entry) → Some x ≡ Some y → x.0 ≡ y.0
-key_is x y e = ap (λ (z : Entry). z.0) (some_is x y e)
+key_is : (x y : KeyedSlot) → Some x ≡ Some y → x.0 ≡ y.0
+key_is x y e = ap (λ (z : KeyedSlot). z.0) (some_is x y e)
 
 -- a cell has one content
-pub same_cell : (narrow : ℕ) (cells : List (Option (List ℕ))) (i : ℕ) (x y : Option Entry) → IsCell narrow cells i x → IsCell narrow cells i y → x ≡ y
+pub same_cell : (narrow : ℕ) (cells : List (Option (List ℕ))) (i : ℕ) (x y : Option KeyedSlot) → IsCell narrow cells i x → IsCell narrow cells i y → x ≡ y
 same_cell narrow cells i x y one two =
     let same : one.cell ≡ two.cell = some_is one.cell two.cell (sym one.there ∙ two.there) in
     read_is x y (entry_held two.cell) (ap entry_held (sym same) ∙ one.holds) two.holds
@@ -56,13 +56,13 @@ before cells cell j c there other =
     omega (arith, within, length-append cells (cell ∷ []))
 
 -- a cell that stays
-stays : (narrow : ℕ) (cells cells' : List (Option (List ℕ))) (i : ℕ) (entry : Option Entry) → slice_get cells' i ≡ slice_get cells i → IsCell narrow cells i entry → IsCell narrow cells' i entry
+stays : (narrow : ℕ) (cells cells' : List (Option (List ℕ))) (i : ℕ) (entry : Option KeyedSlot) → slice_get cells' i ≡ slice_get cells i → IsCell narrow cells i entry → IsCell narrow cells' i entry
 stays narrow cells cells' i entry same is = record { behind = is.behind; cell = is.cell; there = same ∙ is.there; holds = is.holds }
 
-known_so : (narrow : ℕ) (cell_of : List ℕ → Option ℕ) (is_free : ℕ → Bool) (i : ℕ) (r s : Result (Option Entry) ℕ) → r ≡ s → IsKnown narrow cell_of is_free i s → IsKnown narrow cell_of is_free i r
-known_so narrow cell_of is_free i r s e known = subst (IsKnown narrow cell_of is_free i) (sym e) known
+known_so : (narrow : ℕ) (cell_of : List ℕ → Option ℕ) (is_free : ℕ → Bool) (i : ℕ) (r s : Result (Option KeyedSlot) ℕ) → r ≡ s → CellIsKnown narrow cell_of is_free i s → CellIsKnown narrow cell_of is_free i r
+known_so narrow cell_of is_free i r s e known = subst (CellIsKnown narrow cell_of is_free i) (sym e) known
 
-known_along : (narrow : ℕ) (cell_of cell_of' : List ℕ → Option ℕ) (is_free is_free' : ℕ → Bool) (i : ℕ) (r : Result (Option Entry) ℕ) → ((key : List ℕ) → cell_of key ≡ Some i → cell_of' key ≡ Some i) → (is_free i ≡ true → is_free' i ≡ true) → IsKnown narrow cell_of is_free i r → IsKnown narrow cell_of' is_free' i r
+known_along : (narrow : ℕ) (cell_of cell_of' : List ℕ → Option ℕ) (is_free is_free' : ℕ → Bool) (i : ℕ) (r : Result (Option KeyedSlot) ℕ) → ((key : List ℕ) → cell_of key ≡ Some i → cell_of' key ≡ Some i) → (is_free i ≡ true → is_free' i ≡ true) → CellIsKnown narrow cell_of is_free i r → CellIsKnown narrow cell_of' is_free' i r
 known_along narrow cell_of cell_of' is_free is_free' i (Ok None) keys free known = λ wide. free (known wide)
 known_along narrow cell_of cell_of' is_free is_free' i (Ok (Some entry)) keys free known = keys entry.0 known
 known_along narrow cell_of cell_of' is_free is_free' i (Err at) keys free known = known

@@ -30,8 +30,8 @@ use Rattle.cas_disk_shelf.specs.Head.{head_spelling, FitsHead}
 use Rattle.cas_disk_shelf.specs.HeadLaws.{length-head, narrow-told, wide-told, tells-head}
 use Rattle.cas_disk_shelf.specs.Cell.{cell_spelling, FitsSlot}
 use Rattle.cas_disk_shelf.specs.Image.{entry_held, moved, removed}
-use Rattle.cas_disk_shelf.specs.Memory.{cell_of, is_free, head_for, InStep, AreOf, IsMemoryOf, IsCounted, freed, taken}
-use Rattle.cas_disk_shelf.specs.Shelf.{disk_of, contents_of, ContinuesOnly, IsUp}
+use Rattle.cas_disk_shelf.specs.Memory.{cell_of, is_free, head_for, InStep, AreOf, IsMemoryOf, CellsAreCounted, freed, taken}
+use Rattle.cas_disk_shelf.specs.Shelf.{disk_of, contents_of, ShelfContinuesOnly, ShelfIsUp}
 use Rattle.cas_disk_shelf.specs.ShelfLaws.{spelled}
 use Rattle.cas_disk_shelf.proofs.Entries.{read_again, length-slot}
 use Rattle.cas_disk_shelf.proofs.Changing.{put_are, drop_are, raise_are}
@@ -124,7 +124,7 @@ module _ (cells : List (Option (List ℕ))) (contents : Contents) (f : List ℕ 
 -- ---- memory
 
 -- the memory shows what these cells are
-pub memory_of : (cells : List (Option (List ℕ))) (contents : Contents) (f : List ℕ → Option ℕ) (g : ℕ → Bool) (new : Memory) → AreOf cells contents f g → new.held ≡ contents → ((q : List ℕ) → cell_of new q ≡ f q) → ((i : ℕ) → is_free new i ≡ g i) → IsCounted new (wide_in cells) → IsMemoryOf cells new
+pub memory_of : (cells : List (Option (List ℕ))) (contents : Contents) (f : List ℕ → Option ℕ) (g : ℕ → Bool) (new : Memory) → AreOf cells contents f g → new.held ≡ contents → ((q : List ℕ) → cell_of new q ≡ f q) → ((i : ℕ) → is_free new i ≡ g i) → CellsAreCounted new (wide_in cells) → IsMemoryOf cells new
 memory_of cells contents f g new are held keys free counted = record {
   shown = subst (λ (x : Contents × (List ℕ → Option ℕ) × (ℕ → Bool)). AreOf cells x.0 x.1 x.2) (λ t. (sym held t, (λ q. sym (keys q) t), (λ i. sym (free i) t))) are;
   counted = counted;
@@ -158,8 +158,8 @@ none_dropped contents key none =
 
 module _ {D : Type 0} (tells : Type 0) (seen : D → List ℕ) (may_leave : D → List ℕ → Type 0) (moment : D → ℕ) (left_since : D → ℕ → List ℕ → Type 0) where
   -- a change of the cells of a shelf that is up leaves the contents from before or those from after it
-  pub old_or_new : (old : DiskShelf D) (new : D) (row' : List (Option (List ℕ))) (after : Contents) (f : List ℕ → Option ℕ) (g : ℕ → Bool) → IsUp tells seen may_leave old → IsRow row' → AreOf row' after f g
-      → DiskContinuesOnly moment left_since (disk_of old) new (IsBeforeOrAfter (cells.cells_of old.cells) row') → ContinuesOnly moment left_since (disk_of old) new (IsOldOrNew (contents_of old) after)
+  pub old_or_new : (old : DiskShelf D) (new : D) (row' : List (Option (List ℕ))) (after : Contents) (f : List ℕ → Option ℕ) (g : ℕ → Bool) → ShelfIsUp tells seen may_leave old → IsRow row' → AreOf row' after f g
+      → DiskContinuesOnly moment left_since (disk_of old) new (IsBeforeOrAfter (cells.cells_of old.cells) row') → ShelfContinuesOnly moment left_since (disk_of old) new (IsOldOrNew (contents_of old) after)
   old_or_new old new row' after f g up row are run =
       reads_only moment left_since (disk_of old) new (IsBeforeOrAfter (cells.cells_of old.cells) row') (IsOldOrNew (contents_of old) after)
       (λ c either. ⊎_elim

@@ -11,15 +11,15 @@ use Rattle.cas_disk_shelf.specs.declared.codec.Found.{Found}
 use Rattle.cas_disk_shelf.specs.declared.codec.Found.TheVariants.{Free, Kept, Wrong}
 
 -- a key and its slot
-abbrev pub Entry : Type 0
-Entry = List ℕ × Slot
+abbrev pub KeyedSlot : Type 0
+KeyedSlot = List ℕ × Slot
 
 -- the key, what was promised, and what was accepted
-abbrev pub entry_spelling : Entry → List ℕ
+abbrev pub entry_spelling : KeyedSlot → List ℕ
 entry_spelling entry = key_spelling entry.0 ++ (ballot_spelling entry.1.promise ++ optional_spelling accepted_spelling entry.1.accepted)
 
 -- the payload of a cell
-abbrev pub cell_spelling : Option Entry → List ℕ
+abbrev pub cell_spelling : Option KeyedSlot → List ℕ
 cell_spelling = optional_spelling entry_spelling
 
 -- a slot has a spelling
@@ -29,10 +29,10 @@ pub record FitsSlot (slot : Slot) : Type 0 where
 
 -- ---- reading
 
-abbrev pub entry_of : List ℕ × (Ballot × Option Accepted) → Entry
+abbrev pub entry_of : List ℕ × (Ballot × Option Accepted) → KeyedSlot
 entry_of parts = (parts.0, record { promise = parts.1.0; accepted = parts.1.1 })
 
-abbrev pub entry_at : List ℕ → Reading Entry
+abbrev pub entry_at : List ℕ → Reading KeyedSlot
 entry_at = made_at entry_of (pair_at key_at (pair_at ballot_at (optional_at accepted_at)))
 
 -- what is read of these bytes, if none is left over
@@ -41,14 +41,14 @@ whole bytes (Ok x) = if length x.1 == 0 then Ok x.0 else Err (length bytes - len
 whole bytes (Err left) = Err (length bytes - left)
 
 -- what a payload spells, or the place of the first byte that no payload has there
-unfoldable pub entry_in : List ℕ → Result (Option Entry) ℕ
+unfoldable pub entry_in : List ℕ → Result (Option KeyedSlot) ℕ
 entry_in bytes = whole bytes (optional_at entry_at bytes)
 
 -- what a function found in a payload is what the payload spells
-abbrev pub IsFound : List ℕ → Found → Type 0
-IsFound bytes Free = entry_in bytes ≡ Ok None
-IsFound bytes (Kept key slot) = entry_in bytes ≡ Ok (Some (key, slot))
-IsFound bytes (Wrong at) = entry_in bytes ≡ Err at
+abbrev pub IsSpelledByPayload : List ℕ → Found → Type 0
+IsSpelledByPayload bytes Free = entry_in bytes ≡ Ok None
+IsSpelledByPayload bytes (Kept key slot) = entry_in bytes ≡ Ok (Some (key, slot))
+IsSpelledByPayload bytes (Wrong at) = entry_in bytes ≡ Err at
 
 -- the ballots of a slot that was found are within their limits
 abbrev pub FoundBallotsFit : Found → Type 0

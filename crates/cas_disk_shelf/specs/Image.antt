@@ -9,14 +9,14 @@ use Rattle.cas_slot.specs.Slots.{Slots, no_slots, slot_at, with_slot, slot_count
 use Rattle.cas_cells.specs.Format.{foreign_at, cells_on, cell_place, narrow_on, payload_place, count_in, narrow_in}
 use Rattle.cas_disk_shelf.specs.declared.codec.Head.{Head}
 use Rattle.cas_disk_shelf.specs.Head.{head_of}
-use Rattle.cas_disk_shelf.specs.Cell.{Entry, entry_in}
+use Rattle.cas_disk_shelf.specs.Cell.{KeyedSlot, entry_in}
 
 -- the payload of cell i; a cell that is blank, or is not there, has none
 abbrev pub cell_in : List (Option (List ℕ)) → ℕ → Option (List ℕ)
 cell_in row i = unwrap_or (slice_get row i) None
 
 -- what a cell behind the head holds, or the place in its payload of the first byte that no payload has there
-abbrev pub entry_held : Option (List ℕ) → Result (Option Entry) ℕ
+abbrev pub entry_held : Option (List ℕ) → Result (Option KeyedSlot) ℕ
 entry_held None = Ok None
 entry_held (Some payload) = entry_in payload
 
@@ -29,12 +29,12 @@ abbrev pub removed : (List ℕ → Option ℕ) → List ℕ → List ℕ → Opt
 removed cell_of key q = cond (pointwise nat_eq key q) None (cell_of q)
 
 -- where a cell begins, and where its payload does
-abbrev pub Place : Type 0
-Place = ℕ × ℕ
+abbrev pub CellPlace : Type 0
+CellPlace = ℕ × ℕ
 
 -- the slots in some cells, and the narrow cell of each key that none of the wide ones holds
-abbrev pub Read : Type 0
-Read = Slots × (List ℕ → Option ℕ)
+abbrev pub ReadSlots : Type 0
+ReadSlots = Slots × (List ℕ → Option ℕ)
 
 abbrev pub same_payload : Option (List ℕ) → Option (List ℕ) → Bool
 same_payload (Some p) (Some q) = pointwise nat_eq p q
@@ -51,7 +51,7 @@ abbrev pub is_one_too_many : Slots → List ℕ → Bool
 is_one_too_many slots key = is_some (slot_at slots key) || nat_le 4096 (slot_count slots)
 
 -- cell i, at this place, is read behind cells of which this was read
-abbrev pub with_cell : List (Option (List ℕ)) → ℕ → Place → Read → Result (Option Entry) ℕ → Result Read ℕ
+abbrev pub with_cell : List (Option (List ℕ)) → ℕ → CellPlace → ReadSlots → Result (Option KeyedSlot) ℕ → Result ReadSlots ℕ
 with_cell row i place read (Ok None) = Ok read
 with_cell row i place read (Ok (Some entry)) =
     if is_twin row i (read.1 entry.0) then Ok (read.0, removed read.1 entry.0)
@@ -59,31 +59,31 @@ with_cell row i place read (Ok (Some entry)) =
     else Ok (with_slot read.0 entry.0 entry.1, (if nat_le i (narrow_in row) then moved read.1 entry.0 i else read.1)))
 with_cell row i place read (Err wrong) = Err (place.1 + wrong)
 
-abbrev pub cell_behind : List (Option (List ℕ)) → ℕ → Place → Result Read ℕ → Result Read ℕ
+abbrev pub cell_behind : List (Option (List ℕ)) → ℕ → CellPlace → Result ReadSlots ℕ → Result ReadSlots ℕ
 cell_behind row i place (Ok read) = with_cell row i place read (entry_held (cell_in row i))
 cell_behind row i place (Err at) = Err at
 
 -- what is read of the first n cells behind the head, which have these places
-abbrev pub read_cells : List (Option (List ℕ)) → (ℕ → Place) → ℕ → Result Read ℕ
+abbrev pub read_cells : List (Option (List ℕ)) → (ℕ → CellPlace) → ℕ → Result ReadSlots ℕ
 read_cells row place zero = Ok (no_slots, λ key. None)
 read_cells row place (suc n) = cell_behind row (suc n) (place (suc n)) (read_cells row place n)
 
-abbrev pub with_ages : Ages → Result Read ℕ → Left
+abbrev pub with_ages : Ages → Result ReadSlots ℕ → Left
 with_ages ages (Ok read) = Ok (record { slots = read.0; ages = ages })
 with_ages ages (Err at) = Err at
 
-abbrev pub left_behind : (ℕ → Place) → List (Option (List ℕ)) → Result Head ℕ → Left
+abbrev pub left_behind : (ℕ → CellPlace) → List (Option (List ℕ)) → Result Head ℕ → Left
 left_behind place row (Ok head) = with_ages head.ages (read_cells row place (count_in row))
 left_behind place row (Err wrong) = Err ((place 0).1 + wrong)
 
 -- what these cells are, which have these places
-abbrev pub left_in : (ℕ → Place) → List (Option (List ℕ)) → Left
+abbrev pub left_in : (ℕ → CellPlace) → List (Option (List ℕ)) → Left
 left_in place [] = Err 0
 left_in place (None ∷ cells) = Err 0
 left_in place (Some head ∷ cells) = left_behind place (Some head ∷ cells) (head_of head)
 
 -- where a cell with its payload begins on a disk
-abbrev pub place_on : List ℕ → ℕ → Place
+abbrev pub place_on : List ℕ → ℕ → CellPlace
 place_on disk i = (cell_place (narrow_on disk) i, unwrap_or (payload_place (narrow_on disk) disk i) 0)
 
 abbrev pub left_by : Option ℕ → List ℕ → Left

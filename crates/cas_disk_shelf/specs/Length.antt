@@ -5,7 +5,7 @@ use Rattle.cas_slot.specs.Slots.{slot_count}
 use Rattle.cas_disk.specs.Disk.{LeavesOnly}
 use Rattle.cas_cells.specs.Length.{AllWithin}
 use Rattle.cas_disk_shelf.specs.declared.shelf.DiskShelf.{DiskShelf}
-use Rattle.cas_disk_shelf.specs.Shelf.{disk_of, contents_of, narrow_of, MayLeave}
+use Rattle.cas_disk_shelf.specs.Shelf.{disk_of, contents_of, narrow_of, ShelfMayLeave}
 
 -- no longer than the disk was when the shelf took it, or than the end of the wide cell behind so many narrow cells and those of so
 -- many slots
@@ -15,7 +15,7 @@ longest taken narrow most = max taken (1024 * (1 + narrow) + 9216 * (1 + most))
 -- the shelf shows at most so many slots, and so does each shelf that a crash may leave of its disk
 pub record HoldsAtMost {D : Type 0} (may_leave : D → List ℕ → Type 0) (most : ℕ) (shelf : DiskShelf D) : Type 0 where
   pub shown : slot_count (contents_of shelf).slots ≤ most
-  pub left : (held : Contents) → MayLeave may_leave shelf (Ok held) → slot_count held.slots ≤ most
+  pub left : (held : Contents) → ShelfMayLeave may_leave shelf (Ok held) → slot_count held.slots ≤ most
 
 -- the shelf has at most so many narrow cells and slots, and all that a crash may leave of its disk, what a read gives among it, is no
 -- longer than that

@@ -6,12 +6,12 @@ use Rattle.cas_cells.specs.Format.{narrow_in, wide_in, head_in}
 use Rattle.cas_disk_shelf.specs.declared.codec.Head.{Head}
 use Rattle.cas_disk_shelf.specs.declared.memory.Loaded.{Loaded}
 use Rattle.cas_disk_shelf.specs.Head.{head_of, IsSpelledHead}
-use Rattle.cas_disk_shelf.specs.Image.{Place, read_cells}
+use Rattle.cas_disk_shelf.specs.Image.{CellPlace, read_cells}
 use Rattle.cas_disk_shelf.specs.Memory.{alone_in}
 
 -- what is read of the first n cells, whatever their places are
 abbrev pub IsReadTo : List (Option (List ℕ)) → ℕ → Loaded → Type 0
-IsReadTo cells n loaded = (place : ℕ → Place) → read_cells cells place n ≡ Ok (loaded.memory.held.slots, alone_in loaded)
+IsReadTo cells n loaded = (place : ℕ → CellPlace) → read_cells cells place n ≡ Ok (loaded.memory.held.slots, alone_in loaded)
 
 -- this is the head of these cells
 pub record IsHeadOf (cells : List (Option (List ℕ))) (head : Head) : Type 0 where

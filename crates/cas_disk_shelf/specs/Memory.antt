@@ -13,7 +13,7 @@ use Rattle.cas_disk_shelf.specs.declared.codec.Head.{Head}
 use Rattle.cas_disk_shelf.specs.declared.memory.Loaded.{Loaded}
 use Rattle.cas_disk_shelf.specs.declared.memory.Memory.{Memory}
 use Rattle.cas_disk_shelf.specs.Head.{head_spelling, head_of, FitsHead, IsSpelledHead}
-use Rattle.cas_disk_shelf.specs.Cell.{Entry}
+use Rattle.cas_disk_shelf.specs.Cell.{KeyedSlot}
 use Rattle.cas_disk_shelf.specs.Image.{cell_in, entry_held}
 
 -- the cell of a key, if it has a slot
@@ -33,27 +33,27 @@ abbrev pub taken : (ℕ → Bool) → ℕ → ℕ → Bool
 taken is_free cell i = cond (is_eq (nat_cmp cell i)) false (is_free i)
 
 -- cell i is wide and holds this
-pub record IsCell (narrow : ℕ) (cells : List (Option (List ℕ))) (i : ℕ) (entry : Option Entry) : Type 0 where
+pub record IsCell (narrow : ℕ) (cells : List (Option (List ℕ))) (i : ℕ) (entry : Option KeyedSlot) : Type 0 where
   pub behind : narrow < i
   pub cell : Option (List ℕ)
   pub there : slice_get cells i ≡ Some cell
   pub holds : entry_held cell ≡ Ok entry
 
 -- the memory knows cell i, which was read so; of a narrow cell that holds no slot it knows nothing
-abbrev pub IsKnown : ℕ → (List ℕ → Option ℕ) → (ℕ → Bool) → ℕ → Result (Option Entry) ℕ → Type 0
-IsKnown narrow cell_of is_free i (Ok None) = narrow < i → is_free i ≡ true
-IsKnown narrow cell_of is_free i (Ok (Some entry)) = cell_of entry.0 ≡ Some i
-IsKnown narrow cell_of is_free i (Err at) = ⊥
+abbrev pub CellIsKnown : ℕ → (List ℕ → Option ℕ) → (ℕ → Bool) → ℕ → Result (Option KeyedSlot) ℕ → Type 0
+CellIsKnown narrow cell_of is_free i (Ok None) = narrow < i → is_free i ≡ true
+CellIsKnown narrow cell_of is_free i (Ok (Some entry)) = cell_of entry.0 ≡ Some i
+CellIsKnown narrow cell_of is_free i (Err at) = ⊥
 
 -- the contents, the cells of the keys and the free cells are those of these cells, of which the wide ones alone hold slots
 pub record InStep (narrow : ℕ) (contents : Contents) (cell_of : List ℕ → Option ℕ) (is_free : ℕ → Bool) (cells : List (Option (List ℕ))) : Type 0 where
-  pub each : (i : ℕ) (cell : Option (List ℕ)) → 0 < i → slice_get cells i ≡ Some cell → IsKnown narrow cell_of is_free i (entry_held cell)
+  pub each : (i : ℕ) (cell : Option (List ℕ)) → 0 < i → slice_get cells i ≡ Some cell → CellIsKnown narrow cell_of is_free i (entry_held cell)
   pub free : (i : ℕ) → is_free i ≡ true → IsCell narrow cells i None
   pub held : (key : List ℕ) (i : ℕ) → cell_of key ≡ Some i → (slot : Slot) × IsCell narrow cells i (Some (key, slot)) × (kept_at contents key ≡ Some slot)
   pub none : (key : List ℕ) → cell_of key ≡ None → kept_at contents key ≡ None
 
 -- each wide cell of so many holds a slot or is free, and there are as many slots as keys
-pub record IsCounted (memory : Memory) (wide : ℕ) : Type 0 where
+pub record CellsAreCounted (memory : Memory) (wide : ℕ) : Type 0 where
   pub cells : index_map_len memory.index + btree_set_len memory.free ≡ wide
   pub keys : slot_count memory.held.slots ≡ index_map_len memory.index
 
@@ -71,12 +71,12 @@ pub record AreOf (cells : List (Option (List ℕ))) (contents : Contents) (cell_
 -- this is the memory of a shelf of these cells
 pub record IsMemoryOf (cells : List (Option (List ℕ))) (memory : Memory) : Type 0 where
   pub shown : AreOf cells memory.held (cell_of memory) (is_free memory)
-  pub counted : IsCounted memory (wide_in cells)
+  pub counted : CellsAreCounted memory (wide_in cells)
 
 -- ---- slots in narrow cells too
 
 -- cell i, which is one of the first n behind the head, holds the slot of a key; the cells are given by their payloads
-pub record Holds (payload : ℕ → Option (List ℕ)) (n i : ℕ) (key : List ℕ) (slot : Slot) : Type 0 where
+pub record CellHolds (payload : ℕ → Option (List ℕ)) (n i : ℕ) (key : List ℕ) (slot : Slot) : Type 0 where
   pub behind : 0 < i
   pub within : i ≤ n
   pub holds : entry_held (payload i) ≡ Ok (Some (key, slot))
@@ -84,18 +84,18 @@ pub record Holds (payload : ℕ → Option (List ℕ)) (n i : ℕ) (key : List �
 -- the first n cells behind the head, of which so many are narrow, hold these slots and no others, and a key that two of them hold
 -- stands in a narrow and a wide cell, with equal payloads
 pub record Show (narrow : ℕ) (payload : ℕ → Option (List ℕ)) (n : ℕ) (slots : Slots) : Type 0 where
-  pub each : (i : ℕ) → 0 < i → i ≤ n → (entry : Option Entry) × (entry_held (payload i) ≡ Ok entry)
-  pub kept : (i : ℕ) (key : List ℕ) (slot : Slot) → Holds payload n i key slot → slot_at slots key ≡ Some slot
-  pub there : (key : List ℕ) (slot : Slot) → slot_at slots key ≡ Some slot → (i : ℕ) × Holds payload n i key slot
-  pub once : (i j : ℕ) (key : List ℕ) (s t : Slot) → Holds payload n i key s → Holds payload n j key t → i < j → (i ≤ narrow) × (narrow < j) × (payload i ≡ payload j)
+  pub each : (i : ℕ) → 0 < i → i ≤ n → (entry : Option KeyedSlot) × (entry_held (payload i) ≡ Ok entry)
+  pub kept : (i : ℕ) (key : List ℕ) (slot : Slot) → CellHolds payload n i key slot → slot_at slots key ≡ Some slot
+  pub there : (key : List ℕ) (slot : Slot) → slot_at slots key ≡ Some slot → (i : ℕ) × CellHolds payload n i key slot
+  pub once : (i j : ℕ) (key : List ℕ) (s t : Slot) → CellHolds payload n i key s → CellHolds payload n j key t → i < j → (i ≤ narrow) × (narrow < j) × (payload i ≡ payload j)
 
 -- each key that a wide cell holds has that cell, each other one stands alone in its narrow cell, and the free cells are the wide ones
 -- that hold no slot
 pub record AreKnown (narrow : ℕ) (payload : ℕ → Option (List ℕ)) (n : ℕ) (cell_of alone_in : List ℕ → Option ℕ) (is_free : ℕ → Bool) : Type 0 where
-  pub wide : (i : ℕ) (key : List ℕ) (slot : Slot) → Holds payload n i key slot → narrow < i → cell_of key ≡ Some i
-  pub lone : (i : ℕ) (key : List ℕ) (slot : Slot) → Holds payload n i key slot → i ≤ narrow → cell_of key ≡ None → alone_in key ≡ Some i
-  pub own : (key : List ℕ) (i : ℕ) → cell_of key ≡ Some i → (narrow < i) × ((slot : Slot) × Holds payload n i key slot)
-  pub alone : (key : List ℕ) (i : ℕ) → alone_in key ≡ Some i → (i ≤ narrow) × (cell_of key ≡ None) × ((slot : Slot) × Holds payload n i key slot)
+  pub wide : (i : ℕ) (key : List ℕ) (slot : Slot) → CellHolds payload n i key slot → narrow < i → cell_of key ≡ Some i
+  pub lone : (i : ℕ) (key : List ℕ) (slot : Slot) → CellHolds payload n i key slot → i ≤ narrow → cell_of key ≡ None → alone_in key ≡ Some i
+  pub own : (key : List ℕ) (i : ℕ) → cell_of key ≡ Some i → (narrow < i) × ((slot : Slot) × CellHolds payload n i key slot)
+  pub alone : (key : List ℕ) (i : ℕ) → alone_in key ≡ Some i → (i ≤ narrow) × (cell_of key ≡ None) × ((slot : Slot) × CellHolds payload n i key slot)
   pub free : (i : ℕ) → is_free i ≡ true → (narrow < i) × (i ≤ n) × (entry_held (payload i) ≡ Ok None)
   pub spare : (i : ℕ) → narrow < i → i ≤ n → entry_held (payload i) ≡ Ok None → is_free i ≡ true
 

@@ -13,23 +13,23 @@ use Rattle.cas_slot.specs.Contents.{Contents}
 use Rattle.cas_slot.specs.Shelf.{OnlyLeaves}
 use Rattle.cas_slot.specs.Slots.{Slots, no_slots, slot_at, with_slot, slot_count}
 use Rattle.cas_cells.specs.Cells as cells
-use Rattle.cas_cells.specs.Format.{StandsFor, count_in, narrow_in, head_in, count_told}
+use Rattle.cas_cells.specs.Format.{IsImageOf, count_in, narrow_in, head_in, count_told}
 use Rattle.cas_cells.specs.Held.{IsRow}
 use Rattle.cas_cells.proofs.Counting.{row_length}
 use Rattle.cas_cells.proofs.Survival.{crash_leaves}
 use Rattle.cas_disk_shelf.specs.declared.shelf.DiskShelf.{DiskShelf}
 use Rattle.cas_disk_shelf.specs.HeadLaws.{head_again}
-use Rattle.cas_disk_shelf.specs.Cell.{Entry}
+use Rattle.cas_disk_shelf.specs.Cell.{KeyedSlot}
 use Rattle.cas_disk_shelf.specs.Head.{head_of}
-use Rattle.cas_disk_shelf.specs.Image.{Place, Read, cell_in, entry_held, same_payload, is_twin, is_one_too_many, moved, removed, with_cell, cell_behind, read_cells, with_ages, left_behind, left_in, left_by, left_on, place_on}
+use Rattle.cas_disk_shelf.specs.Image.{CellPlace, ReadSlots, cell_in, entry_held, same_payload, is_twin, is_one_too_many, moved, removed, with_cell, cell_behind, read_cells, with_ages, left_behind, left_in, left_by, left_on, place_on}
 use Rattle.cas_disk_shelf.specs.KeyLaws.{same_slots, few_among, one_more_slot, freed_own, freed_other, removed_own, removed_other}
-use Rattle.cas_disk_shelf.specs.Memory.{Holds, Show, AreKnown, InStep, IsKnown, AreOf, head_for, freed}
-use Rattle.cas_disk_shelf.specs.Shelf.{disk_of, contents_of, IsUp, MayLeave}
+use Rattle.cas_disk_shelf.specs.Memory.{CellHolds, Show, AreKnown, InStep, CellIsKnown, AreOf, head_for, freed}
+use Rattle.cas_disk_shelf.specs.Shelf.{disk_of, contents_of, ShelfIsUp, ShelfMayLeave}
 use Rattle.cas_disk_shelf.specs.ShowLaws.{next_step, nothing_shows, nothing_known, new_shows, none_of, narrow_known, wide_known, twin_shows, only_there}
 
 -- ---- twins
 
-same_of : (x y : Option (List ℕ)) (e : Entry) → x ≡ y → entry_held y ≡ Ok (Some e) → same_payload x y ≡ true
+same_of : (x y : Option (List ℕ)) (e : KeyedSlot) → x ≡ y → entry_held y ≡ Ok (Some e) → same_payload x y ≡ true
 same_of x None e same holds = absurd (let none : Ok None ≡ Ok (Some e) = holds in cc)
 same_of x (Some p) e same holds = ap (λ (o : Option (List ℕ)). same_payload o (Some p)) same ∙ nat_list_eq_equiv.refl p
 
@@ -38,7 +38,7 @@ same_told (Some p) (Some q) e = ap Some (same_text p q (sym e))
 same_told (Some p) None e = absurd (let no : false ≡ true = e in cc)
 same_told None q e = absurd (let no : false ≡ true = e in cc)
 
-pub twin_is : (row : List (Option (List ℕ))) (i v : ℕ) (e : Entry) → narrow_in row < i → cell_in row v ≡ cell_in row i → entry_held (cell_in row i) ≡ Ok (Some e) → is_twin row i (Some v) ≡ true
+pub twin_is : (row : List (Option (List ℕ))) (i v : ℕ) (e : KeyedSlot) → narrow_in row < i → cell_in row v ≡ cell_in row i → entry_held (cell_in row i) ≡ Ok (Some e) → is_twin row i (Some v) ≡ true
 twin_is row i v e far equal holds = and_from (nat_lt (narrow_in row) i) (same_payload (cell_in row v) (cell_in row i)) (lt-ltb (narrow_in row) i far) (same_of (cell_in row v) (cell_in row i) e equal holds)
 
 pub twin_told : (row : List (Option (List ℕ))) (i v : ℕ) → is_twin row i (Some v) ≡ true → (narrow_in row < i) × (cell_in row v ≡ cell_in row i)
@@ -48,12 +48,12 @@ twin_told row i v e =
 
 -- ---- reading cell after cell
 
-module _ (row : List (Option (List ℕ))) (place : ℕ → Place) (n : ℕ) where
+module _ (row : List (Option (List ℕ))) (place : ℕ → CellPlace) (n : ℕ) where
   pub read_err : (at : ℕ) → read_cells row place n ≡ Err at → read_cells row place (suc n) ≡ Err at
   read_err at is = ap (cell_behind row (suc n) (place (suc n))) is
 
-  module _ (read : Read) (is : read_cells row place n ≡ Ok read) where
-    read_by : (r : Result (Option Entry) ℕ) → entry_held (cell_in row (suc n)) ≡ r → read_cells row place (suc n) ≡ with_cell row (suc n) (place (suc n)) read r
+  module _ (read : ReadSlots) (is : read_cells row place n ≡ Ok read) where
+    read_by : (r : Result (Option KeyedSlot) ℕ) → entry_held (cell_in row (suc n)) ≡ r → read_cells row place (suc n) ≡ with_cell row (suc n) (place (suc n)) read r
     read_by r holds = ap (cell_behind row (suc n) (place (suc n))) is ∙ ap (with_cell row (suc n) (place (suc n)) read) holds
 
     pub read_nothing : entry_held (cell_in row (suc n)) ≡ Ok None → read_cells row place (suc n) ≡ Ok read
@@ -63,7 +63,7 @@ module _ (row : List (Option (List ℕ))) (place : ℕ → Place) (n : ℕ) wher
     read_wrong at holds = read_by (Err at) holds
 
     module _ (key : List ℕ) (slot : Slot) (holds : entry_held (cell_in row (suc n)) ≡ Ok (Some (key, slot))) where
-      abbrev behind_test : Bool → Bool → Bool → Result Read ℕ
+      abbrev behind_test : Bool → Bool → Bool → Result ReadSlots ℕ
       behind_test twin many near = if twin then Ok (read.0, removed read.1 key)
           else (if many then Err (place (suc n)).0
           else Ok (with_slot read.0 key slot, (if near then moved read.1 key (suc n) else read.1)))
@@ -84,7 +84,7 @@ module _ (row : List (Option (List ℕ))) (place : ℕ → Place) (n : ℕ) wher
       read_wide t m far = by_tests false false false t m (lt-leb (suc n) (narrow_in row) far)
 
 -- what is wrong in some cells stays wrong in more
-pub stays_wrong : (row : List (Option (List ℕ))) (place : ℕ → Place) (n m at : ℕ) → read_cells row place n ≡ Err at → n ≤ m → read_cells row place m ≡ Err at
+pub stays_wrong : (row : List (Option (List ℕ))) (place : ℕ → CellPlace) (n m at : ℕ) → read_cells row place n ≡ Err at → n ≤ m → read_cells row place m ≡ Err at
 stays_wrong row place n zero at is low = ap (read_cells row place) (let none : zero ≡ n = omega (arith, low) in none) ∙ is
 stays_wrong row place n (suc m) at is low = elim (cases_lt n (suc m)) [
   | inl less ↦ read_err row place m at (stays_wrong row place n m at is (omega (arith, less)))
@@ -92,15 +92,15 @@ stays_wrong row place n (suc m) at is low = elim (cases_lt n (suc m)) [
 ]
 
 -- what is read of the first n cells, which show these slots
-pub record IsReadUpTo (row : List (Option (List ℕ))) (place : ℕ → Place) (n : ℕ) : Type 0 where
-  pub read : Read
+pub record IsReadUpTo (row : List (Option (List ℕ))) (place : ℕ → CellPlace) (n : ℕ) : Type 0 where
+  pub read : ReadSlots
   pub is : read_cells row place n ≡ Ok read
   pub cells : List ℕ → Option ℕ
   pub free : ℕ → Bool
   pub show : Show (narrow_in row) (cell_in row) n read.0
   pub known : AreKnown (narrow_in row) (cell_in row) n cells read.1 free
 
-none_held : (payload : ℕ → Option (List ℕ)) (i : ℕ) (key : List ℕ) (slot : Slot) → Holds payload 0 i key slot → ⊥
+none_held : (payload : ℕ → Option (List ℕ)) (i : ℕ) (key : List ℕ) (slot : Slot) → CellHolds payload 0 i key slot → ⊥
 none_held payload i key slot h = let pos = h.behind in let low = h.within in omega (arith, pos, low)
 
 no_slot : (key : List ℕ) (slot : Slot) → slot_at no_slots key ≡ Some slot → ⊥
@@ -132,14 +132,14 @@ none_known narrow payload cell_of alone_in is_free keys alone free = record {
   spare = λ i far low none. absurd (omega (arith, far, low));
 }
 
-module _ (row : List (Option (List ℕ))) (place : ℕ → Place) (total : ℕ) (slots : Slots) (all : Show (narrow_in row) (cell_in row) total slots) (few : slot_count slots ≤ 4096) where
+module _ (row : List (Option (List ℕ))) (place : ℕ → CellPlace) (total : ℕ) (slots : Slots) (all : Show (narrow_in row) (cell_in row) total slots) (few : slot_count slots ≤ 4096) where
   abbrev narrow : ℕ
   narrow = narrow_in row
 
   abbrev payload : ℕ → Option (List ℕ)
   payload = cell_in row
 
-  within : (n i : ℕ) (key : List ℕ) (slot : Slot) → n ≤ total → Holds payload n i key slot → Holds payload total i key slot
+  within : (n i : ℕ) (key : List ℕ) (slot : Slot) → n ≤ total → CellHolds payload n i key slot → CellHolds payload total i key slot
   within n i key slot low h = record { behind = h.behind; within = (let near = h.within in omega (arith, near, low)); holds = h.holds }
 
   -- slots in some of the cells are among those in all
@@ -147,7 +147,7 @@ module _ (row : List (Option (List ℕ))) (place : ℕ → Place) (total : ℕ) 
   among n some low show key slot e = let h = show.there key slot e in all.kept h.0 key slot (within n h.0 key slot low h.1)
 
   module _ (n : ℕ) (low : suc n ≤ total) (before : IsReadUpTo row place n) where
-    abbrev read : Read
+    abbrev read : ReadSlots
     read = before.read
 
     behind_nothing : entry_held (payload (suc n)) ≡ Ok None → IsReadUpTo row place (suc n)
@@ -174,7 +174,7 @@ module _ (row : List (Option (List ℕ))) (place : ℕ → Place) (total : ℕ) 
         }
 
     module _ (key : List ℕ) (slot : Slot) (holds : entry_held (payload (suc n)) ≡ Ok (Some (key, slot))) where
-      this : Holds payload total (suc n) key slot
+      this : CellHolds payload total (suc n) key slot
       this = record { behind = omega arith; within = low; holds = holds }
 
       not_free : before.free (suc n) ≡ false
@@ -187,7 +187,7 @@ module _ (row : List (Option (List ℕ))) (place : ℕ → Place) (total : ℕ) 
       behind_twin : (v : ℕ) → read.1 key ≡ Some v → IsReadUpTo row place (suc n)
       behind_twin v alone =
           let h = before.known.alone key v alone in
-          let first : Holds payload total v key h.2.0 = within n v key h.2.0 (omega (arith, low)) h.2.1 in
+          let first : CellHolds payload total v key h.2.0 = within n v key h.2.0 (omega (arith, low)) h.2.1 in
           let past = h.2.1.within in
           let two = all.once v (suc n) key h.2.0 slot first this (omega (arith, past)) in
           let far : narrow < suc n = two.1 in
@@ -197,7 +197,7 @@ module _ (row : List (Option (List ℕ))) (place : ℕ → Place) (total : ℕ) 
             is = read_twin row place n read before.is key slot holds (ap (is_twin row (suc n)) alone ∙ twin_is row (suc n) v (key, slot) far two.2 holds);
             cells = moved before.cells key (suc n);
             free = before.free;
-            show = twin_shows narrow payload payload n (suc n) (suc n) (next_step payload n (suc n) (omega arith)) read.0 before.show key slot holds v h.0 far (subst (λ (s : Slot). Holds payload n v key s) (sym same) h.2.1)
+            show = twin_shows narrow payload payload n (suc n) (suc n) (next_step payload n (suc n) (omega arith)) read.0 before.show key slot holds v h.0 far (subst (λ (s : Slot). CellHolds payload n v key s) (sym same) h.2.1)
                 (only_there narrow payload n before.cells read.1 before.free before.known key v alone) two.2;
             known = wide_known narrow payload payload n (suc n) (suc n) (next_step payload n (suc n) (omega arith)) read.0 before.show key slot holds before.cells read.1 (removed read.1 key) before.free before.free far before.known
                 h.1 (λ q apart. removed_other read.1 key q apart) (removed_own read.1 key key refl) not_free (λ i other. refl);
@@ -215,7 +215,7 @@ module _ (row : List (Option (List ℕ))) (place : ℕ → Place) (total : ℕ) 
               let two = all.once h.0 (suc n) key s slot (within n h.0 key s (omega (arith, low)) h.1) this (omega (arith, past)) in
               by_cell h.0 s h.1 two.0 (before.cells key) refl
             where
-              by_cell : (i : ℕ) (t : Slot) → Holds payload n i key t → i ≤ narrow → (o : Option ℕ) → before.cells key ≡ o → slot_at read.0 key ≡ None
+              by_cell : (i : ℕ) (t : Slot) → CellHolds payload n i key t → i ≤ narrow → (o : Option ℕ) → before.cells key ≡ o → slot_at read.0 key ≡ None
               by_cell i t h near None e' = absurd (no_number i (sym none ∙ before.known.lone i key t h near e'))
               by_cell i t h near (Some u) e' =
                   let o = before.known.own key u e' in
@@ -264,7 +264,7 @@ module _ (row : List (Option (List ℕ))) (place : ℕ → Place) (total : ℕ) 
       by_alone None e = behind_new e
       by_alone (Some v) e = behind_twin v e
 
-    by_entry : (entry : Option Entry) → entry_held (payload (suc n)) ≡ Ok entry → IsReadUpTo row place (suc n)
+    by_entry : (entry : Option KeyedSlot) → entry_held (payload (suc n)) ≡ Ok entry → IsReadUpTo row place (suc n)
     by_entry None holds = behind_nothing holds
     by_entry (Some entry) holds = by_alone entry.0 entry.1 holds (read.1 entry.0) refl
 
@@ -299,7 +299,7 @@ module _ (row : List (Option (List ℕ))) (place : ℕ → Place) (total : ℕ) 
 -- ---- what a disk is
 
 -- cells that show the slots, behind a head that tells them and the ages, are a shelf with these contents
-pub in_cells : (row : List (Option (List ℕ))) (contents : Contents) (place : ℕ → Place) → IsRow row → head_of (head_in row) ≡ Ok (head_for row contents.ages) → Show (narrow_in row) (cell_in row) (count_in row) contents.slots → slot_count contents.slots ≤ 4096 → left_in place row ≡ Ok contents
+pub in_cells : (row : List (Option (List ℕ))) (contents : Contents) (place : ℕ → CellPlace) → IsRow row → head_of (head_in row) ≡ Ok (head_for row contents.ages) → Show (narrow_in row) (cell_in row) (count_in row) contents.slots → slot_count contents.slots ≤ 4096 → left_in place row ≡ Ok contents
 in_cells [] contents place row told show few = absurd row
 in_cells (None ∷ cells) contents place row told show few = absurd row
 in_cells (Some head ∷ cells) contents place row told show few =
@@ -307,7 +307,7 @@ in_cells (Some head ∷ cells) contents place row told show few =
     ∙ all_read (Some head ∷ cells) place (count_told head) contents.slots show few contents.ages
 
 -- a disk that stands for such cells is a shelf with them
-pub read_spelled : (row : List (Option (List ℕ))) (contents : Contents) (disk : List ℕ) → IsRow row → head_of (head_in row) ≡ Ok (head_for row contents.ages) → Show (narrow_in row) (cell_in row) (count_in row) contents.slots → slot_count contents.slots ≤ 4096 → StandsFor row disk → left_on disk ≡ Ok contents
+pub read_spelled : (row : List (Option (List ℕ))) (contents : Contents) (disk : List ℕ) → IsRow row → head_of (head_in row) ≡ Ok (head_for row contents.ages) → Show (narrow_in row) (cell_in row) (count_in row) contents.slots → slot_count contents.slots ≤ 4096 → IsImageOf row disk → left_on disk ≡ Ok contents
 unfolding left_on
 read_spelled row contents disk is_row told show few stands =
     ap (λ (o : Option ℕ). left_by o disk) stands.sound
@@ -345,25 +345,25 @@ in_step_shows row contents cell_of is_free is_row is = record {
     there : (i : ℕ) → i ≤ count_in row → (cell : Option (List ℕ)) × (slice_get row i ≡ Some cell)
     there i low = get_some row i (omega (arith, low, row_length row is_row))
 
-    known_entry : (i : ℕ) (r : Result (Option Entry) ℕ) → IsKnown (narrow_in row) cell_of is_free i r → (entry : Option Entry) × (r ≡ Ok entry)
+    known_entry : (i : ℕ) (r : Result (Option KeyedSlot) ℕ) → CellIsKnown (narrow_in row) cell_of is_free i r → (entry : Option KeyedSlot) × (r ≡ Ok entry)
     known_entry i (Ok entry) known = (entry, refl)
     known_entry i (Err at) known = absurd known
 
-    key_by : (i : ℕ) (key : List ℕ) (slot : Slot) (r : Result (Option Entry) ℕ) → r ≡ Ok (Some (key, slot)) → IsKnown (narrow_in row) cell_of is_free i r → cell_of key ≡ Some i
-    key_by i key slot r e known = subst (IsKnown (narrow_in row) cell_of is_free i) e known
+    key_by : (i : ℕ) (key : List ℕ) (slot : Slot) (r : Result (Option KeyedSlot) ℕ) → r ≡ Ok (Some (key, slot)) → CellIsKnown (narrow_in row) cell_of is_free i r → cell_of key ≡ Some i
+    key_by i key slot r e known = subst (CellIsKnown (narrow_in row) cell_of is_free i) e known
 
-    key_of : (i : ℕ) (key : List ℕ) (slot : Slot) → Holds (cell_in row) (count_in row) i key slot → cell_of key ≡ Some i
+    key_of : (i : ℕ) (key : List ℕ) (slot : Slot) → CellHolds (cell_in row) (count_in row) i key slot → cell_of key ≡ Some i
     key_of i key slot h =
         let c = there i h.within in
         key_by i key slot (entry_held c.0) (ap entry_held (sym (cell_is row i c.0 c.1)) ∙ h.holds) (is.each i c.0 h.behind c.1)
 
     slot_is : (i : ℕ) (key : List ℕ) (s t : Slot) (cell : Option (List ℕ)) → slice_get row i ≡ Some cell → entry_held cell ≡ Ok (Some (key, s)) → entry_held (cell_in row i) ≡ Ok (Some (key, t)) → s ≡ t
     slot_is i key s t cell is holds other =
-        let same : ◌≡◌ {A = Result (Option Entry) ℕ} (Ok (Some (key, s))) (Ok (Some (key, t))) = sym holds ∙ ap entry_held (sym (cell_is row i cell is)) ∙ other in
-        let entry : ◌≡◌ {A = Entry} (key, s) (key, t) = cc in
-        ap (λ (e : Entry). e.1) entry
+        let same : ◌≡◌ {A = Result (Option KeyedSlot) ℕ} (Ok (Some (key, s))) (Ok (Some (key, t))) = sym holds ∙ ap entry_held (sym (cell_is row i cell is)) ∙ other in
+        let entry : ◌≡◌ {A = KeyedSlot} (key, s) (key, t) = cc in
+        ap (λ (e : KeyedSlot). e.1) entry
 
-    by_cell : (key : List ℕ) (slot : Slot) → slot_at contents.slots key ≡ Some slot → (o : Option ℕ) → cell_of key ≡ o → (i : ℕ) × Holds (cell_in row) (count_in row) i key slot
+    by_cell : (key : List ℕ) (slot : Slot) → slot_at contents.slots key ≡ Some slot → (o : Option ℕ) → cell_of key ≡ o → (i : ℕ) × CellHolds (cell_in row) (count_in row) i key slot
     by_cell key slot e None own = absurd (let no : None ≡ Some slot = sym (is.none key own) ∙ e in cc)
     by_cell key slot e (Some i) own =
         let held = is.held key i own in
@@ -379,16 +379,16 @@ in_step_shows row contents cell_of is_free is_row is = record {
         )
 
 -- and so is one that stands for the cells of a shelf with these contents
-pub spelled : (cells : List (Option (List ℕ))) (contents : Contents) (cell_of : List ℕ → Option ℕ) (is_free : ℕ → Bool) (disk : List ℕ) → IsRow cells → AreOf cells contents cell_of is_free → StandsFor cells disk → left_on disk ≡ Ok contents
+pub spelled : (cells : List (Option (List ℕ))) (contents : Contents) (cell_of : List ℕ → Option ℕ) (is_free : ℕ → Bool) (disk : List ℕ) → IsRow cells → AreOf cells contents cell_of is_free → IsImageOf cells disk → left_on disk ≡ Ok contents
 spelled cells contents cell_of is_free disk row are stands =
     read_spelled cells contents disk row (ap head_of are.head ∙ head_again _ are.fits) (in_step_shows cells contents cell_of is_free row are.in_step) are.few stands
 
 module _ {D : Type 0} (tells : Type 0) (seen : D → List ℕ) (may_leave : D → List ℕ → Type 0) where
   -- each image of a shelf that is up spells its contents
-  pub up_spells : (shelf : DiskShelf D) → IsUp tells seen may_leave shelf → tells → (c : List ℕ) → may_leave (disk_of shelf) c → left_on c ≡ Ok (contents_of shelf)
+  pub up_spells : (shelf : DiskShelf D) → ShelfIsUp tells seen may_leave shelf → tells → (c : List ℕ) → may_leave (disk_of shelf) c → left_on c ≡ Ok (contents_of shelf)
   up_spells shelf up t c left =
       spelled (cells.cells_of shelf.cells) (contents_of shelf) _ _ c up.row.row up.memory.shown (crash_leaves tells seen may_leave shelf.cells up.row t c left)
 
   -- so a crash of it leaves them and nothing else
-  pub up_is_left : (shelf : DiskShelf D) → IsUp tells seen may_leave shelf → tells → OnlyLeaves (contents_of shelf) (MayLeave may_leave shelf)
+  pub up_is_left : (shelf : DiskShelf D) → ShelfIsUp tells seen may_leave shelf → tells → OnlyLeaves (contents_of shelf) (ShelfMayLeave may_leave shelf)
   up_is_left shelf up t left may = may.2 ∙ up_spells shelf up t may.0 may.1

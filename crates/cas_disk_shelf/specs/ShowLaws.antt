@@ -3,10 +3,10 @@ use Rattle.std.proofs.Common.{◌≡◌, ◌≢◌, ℕ, ◌+◌, ◌<◌, ◌�
 use Rattle.std.proofs.lemmas.Bool.{cases_eq, cases_lt}
 use Rattle.cas_slot.specs.declared.slot.Slot.{Slot}
 use Rattle.cas_slot.specs.Slots.{Slots, slot_at, with_slot}
-use Rattle.cas_disk_shelf.specs.Cell.{Entry}
+use Rattle.cas_disk_shelf.specs.Cell.{KeyedSlot}
 use Rattle.cas_disk_shelf.specs.Image.{entry_held, moved}
 use Rattle.cas_disk_shelf.specs.KeyLaws.{by_key, put_same, put_other, moved_own, moved_other}
-use Rattle.cas_disk_shelf.specs.Memory.{Holds, Show, AreKnown}
+use Rattle.cas_disk_shelf.specs.Memory.{CellHolds, Show, AreKnown}
 
 no_slot : (s : Slot) → None ≡ Some s → ⊥
 no_slot s e = cc
@@ -20,18 +20,18 @@ one_number i j e = cc
 one_slot : (s t : Slot) → Some s ≡ Some t → s ≡ t
 one_slot s t e = cc
 
-nothing_held : (e : Entry) (r : Result (Option Entry) ℕ) → r ≡ Ok None → r ≡ Ok (Some e) → ⊥
+nothing_held : (e : KeyedSlot) (r : Result (Option KeyedSlot) ℕ) → r ≡ Ok None → r ≡ Ok (Some e) → ⊥
 nothing_held e r is other = cc
 
-one_entry : (x y : Entry) (r : Result (Option Entry) ℕ) → r ≡ Ok (Some x) → r ≡ Ok (Some y) → (x.0 ≡ y.0) × (x.1 ≡ y.1)
+one_entry : (x y : KeyedSlot) (r : Result (Option KeyedSlot) ℕ) → r ≡ Ok (Some x) → r ≡ Ok (Some y) → (x.0 ≡ y.0) × (x.1 ≡ y.1)
 one_entry x y r e f =
     let same : x ≡ y = cc in
-    (ap (λ (z : Entry). z.0) same, ap (λ (z : Entry). z.1) same)
+    (ap (λ (z : KeyedSlot). z.0) same, ap (λ (z : KeyedSlot). z.1) same)
 
 -- of the first m cells cell w is new or changed, and held no slot before; the others are the first n as they were
 pub record IsStep (old new : ℕ → Option (List ℕ)) (n m w : ℕ) : Type 0 where
   pub same : (i : ℕ) → 0 < i → i ≤ n → i ≢ w → new i ≡ old i
-  pub vacant : (key : List ℕ) (slot : Slot) → Holds old n w key slot → ⊥
+  pub vacant : (key : List ℕ) (slot : Slot) → CellHolds old n w key slot → ⊥
   pub more : n ≤ m
   pub behind : 0 < w
   pub within : w ≤ m
@@ -49,24 +49,24 @@ next_step payload n m next = record {
 }
 
 module _ (narrow : ℕ) (old new : ℕ → Option (List ℕ)) (n m w : ℕ) (step : IsStep old new n m w) where
-  still : (i : ℕ) (key : List ℕ) (slot : Slot) → Holds old n i key slot → Holds new m i key slot
+  still : (i : ℕ) (key : List ℕ) (slot : Slot) → CellHolds old n i key slot → CellHolds new m i key slot
   still i key slot h = elim (cases_eq i w) [
-    | inl same ↦ absurd (step.vacant key slot (subst (λ (j : ℕ). Holds old n j key slot) same h))
+    | inl same ↦ absurd (step.vacant key slot (subst (λ (j : ℕ). CellHolds old n j key slot) same h))
     | inr other ↦ record { behind = h.behind; within = (let low = h.within in let more = step.more in omega (arith, low, more)); holds = ap entry_held (step.same i h.behind h.within other) ∙ h.holds }
   ]
 
-  was : (i : ℕ) (key : List ℕ) (slot : Slot) → Holds new m i key slot → i ≢ w → Holds old n i key slot
+  was : (i : ℕ) (key : List ℕ) (slot : Slot) → CellHolds new m i key slot → i ≢ w → CellHolds old n i key slot
   was i key slot h other =
       let low : i ≤ n = step.only i h.within other in
       record { behind = h.behind; within = low; holds = ap entry_held (sym (step.same i h.behind low other)) ∙ h.holds }
 
-  at_w : (i : ℕ) (key : List ℕ) (slot : Slot) → Holds new m i key slot → i ≡ w → entry_held (new w) ≡ Ok (Some (key, slot))
+  at_w : (i : ℕ) (key : List ℕ) (slot : Slot) → CellHolds new m i key slot → i ≡ w → entry_held (new w) ≡ Ok (Some (key, slot))
   at_w i key slot h same = ap (λ (j : ℕ). entry_held (new j)) (sym same) ∙ h.holds
 
   same_entry : (i : ℕ) → 0 < i → i ≤ n → i ≢ w → entry_held (new i) ≡ entry_held (old i)
   same_entry i pos low other = ap entry_held (step.same i pos low other)
 
-  each_read : (slots : Slots) → Show narrow old n slots → (entry : Option Entry) → entry_held (new w) ≡ Ok entry → (i : ℕ) → 0 < i → i ≤ m → (e : Option Entry) × (entry_held (new i) ≡ Ok e)
+  each_read : (slots : Slots) → Show narrow old n slots → (entry : Option KeyedSlot) → entry_held (new w) ≡ Ok entry → (i : ℕ) → 0 < i → i ≤ m → (e : Option KeyedSlot) × (entry_held (new i) ≡ Ok e)
   each_read slots is entry here i pos low = elim (cases_eq i w) [
     | inl same ↦ (entry, ap (λ (j : ℕ). entry_held (new j)) same ∙ here)
     | inr other ↦
@@ -76,7 +76,7 @@ module _ (narrow : ℕ) (old new : ℕ → Option (List ℕ)) (n m w : ℕ) (ste
   ]
 
   -- two cells that both were there
-  once_before : (slots : Slots) → Show narrow old n slots → (i j : ℕ) (key : List ℕ) (s t : Slot) → Holds new m i key s → Holds new m j key t → i ≢ w → j ≢ w → i < j → (i ≤ narrow) × (narrow < j) × (new i ≡ new j)
+  once_before : (slots : Slots) → Show narrow old n slots → (i j : ℕ) (key : List ℕ) (s t : Slot) → CellHolds new m i key s → CellHolds new m j key t → i ≢ w → j ≢ w → i < j → (i ≤ narrow) × (narrow < j) × (new i ≡ new j)
   once_before slots is i j key s t h k ni nj less =
       let a = was i key s h ni in
       let b = was j key t k nj in
@@ -86,7 +86,7 @@ module _ (narrow : ℕ) (old new : ℕ → Option (List ℕ)) (n m w : ℕ) (ste
   module _ (slots : Slots) (is : Show narrow old n slots) where
     -- the cell holds no slot
     module _ (nothing : entry_held (new w) ≡ Ok None) where
-      away : (i : ℕ) (key : List ℕ) (slot : Slot) → Holds new m i key slot → i ≢ w
+      away : (i : ℕ) (key : List ℕ) (slot : Slot) → CellHolds new m i key slot → i ≢ w
       away i key slot h = λ same. nothing_held (key, slot) (entry_held (new w)) nothing (at_w i key slot h same)
 
       pub nothing_shows : Show narrow new m slots
@@ -127,15 +127,15 @@ module _ (narrow : ℕ) (old new : ℕ → Option (List ℕ)) (n m w : ℕ) (ste
 
     -- the cell holds this slot
     module _ (key : List ℕ) (slot : Slot) (here : entry_held (new w) ≡ Ok (Some (key, slot))) where
-      this : Holds new m w key slot
+      this : CellHolds new m w key slot
       this = record { behind = step.behind; within = step.within; holds = here }
 
-      key_at : (i : ℕ) (q : List ℕ) (s : Slot) → Holds new m i q s → i ≡ w → (q ≡ key) × (s ≡ slot)
+      key_at : (i : ℕ) (q : List ℕ) (s : Slot) → CellHolds new m i q s → i ≡ w → (q ≡ key) × (s ≡ slot)
       key_at i q s h same = one_entry (q, s) (key, slot) (entry_held (new w)) (at_w i q s h same) here
 
       -- of a new key
       module _ (unknown : slot_at slots key ≡ None) where
-        other_key : (i : ℕ) (q : List ℕ) (s : Slot) → Holds old n i q s → q ≢ key
+        other_key : (i : ℕ) (q : List ℕ) (s : Slot) → CellHolds old n i q s → q ≢ key
         other_key i q s h = λ same. no_slot s (sym unknown ∙ ap (slot_at slots) (sym same) ∙ is.kept i q s h)
 
         pub new_shows : Show narrow new m (with_slot slots key slot)
@@ -148,7 +148,7 @@ module _ (narrow : ℕ) (old new : ℕ → Option (List ℕ)) (n m w : ℕ) (ste
           there = λ q s e. by_key q key
               (λ same.
               let own : slot ≡ s = one_slot slot s (sym (put_same slots key slot q same) ∙ e) in
-              (w, subst (λ (p : List ℕ × Slot). Holds new m w p.0 p.1) (λ t. (sym same t, own t)) this))
+              (w, subst (λ (p : List ℕ × Slot). CellHolds new m w p.0 p.1) (λ t. (sym same t, own t)) this))
               (λ other. let h = is.there q s (sym (put_other slots key slot q other) ∙ e) in (h.0, still h.0 q s h.1));
           once = λ i j q s t h k less. elim (cases_eq i w) [
             | inl first ↦ elim (cases_eq j w) [
@@ -185,7 +185,7 @@ module _ (narrow : ℕ) (old new : ℕ → Option (List ℕ)) (n m w : ℕ) (ste
           alone = λ q i e. by_key key q
               (λ same.
               let it : w ≡ i = one_number w i (sym (moved_own alone_in key w q same) ∙ e) in
-              ((omega (arith, near, it)), ap cell_of (sym same) ∙ (none_of cell_of alone_in is_free known).0, (slot, subst (λ (p : ℕ × List ℕ). Holds new m p.0 p.1 slot) (λ t. (it t, same t)) this)))
+              ((omega (arith, near, it)), ap cell_of (sym same) ∙ (none_of cell_of alone_in is_free known).0, (slot, subst (λ (p : ℕ × List ℕ). CellHolds new m p.0 p.1 slot) (λ t. (it t, same t)) this)))
               (λ other. let h = known.alone q i (sym (moved_other alone_in key w q other) ∙ e) in (h.0, h.1, (h.2.0, still i q h.2.0 h.2.1)));
           free = λ i f.
               let h = known.free i f in
@@ -217,7 +217,7 @@ module _ (narrow : ℕ) (old new : ℕ → Option (List ℕ)) (n m w : ℕ) (ste
         own = λ q i e. by_key key q
             (λ same.
             let it : w ≡ i = one_number w i (sym (moved_own cell_of key w q same) ∙ e) in
-            ((omega (arith, far, it)), (slot, subst (λ (p : ℕ × List ℕ). Holds new m p.0 p.1 slot) (λ t. (it t, same t)) this)))
+            ((omega (arith, far, it)), (slot, subst (λ (p : ℕ × List ℕ). CellHolds new m p.0 p.1 slot) (λ t. (it t, same t)) this)))
             (λ apart. let h = known.own q i (sym (moved_other cell_of key w q apart) ∙ e) in (h.0, (h.1.0, still i q h.1.0 h.1.1)));
         alone = λ q i e. by_key key q
             (λ same. absurd (no_number i (sym gone ∙ ap alone_in' same ∙ e)))
@@ -242,7 +242,7 @@ module _ (narrow : ℕ) (old new : ℕ → Option (List ℕ)) (n m w : ℕ) (ste
       }
 
       -- with the payload of the only narrow cell that holds the key
-      pub twin_shows : (v : ℕ) → v ≤ narrow → narrow < w → Holds old n v key slot → ((j : ℕ) (t : Slot) → Holds old n j key t → j ≡ v) → old v ≡ new w → Show narrow new m slots
+      pub twin_shows : (v : ℕ) → v ≤ narrow → narrow < w → CellHolds old n v key slot → ((j : ℕ) (t : Slot) → CellHolds old n j key t → j ≡ v) → old v ≡ new w → Show narrow new m slots
       twin_shows v near far first only equal = record {
         each = each_read slots is (Some (key, slot)) here;
         kept = λ i q s h. elim (cases_eq i w) [
@@ -254,13 +254,13 @@ module _ (narrow : ℕ) (old new : ℕ → Option (List ℕ)) (n m w : ℕ) (ste
           | inl same ↦
               let nj : j ≢ w = λ second. absurd (omega (arith, same, second, less)) in
               let q_is = (key_at i q s h same).0 in
-              let it : j ≡ v = only j t (subst (λ (p : List ℕ). Holds old n j p t) q_is (was j q t k nj)) in
+              let it : j ≡ v = only j t (subst (λ (p : List ℕ). CellHolds old n j p t) q_is (was j q t k nj)) in
               absurd (omega (arith, it, same, less, near, far))
           | inr ni ↦ elim (cases_eq j w) [
             | inl same ↦
                 let q_is = (key_at j q t k same).0 in
                 let a = was i q s h ni in
-                let it : i ≡ v = only i s (subst (λ (p : List ℕ). Holds old n i p s) q_is a) in
+                let it : i ≡ v = only i s (subst (λ (p : List ℕ). CellHolds old n i p s) q_is a) in
                 ((omega (arith, it, near)), (omega (arith, same, far)), step.same i a.behind a.within ni ∙ ap old it ∙ equal ∙ ap new (sym same))
             | inr nj ↦ once_before slots is i j q s t h k ni nj less
           ]
@@ -268,7 +268,7 @@ module _ (narrow : ℕ) (old new : ℕ → Option (List ℕ)) (n m w : ℕ) (ste
       }
 
 -- a key that stands in a narrow cell alone is in no other cell
-pub only_there : (narrow : ℕ) (payload : ℕ → Option (List ℕ)) (n : ℕ) (cell_of alone_in : List ℕ → Option ℕ) (is_free : ℕ → Bool) → AreKnown narrow payload n cell_of alone_in is_free → (key : List ℕ) (v : ℕ) → alone_in key ≡ Some v → (j : ℕ) (t : Slot) → Holds payload n j key t → j ≡ v
+pub only_there : (narrow : ℕ) (payload : ℕ → Option (List ℕ)) (n : ℕ) (cell_of alone_in : List ℕ → Option ℕ) (is_free : ℕ → Bool) → AreKnown narrow payload n cell_of alone_in is_free → (key : List ℕ) (v : ℕ) → alone_in key ≡ Some v → (j : ℕ) (t : Slot) → CellHolds payload n j key t → j ≡ v
 only_there narrow payload n cell_of alone_in is_free known key v alone j t h =
     let none = (known.alone key v alone).1 in
     elim (cases_lt narrow j) [
@@ -277,17 +277,17 @@ only_there narrow payload n cell_of alone_in is_free known key v alone j t h =
     ]
 
 -- the slot of a narrow cell is taken out of it, where its key stands in a wide cell too
-module _ (narrow : ℕ) (old new : ℕ → Option (List ℕ)) (n v : ℕ) (key : List ℕ) (slot : Slot) (near : v ≤ narrow) (same : (i : ℕ) → i ≢ v → new i ≡ old i) (nothing : entry_held (new v) ≡ Ok None) (held : Holds old n v key slot) where
-  apart_from : (i : ℕ) (q : List ℕ) (s : Slot) → Holds new n i q s → i ≢ v
+module _ (narrow : ℕ) (old new : ℕ → Option (List ℕ)) (n v : ℕ) (key : List ℕ) (slot : Slot) (near : v ≤ narrow) (same : (i : ℕ) → i ≢ v → new i ≡ old i) (nothing : entry_held (new v) ≡ Ok None) (held : CellHolds old n v key slot) where
+  apart_from : (i : ℕ) (q : List ℕ) (s : Slot) → CellHolds new n i q s → i ≢ v
   apart_from i q s h = λ it. nothing_held (q, s) (entry_held (new v)) nothing (ap (λ (j : ℕ). entry_held (new j)) (sym it) ∙ h.holds)
 
-  before : (i : ℕ) (q : List ℕ) (s : Slot) → Holds new n i q s → Holds old n i q s
+  before : (i : ℕ) (q : List ℕ) (s : Slot) → CellHolds new n i q s → CellHolds old n i q s
   before i q s h = record { behind = h.behind; within = h.within; holds = ap entry_held (sym (same i (apart_from i q s h))) ∙ h.holds }
 
-  after : (i : ℕ) (q : List ℕ) (s : Slot) → Holds old n i q s → i ≢ v → Holds new n i q s
+  after : (i : ℕ) (q : List ℕ) (s : Slot) → CellHolds old n i q s → i ≢ v → CellHolds new n i q s
   after i q s h other = record { behind = h.behind; within = h.within; holds = ap entry_held (same i other) ∙ h.holds }
 
-  key_there : (i : ℕ) (q : List ℕ) (s : Slot) → Holds old n i q s → i ≡ v → q ≡ key
+  key_there : (i : ℕ) (q : List ℕ) (s : Slot) → CellHolds old n i q s → i ≡ v → q ≡ key
   key_there i q s h it = (one_entry (q, s) (key, slot) (entry_held (old v)) (ap (λ (j : ℕ). entry_held (old j)) (sym it) ∙ h.holds) held.holds).0
 
   module _ (cell_of alone_in : List ℕ → Option ℕ) (is_free : ℕ → Bool) (known : AreKnown narrow old n cell_of alone_in is_free) (u : ℕ) (own : cell_of key ≡ Some u) where
@@ -308,7 +308,7 @@ module _ (narrow : ℕ) (old new : ℕ → Option (List ℕ)) (n v : ℕ) (key :
                 | inl it ↦
                     let q_is : q ≡ key = key_there h.0 q s h.1 it in
                     let s_is : other.1.0 ≡ s = one_slot other.1.0 s (sym (is.kept u key other.1.0 other.1.1) ∙ ap (slot_at slots) (sym q_is) ∙ e) in
-                    (u, subst (λ (p : List ℕ × Slot). Holds new n u p.0 p.1) (λ t. (sym q_is t, s_is t)) (after u key other.1.0 other.1.1 apart))
+                    (u, subst (λ (p : List ℕ × Slot). CellHolds new n u p.0 p.1) (λ t. (sym q_is t, s_is t)) (after u key other.1.0 other.1.1 apart))
                 | inr away ↦ (h.0, after h.0 q s h.1 away)
               ];
           once = λ i j q s t h k less.
@@ -336,10 +336,10 @@ module _ (narrow : ℕ) (old new : ℕ → Option (List ℕ)) (n v : ℕ) (key :
 
 -- the same cells behind the head
 module _ (narrow : ℕ) (old new : ℕ → Option (List ℕ)) (n : ℕ) (same : (i : ℕ) → 0 < i → new i ≡ old i) where
-  there_too : (i : ℕ) (key : List ℕ) (slot : Slot) → Holds old n i key slot → Holds new n i key slot
+  there_too : (i : ℕ) (key : List ℕ) (slot : Slot) → CellHolds old n i key slot → CellHolds new n i key slot
   there_too i key slot h = record { behind = h.behind; within = h.within; holds = ap entry_held (same i h.behind) ∙ h.holds }
 
-  there_before : (i : ℕ) (key : List ℕ) (slot : Slot) → Holds new n i key slot → Holds old n i key slot
+  there_before : (i : ℕ) (key : List ℕ) (slot : Slot) → CellHolds new n i key slot → CellHolds old n i key slot
   there_before i key slot h = record { behind = h.behind; within = h.within; holds = ap entry_held (sym (same i h.behind)) ∙ h.holds }
 
   pub same_shows : (slots : Slots) → Show narrow old n slots → Show narrow new n slots

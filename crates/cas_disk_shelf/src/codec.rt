@@ -7,7 +7,7 @@ ghost use Rattle.cas_wire.specs.Reading.{rise_at};
 ghost use Rattle.cas_change.specs.Key.{IsKey};
 ghost use Rattle.cas_slot.specs.Limits.{SlotBallotsFit};
 ghost use Rattle.cas_disk_shelf.specs.Head.{head_spelling, head_of, new_head_of, old_head_of, is_old, count_at, ages_end, IsSpelledHead, unlike_at, numbers_spelling, number_from, ages_in};
-ghost use Rattle.cas_disk_shelf.specs.Cell.{cell_spelling, FitsSlot, IsFound, FoundBallotsFit, IsReadSoFar};
+ghost use Rattle.cas_disk_shelf.specs.Cell.{cell_spelling, FitsSlot, IsSpelledByPayload, FoundBallotsFit, IsReadSoFar};
 
 use byteorder::{BigEndian, ByteOrder};
 use cas_ballot::Ballot;
@@ -237,7 +237,7 @@ pub fn spell_slot(alloc: Global, key: &Key, slot: &Slot) -> Result<Vec<u8>, Allo
 
 /// What a payload behind the head is.
 pub fn read_cell(alloc: Global, bytes: &[u8]) -> Result<Found, AllocError>
-    ensures found { IfOk result (IsFound bytes.now) }
+    ensures found { IfOk result (IsSpelledByPayload bytes.now) }
     ensures fits { IfOk result FoundBallotsFit }
 {
     let Some((kind, rest)) = bytes.split_first() else {
@@ -258,7 +258,7 @@ pub fn read_cell(alloc: Global, bytes: &[u8]) -> Result<Found, AllocError>
 
 /// What a payload is that has these bytes behind its kind.
 fn read_entry(alloc: Global, bytes: &[u8]) -> Result<Found, AllocError>
-    ensures found { IfOk result (IsFound (1 ∷ bytes.now)) }
+    ensures found { IfOk result (IsSpelledByPayload (1 ∷ bytes.now)) }
     ensures fits { IfOk result FoundBallotsFit }
 {
     match take_key(alloc, bytes)? {
@@ -283,7 +283,7 @@ fn read_accepted(
 ) -> Result<Found, AllocError>
     requires so_far { IsReadSoFar bytes.now from key promise }
     requires fits { FitsBallot promise }
-    ensures found { IfOk result (IsFound (1 ∷ bytes.now)) }
+    ensures found { IfOk result (IsSpelledByPayload (1 ∷ bytes.now)) }
     ensures fits { IfOk result FoundBallotsFit }
 {
     match take_accepted(alloc, &bytes[from..])? {

@@ -5,10 +5,10 @@ ghost use Rattle.cas_slot.specs.Contents.{kept_at, with_kept};
 ghost use Rattle.cas_slot.specs.Limits.{AllBallotsFit, SlotBallotsFit};
 ghost use Rattle.std.specs.BTreeSet.{btree_set_len};
 ghost use Rattle.cas_slot.specs.Slots.{no_slots};
-ghost use Rattle.cas_cells.specs.Cells.{Stands, cells_of, disk_of};
+ghost use Rattle.cas_cells.specs.Cells.{CellsStand, cells_of, disk_of};
 ghost use Rattle.cas_cells.specs.Format.{count_in, narrow_in};
 ghost use Rattle.cas_disk_shelf.specs.Image.{cell_in, entry_held, is_twin, left_in, moved, place_on, read_cells, removed, same_payload};
-ghost use Rattle.cas_disk_shelf.specs.Memory.{alone_in, cell_of, is_free, freed, AreCounted, IsCounted, IsLoadedFrom, IsReadFrom};
+ghost use Rattle.cas_disk_shelf.specs.Memory.{alone_in, cell_of, is_free, freed, AreCounted, CellsAreCounted, IsLoadedFrom, IsReadFrom};
 ghost use Rattle.cas_disk_shelf.specs.Loading.{IsHeadOf, IsOfLoading, IsReadTo};
 
 use crate::codec::{Found, Head, read_cell, read_head};
@@ -35,7 +35,7 @@ impl Memory {
         ensures held { result.held ≡ record { slots = no_slots; ages = ages } }
         ensures index { (key : List ℕ) → cell_of result key ≡ None }
         ensures free { (i : ℕ) → is_free result i ≡ false }
-        ensures counted { IsCounted result 0 }
+        ensures counted { CellsAreCounted result 0 }
     {
         Memory {
             held: Held::new(alloc, ages),
@@ -151,7 +151,7 @@ impl Loaded {
 /// What is loaded of the cells of a shelf. `Foreign` tells the first byte of their payloads, in rising order, that is not as the
 /// format demands.
 pub fn load<D: Disk>(alloc: Global, cells: &Cells<D>) -> Result<Loaded, ShelfFault>
-    requires { Stands D.tells D.seen D.may_leave cells.now }
+    requires { CellsStand D.tells D.seen D.may_leave cells.now }
     ensures read { IfOk result (IsReadFrom (cells_of cells.now)) }
     ensures fits { IfOk result (λ loaded. AllBallotsFit loaded.memory.held) }
     ensures foreign { D.tells → (at : ℕ) → IsErrOf result (ShelfFault.Foreign at) → left_in (place_on (D.seen (disk_of cells.now))) (cells_of cells.now) ≡ Err at }
@@ -167,7 +167,7 @@ pub fn load<D: Disk>(alloc: Global, cells: &Cells<D>) -> Result<Loaded, ShelfFau
 
 /// The head in cell 0.
 fn load_head<D: Disk>(cells: &Cells<D>) -> Result<Head, ShelfFault>
-    requires { Stands D.tells D.seen D.may_leave cells.now }
+    requires { CellsStand D.tells D.seen D.may_leave cells.now }
     ensures head { IfOk result (IsHeadOf (cells_of cells.now)) }
     ensures foreign { D.tells → (at : ℕ) → IsErrOf result (ShelfFault.Foreign at) → left_in (place_on (D.seen (disk_of cells.now))) (cells_of cells.now) ≡ Err at }
     ensures other { IsOfLoading result }
@@ -185,7 +185,7 @@ fn load_head<D: Disk>(cells: &Cells<D>) -> Result<Head, ShelfFault>
 
 /// Where the payload of a cell begins on the disk.
 fn place_of<D: Disk>(cells: &Cells<D>, cell: u32) -> u64
-    requires stands { Stands D.tells D.seen D.may_leave cells.now }
+    requires stands { CellsStand D.tells D.seen D.may_leave cells.now }
     requires within { cell ≤ count_in (cells_of cells.now) }
     ensures place { D.tells → result ≡ (place_on (D.seen (disk_of cells.now)) cell).1 }
     ensures small { result ≤ 9216 * (cell + 1) }
@@ -200,7 +200,7 @@ fn load_cell<D: Disk>(
     cells: &Cells<D>,
     so_many: u32,
 ) -> Result<(), ShelfFault>
-    requires stands { Stands D.tells D.seen D.may_leave cells.now }
+    requires stands { CellsStand D.tells D.seen D.may_leave cells.now }
     requires within { so_many < count_in (cells_of cells.now) }
     requires loaded { IsLoadedFrom (cells_of cells.now) so_many loaded.old }
     requires read { IsReadTo (cells_of cells.now) so_many loaded.old }
@@ -252,7 +252,7 @@ fn take_in<D: Disk>(
     key: Key,
     slot: Slot,
 ) -> Result<(), ShelfFault>
-    requires stands { Stands D.tells D.seen D.may_leave cells.now }
+    requires stands { CellsStand D.tells D.seen D.may_leave cells.now }
     requires within { so_many < count_in (cells_of cells.now) }
     requires holds { entry_held (cell_in (cells_of cells.now) (so_many + 1)) ≡ Ok (Some (key, slot)) }
     requires slot_fits { SlotBallotsFit slot }

@@ -6,7 +6,7 @@ ghost use Rattle.cas_slot.specs.declared.slot.Slot.{Slot};
 ghost use Rattle.cas_slot.specs.Shelf.{HasShelfCause, IsNeitherFullNorForeign};
 ghost use Rattle.cas_slot.specs.Slots.{slot_count};
 ghost use Rattle.cas_disk.specs.Disk.{ContinuesOnly};
-ghost use Rattle.cas_cells.specs.Cells.{Stands, cells_of, disk_of};
+ghost use Rattle.cas_cells.specs.Cells.{CellsStand, cells_of, disk_of};
 ghost use Rattle.cas_cells.specs.Format.{narrow_in, wide_in};
 ghost use Rattle.cas_cells.specs.Length.{NotLonger};
 ghost use Rattle.cas_disk_shelf.specs.Cell.{entry_in};
@@ -29,9 +29,9 @@ pub fn move_slots<D: Disk>(
     cells: &mut Cells<D>,
     loaded: &mut Loaded,
 ) -> Result<(), ShelfFault>
-    requires stands { Stands D.tells D.seen D.may_leave cells.old }
+    requires stands { CellsStand D.tells D.seen D.may_leave cells.old }
     requires moving { IsMoving (cells_of cells.old) loaded.old }
-    ensures stands { OnOk result (Stands D.tells D.seen D.may_leave cells.new) }
+    ensures stands { OnOk result (CellsStand D.tells D.seen D.may_leave cells.new) }
     ensures moving { OnOk result (IsMoving (cells_of cells.new) loaded.new) }
     ensures cleared { OnOk result (AreCleared (cells_of cells.new) (narrow_in (cells_of cells.new))) }
     ensures narrow { narrow_in (cells_of cells.new) ≡ narrow_in (cells_of cells.old) }
@@ -54,12 +54,12 @@ fn move_slot<D: Disk>(
     loaded: &mut Loaded,
     narrow: u32,
 ) -> Result<(), ShelfFault>
-    requires stands { Stands D.tells D.seen D.may_leave cells.old }
+    requires stands { CellsStand D.tells D.seen D.may_leave cells.old }
     requires moving { IsMoving (cells_of cells.old) loaded.old }
     requires behind { 0 < narrow }
     requires within { narrow ≤ narrow_in (cells_of cells.old) }
     requires cleared { AreCleared (cells_of cells.old) (narrow - 1) }
-    ensures stands { OnOk result (Stands D.tells D.seen D.may_leave cells.new) }
+    ensures stands { OnOk result (CellsStand D.tells D.seen D.may_leave cells.new) }
     ensures moving { OnOk result (IsMoving (cells_of cells.new) loaded.new) }
     ensures cleared { OnOk result (AreCleared (cells_of cells.new) narrow) }
     ensures narrow { narrow_in (cells_of cells.new) ≡ narrow_in (cells_of cells.old) }
@@ -92,13 +92,13 @@ fn copy_slot<D: Disk>(
     key: Key,
     payload: &[u8],
 ) -> Result<(), ShelfFault>
-    requires stands { Stands D.tells D.seen D.may_leave cells.old }
+    requires stands { CellsStand D.tells D.seen D.may_leave cells.old }
     requires moving { IsMoving (cells_of cells.old) loaded.old }
     requires behind { 0 < narrow }
     requires within { narrow ≤ narrow_in (cells_of cells.old) }
     requires own { cell_in (cells_of cells.old) narrow ≡ Some payload.now }
     requires holds { (slot : Slot) × (entry_in payload.now ≡ Ok (Some (key, slot))) }
-    ensures stands { OnOk result (Stands D.tells D.seen D.may_leave cells.new) }
+    ensures stands { OnOk result (CellsStand D.tells D.seen D.may_leave cells.new) }
     ensures moving { OnOk result (IsMoving (cells_of cells.new) loaded.new) }
     ensures wide { OnOk result (alone_in loaded.new key ≡ None) }
     ensures narrow { narrow_in (cells_of cells.new) ≡ narrow_in (cells_of cells.old) }
@@ -121,10 +121,10 @@ fn copy_slot<D: Disk>(
 
 /// The wide cell of the least number that holds no slot; where there is none, one that the disk is grown by.
 fn unused_cell<D: Disk>(cells: &mut Cells<D>, loaded: &mut Loaded) -> Result<u32, ShelfFault>
-    requires stands { Stands D.tells D.seen D.may_leave cells.old }
+    requires stands { CellsStand D.tells D.seen D.may_leave cells.old }
     requires moving { IsMoving (cells_of cells.old) loaded.old }
     requires some { 0 < index_map_len loaded.old.alone }
-    ensures stands { OnOk result (Stands D.tells D.seen D.may_leave cells.new) }
+    ensures stands { OnOk result (CellsStand D.tells D.seen D.may_leave cells.new) }
     ensures moving { OnOk result (IsMoving (cells_of cells.new) loaded.new) }
     ensures free { IfOk result (λ cell. is_free loaded.new.memory cell ≡ true) }
     ensures index { loaded.new.memory.index ≡ loaded.old.memory.index }
@@ -145,10 +145,10 @@ fn unused_cell<D: Disk>(cells: &mut Cells<D>, loaded: &mut Loaded) -> Result<u32
 
 /// Grows the disk by a cell, and answers its number.
 fn grow<D: Disk>(cells: &mut Cells<D>, loaded: &mut Loaded) -> Result<u32, ShelfFault>
-    requires stands { Stands D.tells D.seen D.may_leave cells.old }
+    requires stands { CellsStand D.tells D.seen D.may_leave cells.old }
     requires moving { IsMoving (cells_of cells.old) loaded.old }
     requires room { wide_in (cells_of cells.old) < slot_count loaded.old.memory.held.slots }
-    ensures stands { OnOk result (Stands D.tells D.seen D.may_leave cells.new) }
+    ensures stands { OnOk result (CellsStand D.tells D.seen D.may_leave cells.new) }
     ensures moving { OnOk result (IsMoving (cells_of cells.new) loaded.new) }
     ensures free { IfOk result (λ cell. is_free loaded.new.memory cell ≡ true) }
     ensures index { loaded.new.memory.index ≡ loaded.old.memory.index }

@@ -2,10 +2,10 @@
 ghost use Rattle.std.specs.Prelude.{◌≡◌, ◌≤◌, ◌<◌, ◌+◌, ◌*◌, ◌↔◌, ℕ, List, Ok, Err, Some, None, true, OnOk, OnErr, IsErrOf, IfOk};
 ghost use Rattle.cas_slot.specs.Contents.{nothing, kept_at, with_kept, without_kept, with_raised};
 ghost use Rattle.cas_slot.specs.Limits.{SlotBallotsFit, AllBallotsFit};
-ghost use Rattle.cas_slot.specs.Shelf.{IsOldOrNew, LeavesOnly, IsSettled, HasShelfCause, IsNeitherFullNorForeign};
+ghost use Rattle.cas_slot.specs.Shelf.{IsOldOrNew, ShelfLeavesOnly, NothingIsPending, HasShelfCause, IsNeitherFullNorForeign};
 ghost use Rattle.cas_slot.specs.Slots.{IsFullFor, slot_count};
 ghost use Rattle.cas_disk.specs.Disk.{Only, ContinuesOnly as DiskContinuesOnly};
-ghost use Rattle.cas_cells.specs.Cells.{cells_of, Stands};
+ghost use Rattle.cas_cells.specs.Cells.{cells_of, CellsStand};
 ghost use Rattle.cas_cells.specs.Format.{wide_in};
 ghost use Rattle.cas_cells.specs.Length.{AllWithin, NotLonger};
 ghost use Rattle.cas_disk_shelf.specs.Image.{left_on};
@@ -46,7 +46,7 @@ pub struct DiskShelf<D: Disk> {
 }
 
 impl<D: Disk> DiskShelf<D> {
-    ghost use Rattle.cas_disk_shelf.specs.Shelf.{disk_of, contents_of, narrow_of, IsUp, MayLeave, ContinuesOnly};
+    ghost use Rattle.cas_disk_shelf.specs.Shelf.{disk_of, contents_of, narrow_of, ShelfIsUp, ShelfMayLeave, ShelfContinuesOnly};
 
     /// A shelf on this disk. It touches nothing, and is started or reopened before it is changed.
     pub fn over(alloc: Global, disk: D) -> DiskShelf<D>
@@ -65,25 +65,25 @@ impl<D: Disk> DiskShelf<D> {
     /// that is up its contents, and nothing else.
     pub fn into_disk(self) -> D
         ensures disk { result ≡ disk_of self }
-        ensures left { (c : List ℕ) → D.may_leave result c → MayLeave D.may_leave self (left_on c) }
-        ensures spelled { D.tells → IsUp D.tells D.seen D.may_leave self → (c : List ℕ) → D.may_leave result c → left_on c ≡ Ok (contents_of self) }
+        ensures left { (c : List ℕ) → D.may_leave result c → ShelfMayLeave D.may_leave self (left_on c) }
+        ensures spelled { D.tells → ShelfIsUp D.tells D.seen D.may_leave self → (c : List ℕ) → D.may_leave result c → left_on c ≡ Ok (contents_of self) }
     {
         self.cells.into_disk()
     }
 
     // Puts a slot.
     fn keep(&mut self, key: &Key, slot: Slot) -> Result<(), ShelfFault>
-        requires up { IsUp D.tells D.seen D.may_leave self.old }
+        requires up { ShelfIsUp D.tells D.seen D.may_leave self.old }
         requires fits { SlotBallotsFit slot }
         ensures ok { OnOk result (contents_of self.new ≡ with_kept (contents_of self.old) key.now slot) }
         ensures err { OnErr result (contents_of self.new ≡ contents_of self.old) }
-        ensures up { OnOk result (IsUp D.tells D.seen D.may_leave self.new) }
-        ensures up_still { IsErrOf result ShelfFault.NoMemory → IsUp D.tells D.seen D.may_leave self.new }
+        ensures up { OnOk result (ShelfIsUp D.tells D.seen D.may_leave self.new) }
+        ensures up_still { IsErrOf result ShelfFault.NoMemory → ShelfIsUp D.tells D.seen D.may_leave self.new }
         ensures full { IsErrOf result ShelfFault.Full ↔ IsFullFor (contents_of self.old).slots key.now }
-        ensures up_when_full { IsErrOf result ShelfFault.Full → IsUp D.tells D.seen D.may_leave self.new }
-        ensures untouched_when_full { D.tells → IsErrOf result ShelfFault.Full → ContinuesOnly D.moment D.left_since (disk_of self.old) (disk_of self.new) (λ left. left ≡ Ok (contents_of self.old)) }
+        ensures up_when_full { IsErrOf result ShelfFault.Full → ShelfIsUp D.tells D.seen D.may_leave self.new }
+        ensures untouched_when_full { D.tells → IsErrOf result ShelfFault.Full → ShelfContinuesOnly D.moment D.left_since (disk_of self.old) (disk_of self.new) (λ left. left ≡ Ok (contents_of self.old)) }
         ensures not_foreign { (at : ℕ) → IsErrOf result (ShelfFault.Foreign at) → ⊥ }
-        ensures any_moment { D.tells → ContinuesOnly D.moment D.left_since (disk_of self.old) (disk_of self.new) (IsOldOrNew (contents_of self.old) (with_kept (contents_of self.old) key.now slot)) }
+        ensures any_moment { D.tells → ShelfContinuesOnly D.moment D.left_since (disk_of self.old) (disk_of self.new) (IsOldOrNew (contents_of self.old) (with_kept (contents_of self.old) key.now slot)) }
         ensures length { D.tells → NotLonger D.moment D.left_since D.may_leave (disk_of self.old) (disk_of self.new) (1024 * (1 + narrow_of self.old) + 9216 * (slot_count (contents_of self.old).slots + 1)) }
         ensures cause { HasShelfCause result (D.fault_count (disk_of self.old)) (D.fault_count (disk_of self.new)) }
     {
@@ -100,14 +100,14 @@ impl<D: Disk> DiskShelf<D> {
 
     // Puts the slot of a key that has one.
     fn rewrite(&mut self, cell: u32, key: &Key, slot: Slot) -> Result<(), ShelfFault>
-        requires up { IsUp D.tells D.seen D.may_leave self.old }
+        requires up { ShelfIsUp D.tells D.seen D.may_leave self.old }
         requires own { cell_of self.old.memory key.now ≡ Some cell }
         requires fits { SlotBallotsFit slot }
         ensures ok { OnOk result (contents_of self.new ≡ with_kept (contents_of self.old) key.now slot) }
         ensures err { OnErr result (contents_of self.new ≡ contents_of self.old) }
-        ensures up { OnOk result (IsUp D.tells D.seen D.may_leave self.new) }
-        ensures up_still { IsErrOf result ShelfFault.NoMemory → IsUp D.tells D.seen D.may_leave self.new }
-        ensures any_moment { D.tells → ContinuesOnly D.moment D.left_since (disk_of self.old) (disk_of self.new) (IsOldOrNew (contents_of self.old) (with_kept (contents_of self.old) key.now slot)) }
+        ensures up { OnOk result (ShelfIsUp D.tells D.seen D.may_leave self.new) }
+        ensures up_still { IsErrOf result ShelfFault.NoMemory → ShelfIsUp D.tells D.seen D.may_leave self.new }
+        ensures any_moment { D.tells → ShelfContinuesOnly D.moment D.left_since (disk_of self.old) (disk_of self.new) (IsOldOrNew (contents_of self.old) (with_kept (contents_of self.old) key.now slot)) }
         ensures length { D.tells → NotLonger D.moment D.left_since D.may_leave (disk_of self.old) (disk_of self.new) 0 }
         ensures other { IsNeitherFullNorForeign result }
         ensures cause { HasShelfCause result (D.fault_count (disk_of self.old)) (D.fault_count (disk_of self.new)) }
@@ -122,15 +122,15 @@ impl<D: Disk> DiskShelf<D> {
 
     // Puts the slot of a key that has none.
     fn add(&mut self, key: &Key, slot: Slot) -> Result<(), ShelfFault>
-        requires up { IsUp D.tells D.seen D.may_leave self.old }
+        requires up { ShelfIsUp D.tells D.seen D.may_leave self.old }
         requires new { cell_of self.old.memory key.now ≡ None }
         requires room { slot_count (contents_of self.old).slots < 4096 }
         requires fits { SlotBallotsFit slot }
         ensures ok { OnOk result (contents_of self.new ≡ with_kept (contents_of self.old) key.now slot) }
         ensures err { OnErr result (contents_of self.new ≡ contents_of self.old) }
-        ensures up { OnOk result (IsUp D.tells D.seen D.may_leave self.new) }
-        ensures up_still { IsErrOf result ShelfFault.NoMemory → IsUp D.tells D.seen D.may_leave self.new }
-        ensures any_moment { D.tells → ContinuesOnly D.moment D.left_since (disk_of self.old) (disk_of self.new) (IsOldOrNew (contents_of self.old) (with_kept (contents_of self.old) key.now slot)) }
+        ensures up { OnOk result (ShelfIsUp D.tells D.seen D.may_leave self.new) }
+        ensures up_still { IsErrOf result ShelfFault.NoMemory → ShelfIsUp D.tells D.seen D.may_leave self.new }
+        ensures any_moment { D.tells → ShelfContinuesOnly D.moment D.left_since (disk_of self.old) (disk_of self.new) (IsOldOrNew (contents_of self.old) (with_kept (contents_of self.old) key.now slot)) }
         ensures length { D.tells → NotLonger D.moment D.left_since D.may_leave (disk_of self.old) (disk_of self.new) (1024 * (1 + narrow_of self.old) + 9216 * (slot_count (contents_of self.old).slots + 1)) }
         ensures other { IsNeitherFullNorForeign result }
         ensures cause { HasShelfCause result (D.fault_count (disk_of self.old)) (D.fault_count (disk_of self.new)) }
@@ -141,16 +141,16 @@ impl<D: Disk> DiskShelf<D> {
 
     // Puts the slot of a key that has none into a cell that holds none.
     fn add_at(&mut self, cell: u32, key: &Key, slot: Slot) -> Result<(), ShelfFault>
-        requires up { IsUp D.tells D.seen D.may_leave self.old }
+        requires up { ShelfIsUp D.tells D.seen D.may_leave self.old }
         requires new { cell_of self.old.memory key.now ≡ None }
         requires room { slot_count (contents_of self.old).slots < 4096 }
         requires free { is_free self.old.memory cell ≡ true }
         requires fits { SlotBallotsFit slot }
         ensures ok { OnOk result (contents_of self.new ≡ with_kept (contents_of self.old) key.now slot) }
         ensures err { OnErr result (contents_of self.new ≡ contents_of self.old) }
-        ensures up { OnOk result (IsUp D.tells D.seen D.may_leave self.new) }
-        ensures up_still { IsErrOf result ShelfFault.NoMemory → IsUp D.tells D.seen D.may_leave self.new }
-        ensures any_moment { D.tells → ContinuesOnly D.moment D.left_since (disk_of self.old) (disk_of self.new) (IsOldOrNew (contents_of self.old) (with_kept (contents_of self.old) key.now slot)) }
+        ensures up { OnOk result (ShelfIsUp D.tells D.seen D.may_leave self.new) }
+        ensures up_still { IsErrOf result ShelfFault.NoMemory → ShelfIsUp D.tells D.seen D.may_leave self.new }
+        ensures any_moment { D.tells → ShelfContinuesOnly D.moment D.left_since (disk_of self.old) (disk_of self.new) (IsOldOrNew (contents_of self.old) (with_kept (contents_of self.old) key.now slot)) }
         ensures length { D.tells → NotLonger D.moment D.left_since D.may_leave (disk_of self.old) (disk_of self.new) 0 }
         ensures other { IsNeitherFullNorForeign result }
         ensures cause { HasShelfCause result (D.fault_count (disk_of self.old)) (D.fault_count (disk_of self.new)) }
@@ -171,15 +171,15 @@ impl<D: Disk> DiskShelf<D> {
 
     // The cell of the least number that holds no slot; where there is none, one that the disk is grown by.
     fn unused_cell(&mut self) -> Result<u32, ShelfFault>
-        requires up { IsUp D.tells D.seen D.may_leave self.old }
+        requires up { ShelfIsUp D.tells D.seen D.may_leave self.old }
         requires room { slot_count (contents_of self.old).slots < 4096 }
         ensures contents { contents_of self.new ≡ contents_of self.old }
         ensures index { self.new.memory.index ≡ self.old.memory.index }
         ensures free { IfOk result (λ cell. is_free self.new.memory cell ≡ true) }
         ensures least { IfOk result (λ cell. (other : ℕ) → is_free self.old.memory other ≡ true → cell ≤ other) }
-        ensures up { OnOk result (IsUp D.tells D.seen D.may_leave self.new) }
-        ensures up_still { IsErrOf result ShelfFault.NoMemory → IsUp D.tells D.seen D.may_leave self.new }
-        ensures any_moment { D.tells → ContinuesOnly D.moment D.left_since (disk_of self.old) (disk_of self.new) (λ left. left ≡ Ok (contents_of self.old)) }
+        ensures up { OnOk result (ShelfIsUp D.tells D.seen D.may_leave self.new) }
+        ensures up_still { IsErrOf result ShelfFault.NoMemory → ShelfIsUp D.tells D.seen D.may_leave self.new }
+        ensures any_moment { D.tells → ShelfContinuesOnly D.moment D.left_since (disk_of self.old) (disk_of self.new) (λ left. left ≡ Ok (contents_of self.old)) }
         ensures length { D.tells → NotLonger D.moment D.left_since D.may_leave (disk_of self.old) (disk_of self.new) (1024 * (1 + narrow_of self.old) + 9216 * (slot_count (contents_of self.old).slots + 1)) }
         ensures other { IsNeitherFullNorForeign result }
         ensures cause { HasShelfCause result (D.fault_count (disk_of self.old)) (D.fault_count (disk_of self.new)) }
@@ -192,14 +192,14 @@ impl<D: Disk> DiskShelf<D> {
 
     // Grows the disk by a cell, and answers its number.
     fn grow(&mut self) -> Result<u32, ShelfFault>
-        requires up { IsUp D.tells D.seen D.may_leave self.old }
+        requires up { ShelfIsUp D.tells D.seen D.may_leave self.old }
         requires room { wide_in (cells_of self.old.cells) < 4096 }
         ensures contents { contents_of self.new ≡ contents_of self.old }
         ensures index { self.new.memory.index ≡ self.old.memory.index }
         ensures free { IfOk result (λ cell. is_free self.new.memory cell ≡ true) }
-        ensures up { OnOk result (IsUp D.tells D.seen D.may_leave self.new) }
-        ensures up_still { IsErrOf result ShelfFault.NoMemory → IsUp D.tells D.seen D.may_leave self.new }
-        ensures any_moment { D.tells → ContinuesOnly D.moment D.left_since (disk_of self.old) (disk_of self.new) (λ left. left ≡ Ok (contents_of self.old)) }
+        ensures up { OnOk result (ShelfIsUp D.tells D.seen D.may_leave self.new) }
+        ensures up_still { IsErrOf result ShelfFault.NoMemory → ShelfIsUp D.tells D.seen D.may_leave self.new }
+        ensures any_moment { D.tells → ShelfContinuesOnly D.moment D.left_since (disk_of self.old) (disk_of self.new) (λ left. left ≡ Ok (contents_of self.old)) }
         ensures length { D.tells → NotLonger D.moment D.left_since D.may_leave (disk_of self.old) (disk_of self.new) (1024 * (1 + narrow_of self.old) + 9216 * (wide_in (cells_of self.old.cells) + 1)) }
         ensures other { IsNeitherFullNorForeign result }
         ensures cause { HasShelfCause result (D.fault_count (disk_of self.old)) (D.fault_count (disk_of self.new)) }
@@ -215,13 +215,13 @@ impl<D: Disk> DiskShelf<D> {
 
     // Removes the slot of a key, if it has one.
     fn release(&mut self, key: &Key) -> Result<(), ShelfFault>
-        requires { IsUp D.tells D.seen D.may_leave self.old }
+        requires { ShelfIsUp D.tells D.seen D.may_leave self.old }
         ensures ok { OnOk result (contents_of self.new ≡ without_kept (contents_of self.old) key.now) }
         ensures err { OnErr result (contents_of self.new ≡ contents_of self.old) }
-        ensures up { OnOk result (IsUp D.tells D.seen D.may_leave self.new) }
-        ensures up_still { IsErrOf result ShelfFault.NoMemory → IsUp D.tells D.seen D.may_leave self.new }
+        ensures up { OnOk result (ShelfIsUp D.tells D.seen D.may_leave self.new) }
+        ensures up_still { IsErrOf result ShelfFault.NoMemory → ShelfIsUp D.tells D.seen D.may_leave self.new }
         ensures other { IsNeitherFullNorForeign result }
-        ensures any_moment { D.tells → ContinuesOnly D.moment D.left_since (disk_of self.old) (disk_of self.new) (IsOldOrNew (contents_of self.old) (without_kept (contents_of self.old) key.now)) }
+        ensures any_moment { D.tells → ShelfContinuesOnly D.moment D.left_since (disk_of self.old) (disk_of self.new) (IsOldOrNew (contents_of self.old) (without_kept (contents_of self.old) key.now)) }
         ensures length { D.tells → NotLonger D.moment D.left_since D.may_leave (disk_of self.old) (disk_of self.new) 0 }
         ensures cause { HasShelfCause result (D.fault_count (disk_of self.old)) (D.fault_count (disk_of self.new)) }
     {
@@ -233,13 +233,13 @@ impl<D: Disk> DiskShelf<D> {
 
     // Removes the slot of a key that has one.
     fn free(&mut self, cell: u32, key: &Key) -> Result<(), ShelfFault>
-        requires up { IsUp D.tells D.seen D.may_leave self.old }
+        requires up { ShelfIsUp D.tells D.seen D.may_leave self.old }
         requires own { cell_of self.old.memory key.now ≡ Some cell }
         ensures ok { OnOk result (contents_of self.new ≡ without_kept (contents_of self.old) key.now) }
         ensures err { OnErr result (contents_of self.new ≡ contents_of self.old) }
-        ensures up { OnOk result (IsUp D.tells D.seen D.may_leave self.new) }
-        ensures up_still { IsErrOf result ShelfFault.NoMemory → IsUp D.tells D.seen D.may_leave self.new }
-        ensures any_moment { D.tells → ContinuesOnly D.moment D.left_since (disk_of self.old) (disk_of self.new) (IsOldOrNew (contents_of self.old) (without_kept (contents_of self.old) key.now)) }
+        ensures up { OnOk result (ShelfIsUp D.tells D.seen D.may_leave self.new) }
+        ensures up_still { IsErrOf result ShelfFault.NoMemory → ShelfIsUp D.tells D.seen D.may_leave self.new }
+        ensures any_moment { D.tells → ShelfContinuesOnly D.moment D.left_since (disk_of self.old) (disk_of self.new) (IsOldOrNew (contents_of self.old) (without_kept (contents_of self.old) key.now)) }
         ensures length { D.tells → NotLonger D.moment D.left_since D.may_leave (disk_of self.old) (disk_of self.new) 0 }
         ensures other { IsNeitherFullNorForeign result }
         ensures cause { HasShelfCause result (D.fault_count (disk_of self.old)) (D.fault_count (disk_of self.new)) }
@@ -256,12 +256,12 @@ impl<D: Disk> DiskShelf<D> {
 
     // Sets the least ages.
     fn set_ages(&mut self, ages: Ages) -> Result<(), ShelfFault>
-        requires { IsUp D.tells D.seen D.may_leave self.old }
+        requires { ShelfIsUp D.tells D.seen D.may_leave self.old }
         ensures ok { OnOk result (contents_of self.new ≡ record (contents_of self.old) { ages = ages }) }
         ensures err { OnErr result (contents_of self.new ≡ contents_of self.old) }
-        ensures up { OnOk result (IsUp D.tells D.seen D.may_leave self.new) }
-        ensures up_still { IsErrOf result ShelfFault.NoMemory → IsUp D.tells D.seen D.may_leave self.new }
-        ensures any_moment { D.tells → ContinuesOnly D.moment D.left_since (disk_of self.old) (disk_of self.new) (IsOldOrNew (contents_of self.old) (record (contents_of self.old) { ages = ages })) }
+        ensures up { OnOk result (ShelfIsUp D.tells D.seen D.may_leave self.new) }
+        ensures up_still { IsErrOf result ShelfFault.NoMemory → ShelfIsUp D.tells D.seen D.may_leave self.new }
+        ensures any_moment { D.tells → ShelfContinuesOnly D.moment D.left_since (disk_of self.old) (disk_of self.new) (IsOldOrNew (contents_of self.old) (record (contents_of self.old) { ages = ages })) }
         ensures length { D.tells → NotLonger D.moment D.left_since D.may_leave (disk_of self.old) (disk_of self.new) 0 }
         ensures other { IsNeitherFullNorForeign result }
         ensures cause { HasShelfCause result (D.fault_count (disk_of self.old)) (D.fault_count (disk_of self.new)) }
@@ -283,7 +283,7 @@ impl<D: Disk> DiskShelf<D> {
         ensures recovered { D.tells → IfOk result (λ loaded. left_on (D.seen (disk_of self.old)) ≡ Ok loaded.memory.held) }
         ensures memory { self.new.memory ≡ self.old.memory }
         ensures foreign { D.tells → (at : ℕ) → IsErrOf result (ShelfFault.Foreign at) → left_on (D.seen (disk_of self.old)) ≡ Err at }
-        ensures stands { OnOk result (Stands D.tells D.seen D.may_leave self.new.cells) }
+        ensures stands { OnOk result (CellsStand D.tells D.seen D.may_leave self.new.cells) }
         ensures read { IfOk result (IsReadFrom (cells_of self.new.cells)) }
         ensures fits { IfOk result (λ loaded. AllBallotsFit loaded.memory.held) }
         ensures any_moment { D.tells → DiskContinuesOnly D.moment D.left_since (disk_of self.old) (disk_of self.new) (λ c. c ≡ D.seen (disk_of self.old)) }
@@ -298,20 +298,20 @@ impl<D: Disk> DiskShelf<D> {
 }
 
 impl<D: Disk> Shelf for DiskShelf<D> {
-    ghost use Rattle.cas_disk_shelf.specs.Shelf.{disk_of, contents_of, moment_of, IsUp, MayLeave, LeftSince};
+    ghost use Rattle.cas_disk_shelf.specs.Shelf.{disk_of, contents_of, moment_of, ShelfIsUp, ShelfMayLeave, ShelfLeftSince};
     ghost use Rattle.cas_disk_shelf.specs.ShelfLaws.{up_is_left};
 
     ghost tells = { D.tells };
 
     ghost contents = { λ shelf. contents_of shelf };
 
-    ghost is_up = { λ shelf. IsUp D.tells D.seen D.may_leave shelf };
+    ghost is_up = { λ shelf. ShelfIsUp D.tells D.seen D.may_leave shelf };
 
-    ghost may_leave = { λ shelf left. MayLeave D.may_leave shelf left };
+    ghost may_leave = { λ shelf left. ShelfMayLeave D.may_leave shelf left };
 
     ghost moment = { λ shelf. D.moment (disk_of shelf) };
 
-    ghost left_since = { λ shelf t left. LeftSince D.left_since shelf t left };
+    ghost left_since = { λ shelf t left. ShelfLeftSince D.left_since shelf t left };
 
     ghost fault_count = { λ shelf. D.fault_count (disk_of shelf) };
 
@@ -326,7 +326,7 @@ impl<D: Disk> Shelf for DiskShelf<D> {
     fn start(&mut self) -> Result<(), ShelfFault>
         ensures started { OnOk result (contents_of self.new ≡ nothing) }
         ensures err { OnErr result (contents_of self.new ≡ contents_of self.old) }
-        ensures up { OnOk result (IsUp D.tells D.seen D.may_leave self.new) }
+        ensures up { OnOk result (ShelfIsUp D.tells D.seen D.may_leave self.new) }
         ensures other { IsNeitherFullNorForeign result }
         ensures length { D.tells → StaysShort D.moment D.left_since D.may_leave self.old self.new }
         ensures cause { HasShelfCause result (D.fault_count (disk_of self.old)) (D.fault_count (disk_of self.new)) }
@@ -346,11 +346,11 @@ impl<D: Disk> Shelf for DiskShelf<D> {
     }
 
     fn reopen(&mut self) -> Result<(), ShelfFault>
-        ensures reopened { D.tells → OnOk result (MayLeave D.may_leave self.old (Ok (contents_of self.new))) }
+        ensures reopened { D.tells → OnOk result (ShelfMayLeave D.may_leave self.old (Ok (contents_of self.new))) }
         ensures err { OnErr result (contents_of self.new ≡ contents_of self.old) }
-        ensures foreign { D.tells → (at : ℕ) → IsErrOf result (ShelfFault.Foreign at) → MayLeave D.may_leave self.old (Err at) }
-        ensures up { OnOk result (IsUp D.tells D.seen D.may_leave self.new) }
-        ensures any_moment { D.tells → LeavesOnly (moment_of D.moment) (LeftSince D.left_since) self.old self.new (MayLeave D.may_leave self.old) }
+        ensures foreign { D.tells → (at : ℕ) → IsErrOf result (ShelfFault.Foreign at) → ShelfMayLeave D.may_leave self.old (Err at) }
+        ensures up { OnOk result (ShelfIsUp D.tells D.seen D.may_leave self.new) }
+        ensures any_moment { D.tells → ShelfLeavesOnly (moment_of D.moment) (ShelfLeftSince D.left_since) self.old self.new (ShelfMayLeave D.may_leave self.old) }
         ensures not_full { IsErrOf result ShelfFault.Full → ⊥ }
         ensures length { D.tells → StaysShort D.moment D.left_since D.may_leave self.old self.new }
         ensures cause { HasShelfCause result (D.fault_count (disk_of self.old)) (D.fault_count (disk_of self.new)) }
@@ -365,8 +365,8 @@ impl<D: Disk> Shelf for DiskShelf<D> {
     }
 
     fn crash(&mut self)
-        ensures settled { D.tells → IsSettled (MayLeave D.may_leave self.old) (MayLeave D.may_leave self.new) }
-        ensures any_moment { D.tells → LeavesOnly (moment_of D.moment) (LeftSince D.left_since) self.old self.new (MayLeave D.may_leave self.old) }
+        ensures settled { D.tells → NothingIsPending (ShelfMayLeave D.may_leave self.old) (ShelfMayLeave D.may_leave self.new) }
+        ensures any_moment { D.tells → ShelfLeavesOnly (moment_of D.moment) (ShelfLeftSince D.left_since) self.old self.new (ShelfMayLeave D.may_leave self.old) }
         ensures length { D.tells → StaysShort D.moment D.left_since D.may_leave self.old self.new }
         ensures never_falls { D.fault_count (disk_of self.old) ≤ D.fault_count (disk_of self.new) }
     {
@@ -386,17 +386,17 @@ impl<D: Disk> Shelf for DiskShelf<D> {
     }
 
     fn put(&mut self, key: &Key, slot: Slot) -> Result<(), ShelfFault>
-        requires up { IsUp D.tells D.seen D.may_leave self.old }
+        requires up { ShelfIsUp D.tells D.seen D.may_leave self.old }
         requires fits { SlotBallotsFit slot }
         ensures ok { OnOk result (contents_of self.new ≡ with_kept (contents_of self.old) key.now slot) }
         ensures err { OnErr result (contents_of self.new ≡ contents_of self.old) }
-        ensures up { OnOk result (IsUp D.tells D.seen D.may_leave self.new) }
-        ensures up_still { IsErrOf result ShelfFault.NoMemory → IsUp D.tells D.seen D.may_leave self.new }
+        ensures up { OnOk result (ShelfIsUp D.tells D.seen D.may_leave self.new) }
+        ensures up_still { IsErrOf result ShelfFault.NoMemory → ShelfIsUp D.tells D.seen D.may_leave self.new }
         ensures full { IsErrOf result ShelfFault.Full ↔ IsFullFor (contents_of self.old).slots key.now }
-        ensures up_when_full { IsErrOf result ShelfFault.Full → IsUp D.tells D.seen D.may_leave self.new }
-        ensures untouched_when_full { D.tells → IsErrOf result ShelfFault.Full → LeavesOnly (moment_of D.moment) (LeftSince D.left_since) self.old self.new (λ left. left ≡ Ok (contents_of self.old)) }
+        ensures up_when_full { IsErrOf result ShelfFault.Full → ShelfIsUp D.tells D.seen D.may_leave self.new }
+        ensures untouched_when_full { D.tells → IsErrOf result ShelfFault.Full → ShelfLeavesOnly (moment_of D.moment) (ShelfLeftSince D.left_since) self.old self.new (λ left. left ≡ Ok (contents_of self.old)) }
         ensures not_foreign { (at : ℕ) → IsErrOf result (ShelfFault.Foreign at) → ⊥ }
-        ensures any_moment { D.tells → LeavesOnly (moment_of D.moment) (LeftSince D.left_since) self.old self.new (IsOldOrNew (contents_of self.old) (with_kept (contents_of self.old) key.now slot)) }
+        ensures any_moment { D.tells → ShelfLeavesOnly (moment_of D.moment) (ShelfLeftSince D.left_since) self.old self.new (IsOldOrNew (contents_of self.old) (with_kept (contents_of self.old) key.now slot)) }
         ensures length { D.tells → StaysShort D.moment D.left_since D.may_leave self.old self.new }
         ensures cause { HasShelfCause result (D.fault_count (disk_of self.old)) (D.fault_count (disk_of self.new)) }
     {
@@ -405,13 +405,13 @@ impl<D: Disk> Shelf for DiskShelf<D> {
     }
 
     fn drop_slot(&mut self, key: &Key) -> Result<(), ShelfFault>
-        requires { IsUp D.tells D.seen D.may_leave self.old }
+        requires { ShelfIsUp D.tells D.seen D.may_leave self.old }
         ensures ok { OnOk result (contents_of self.new ≡ without_kept (contents_of self.old) key.now) }
         ensures err { OnErr result (contents_of self.new ≡ contents_of self.old) }
-        ensures up { OnOk result (IsUp D.tells D.seen D.may_leave self.new) }
-        ensures up_still { IsErrOf result ShelfFault.NoMemory → IsUp D.tells D.seen D.may_leave self.new }
+        ensures up { OnOk result (ShelfIsUp D.tells D.seen D.may_leave self.new) }
+        ensures up_still { IsErrOf result ShelfFault.NoMemory → ShelfIsUp D.tells D.seen D.may_leave self.new }
         ensures other { IsNeitherFullNorForeign result }
-        ensures any_moment { D.tells → LeavesOnly (moment_of D.moment) (LeftSince D.left_since) self.old self.new (IsOldOrNew (contents_of self.old) (without_kept (contents_of self.old) key.now)) }
+        ensures any_moment { D.tells → ShelfLeavesOnly (moment_of D.moment) (ShelfLeftSince D.left_since) self.old self.new (IsOldOrNew (contents_of self.old) (without_kept (contents_of self.old) key.now)) }
         ensures length { D.tells → StaysShort D.moment D.left_since D.may_leave self.old self.new }
         ensures cause { HasShelfCause result (D.fault_count (disk_of self.old)) (D.fault_count (disk_of self.new)) }
     {
@@ -420,13 +420,13 @@ impl<D: Disk> Shelf for DiskShelf<D> {
     }
 
     fn raise_ages(&mut self, least: &Ages) -> Result<(), ShelfFault>
-        requires { IsUp D.tells D.seen D.may_leave self.old }
+        requires { ShelfIsUp D.tells D.seen D.may_leave self.old }
         ensures ok { OnOk result (contents_of self.new ≡ with_raised (contents_of self.old) least.now) }
         ensures err { OnErr result (contents_of self.new ≡ contents_of self.old) }
-        ensures up { OnOk result (IsUp D.tells D.seen D.may_leave self.new) }
-        ensures up_still { IsErrOf result ShelfFault.NoMemory → IsUp D.tells D.seen D.may_leave self.new }
+        ensures up { OnOk result (ShelfIsUp D.tells D.seen D.may_leave self.new) }
+        ensures up_still { IsErrOf result ShelfFault.NoMemory → ShelfIsUp D.tells D.seen D.may_leave self.new }
         ensures other { IsNeitherFullNorForeign result }
-        ensures any_moment { D.tells → LeavesOnly (moment_of D.moment) (LeftSince D.left_since) self.old self.new (IsOldOrNew (contents_of self.old) (with_raised (contents_of self.old) least.now)) }
+        ensures any_moment { D.tells → ShelfLeavesOnly (moment_of D.moment) (ShelfLeftSince D.left_since) self.old self.new (IsOldOrNew (contents_of self.old) (with_raised (contents_of self.old) least.now)) }
         ensures length { D.tells → StaysShort D.moment D.left_since D.may_leave self.old self.new }
         ensures cause { HasShelfCause result (D.fault_count (disk_of self.old)) (D.fault_count (disk_of self.new)) }
     {

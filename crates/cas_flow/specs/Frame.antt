@@ -4,7 +4,7 @@ use Rattle.cas_fate.specs.declared.fate.Leg.{Leg}
 use Rattle.cas_fate.specs.declared.fate.Leg.TheVariants as leg
 use Rattle.cas_slot.specs.declared.message.Request.{Request as ARequest}
 use Rattle.cas_slot.specs.declared.message.Reply.{Reply as AReply}
-use Rattle.cas_wire.specs.Frame.{IsRequest, IsReply}
+use Rattle.cas_wire.specs.Frame.{IsRequestFrame, IsReplyFrame}
 use Rattle.cas_wire.specs.FrameReading.{whole_of, request_at, reply_at}
 use Rattle.cas_wire.specs.Reading.{Reading}
 use Rattle.cas_wire.specs.declared.frame.TheConstants.{LONGEST_FRAME}
@@ -32,11 +32,11 @@ message_in (Told from) bytes = told (reply_at bytes)
 -- these bytes are the frame of this message, which is on that leg and has that acceptor at its other end
 abbrev pub Bears : List ℕ → Leg × ℕ → Option Message → Type 0
 Bears bytes head None = ⊥
-Bears bytes head (Some (Request request)) = IsRequest bytes request × (head_of (Request request) ≡ head)
-Bears bytes head (Some (Reply reply)) = IsReply bytes reply × (head_of (Reply reply) ≡ head)
+Bears bytes head (Some (Request request)) = IsRequestFrame bytes request × (head_of (Request request) ≡ head)
+Bears bytes head (Some (Reply reply)) = IsReplyFrame bytes reply × (head_of (Reply reply) ≡ head)
 
 -- a blank frame has no byte and room for the longest; another bears the message of its head
-abbrev pub IsFrame : Head → List ℕ → ℕ → Type 0
-IsFrame Blank bytes capacity = (bytes ≡ []) × (LONGEST_FRAME ≤ capacity)
-IsFrame (Asked leg to) bytes capacity = Bears bytes (leg, to) (asked (request_at bytes))
-IsFrame (Told from) bytes capacity = Bears bytes (leg.Reply, from) (told (reply_at bytes))
+abbrev pub BearsMessage : Head → List ℕ → ℕ → Type 0
+BearsMessage Blank bytes capacity = (bytes ≡ []) × (LONGEST_FRAME ≤ capacity)
+BearsMessage (Asked leg to) bytes capacity = Bears bytes (leg, to) (asked (request_at bytes))
+BearsMessage (Told from) bytes capacity = Bears bytes (leg.Reply, from) (told (reply_at bytes))

@@ -40,12 +40,12 @@ impl Model for Frame {
 
     ghost Value = { Option AMessage };
 
-    ghost use Rattle.cas_flow.specs.Frame.{message_in, IsFrame};
+    ghost use Rattle.cas_flow.specs.Frame.{message_in, BearsMessage};
 
     ghost view = { λ frame. message_in frame.head frame.bytes.items };
 
     // A blank frame has no byte and room for the longest; another bears the message of its head.
-    ghost invariant = { λ frame. IsFrame frame.head frame.bytes.items (vec_capacity frame.bytes) };
+    ghost invariant = { λ frame. BearsMessage frame.head frame.bytes.items (vec_capacity frame.bytes) };
 }
 
 impl Frame {

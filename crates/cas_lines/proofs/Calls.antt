@@ -7,7 +7,7 @@ use Rattle.std.proofs.KnownBytes.{starts_with_rest}
 use Rattle.std.specs.Io.{StartsWith}
 use Rattle.std.specs.Io.BufRead.{take_through}
 use Rattle.cas_lines.specs.Filling.{GrowsBy}
-use Rattle.cas_lines.specs.Lines.{has_newline, text_of, room_behind, IsOpen, Asked, not_asked, asked, Heard, going, stopped, LineState, LinesState, Tells, TellsAtOnce}
+use Rattle.cas_lines.specs.Lines.{has_newline, text_of, room_behind, IsOpen, SourceGave, not_asked, asked, Heard, going, stopped, LineState, LinesState, Tells, TellsAtOnce}
 use Rattle.cas_lines.proofs.FirstLines.{drop-length-take_through}
 use Rattle.cas_lines.proofs.Newlines.{has_newline-front}
 use Rattle.cas_lines.specs.Source.{Taken, Bytes, End, Fault, taken_of, bytes_of, call_after, MemorySourceState, GivesNext}
@@ -39,7 +39,7 @@ gives_front E old new count buf counted fine next = record {
 -- the bytes held grew by what calls gave
 pub record Gathered {S : Type 0} (gives : S → Taken → S → Type 0) (room : ℕ) (old : List ℕ) (old_source : S) (held : List ℕ) (source : S) : Type 0 where
   pub more : List ℕ
-  pub calls : Asked gives room old old_source more source
+  pub calls : SourceGave gives room old old_source more source
   pub grown : held ≡ old ++ more
 
 pub gathered_nothing : {S : Type 0} (gives : S → Taken → S → Type 0) (room : ℕ) (held : List ℕ) (source : S) → Gathered gives room held source held source

@@ -20,7 +20,7 @@ use Rattle.cas_lines.specs.declared.command.Command.{Command}
 use Rattle.cas_lines.specs.declared.command.Command.TheVariants.{Get, Set, Num, Init, Add, Cas, CasNum, Del, DelVersion, Do}
 use Rattle.cas_lines.specs.declared.changes.ChangeName.{ChangeName}
 use Rattle.cas_lines.specs.declared.changes.ChangeName.TheVariants as names
-use Rattle.cas_lines.specs.Command.{IsCaller, IsForm, IsCommand}
+use Rattle.cas_lines.specs.Command.{NamesCaller, IsForm, IsCommand}
 use Rattle.cas_lines.specs.Reading.{change_name, name_at, why_no_key, key_in, key_at, ended, change_of_name, change_at}
 
 -- ---- names
@@ -128,10 +128,10 @@ ended_found (Ok y) x e =
 pub last_found : {X : Type 0} (P : Word → X → Type 0) (words : List Word) (x : X) (rest : List Word) → Took (IsOne P) words x rest → rest ≡ [] → (last : Word) × (words ≡ last ∷ []) × P last x
 last_found P words x rest took none = (took.says.0, took.split ∙ (λ i. took.says.1 i ++ none i), took.says.2)
 
-pub form : (proposers caller : ℕ) (word name : Word) (key : List ℕ) (rest words : List Word) → IsCaller proposers caller word → IsKey key → words ≡ rest → IsForm proposers (word ∷ name ∷ key ∷ words) caller name key rest
+pub form : (proposers caller : ℕ) (word name : Word) (key : List ℕ) (rest words : List Word) → NamesCaller proposers caller word → IsKey key → words ≡ rest → IsForm proposers (word ∷ name ∷ key ∷ words) caller name key rest
 form proposers caller word name key rest words is names_key same = (word, is, names_key, ap (λ (ws : List Word). word ∷ name ∷ key ∷ ws) same)
 
-pub change_of_name-found : (proposers caller : ℕ) (word : Word) (key : List ℕ) → IsCaller proposers caller word → IsKey key → (name : ChangeName) (left : WordsLeft) (command : Command)
+pub change_of_name-found : (proposers caller : ℕ) (word : Word) (key : List ℕ) → NamesCaller proposers caller word → IsKey key → (name : ChangeName) (left : WordsLeft) (command : Command)
     → change_of_name name caller key left ≡ Ok command → IsCommand proposers (word ∷ change_word name ∷ key ∷ left.words) command
 unfolding change_of_name
 change_of_name-found proposers caller word key is names_key names.Get left command e =
@@ -224,7 +224,7 @@ front_found caller word rest Says found left command e =
     ap (λ (ws : List Word). word ∷ ws) first ∙ ap (λ (ws : List Word). word ∷ change_word n.0.0 ∷ ws) second in
     subst (λ (ws : List Word). Says ws command) (sym all) (found k.0.0 good n.0.0 k.0.1 command k.2)
 
-pub change_found : (proposers caller : ℕ) (word : Word) → IsCaller proposers caller word → (left : WordsLeft) (command : Command) → change_at caller left ≡ Ok command
+pub change_found : (proposers caller : ℕ) (word : Word) → NamesCaller proposers caller word → (left : WordsLeft) (command : Command) → change_at caller left ≡ Ok command
     → IsCommand proposers (word ∷ left.words) command
 unfolding change_at
 change_found proposers caller word is left command e =

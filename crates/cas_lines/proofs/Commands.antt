@@ -27,7 +27,7 @@ use Rattle.cas_lines.specs.declared.changes.ChangeName.TheVariants as names
 use Rattle.cas_lines.specs.declared.events.EventName.{EventName}
 use Rattle.cas_lines.specs.declared.events.EventName.TheVariants as events
 use Rattle.cas_lines.specs.declared.events.HaltPoint.TheVariants as points
-use Rattle.cas_lines.specs.Command.{IsCaller, IsForm, IsVerdict, IsCommand, IsKnown, is_remark, IsLine}
+use Rattle.cas_lines.specs.Command.{NamesCaller, IsForm, NamesVerdict, IsCommand, IsKnown, is_remark, IsLine}
 use Rattle.cas_lines.specs.Reading.{begins_with_digit, within, change_name, change_of_name, event_name, crash_of, restart_of, party_at, op_at, event_at, head_in, head_at, command_behind, command_at, words_in, line_in}
 use Rattle.cas_lines.proofs.ChangeLines.{change_word, change_found, form_again}
 use Rattle.cas_lines.proofs.EventLines.{one_found, within_some, within_again, event_word, event_named, event_found, net_again, last_acceptor-again, last_proposer-again, halt_again, show_again}
@@ -49,7 +49,7 @@ number_begins (byte ∷ bytes) number e =
 
 -- the word says this
 abbrev pub IsHead : ℕ → Word → LineHead → Type 0
-IsHead proposers word (heads.Caller caller) = IsCaller proposers caller word
+IsHead proposers word (heads.Caller caller) = NamesCaller proposers caller word
 IsHead proposers word heads.Operator = word ≡ codes "op"
 IsHead proposers word (heads.Event name) = word ≡ event_word name
 
@@ -75,7 +75,7 @@ head_in-found proposers at word head e =
       ]
     ]
 
-caller_in-again : (proposers at : ℕ) (word : Word) (caller : ℕ) → IsCaller proposers caller word → head_in proposers at word ≡ Ok (heads.Caller caller)
+caller_in-again : (proposers at : ℕ) (word : Word) (caller : ℕ) → NamesCaller proposers caller word → head_in proposers at word ≡ Ok (heads.Caller caller)
 unfolding head_in
 caller_in-again proposers at word caller is = rw (number_begins word caller is.0, within_again 1 proposers (u64_of word) caller is.0 is.1 is.2) refl
 
@@ -236,7 +236,7 @@ line_again proposers line (Some command) is =
 
 -- ---- limits
 
-no_hold : (verdict : Verdict) (word : Word) → IsVerdict verdict word → verdict ≢ verdicts.Hold
+no_hold : (verdict : Verdict) (word : Word) → NamesVerdict verdict word → verdict ≢ verdicts.Hold
 no_hold verdicts.Deliver word is = λ e. cc
 no_hold verdicts.Lose word is = λ e. cc
 no_hold verdicts.Twice word is = λ e. cc

@@ -28,7 +28,7 @@ use Rattle.cas_lines.specs.declared.events.Party.{Party}
 use Rattle.cas_lines.specs.declared.events.Party.TheVariants as parties
 use Rattle.cas_lines.specs.declared.events.HaltPoint.{HaltPoint}
 use Rattle.cas_lines.specs.declared.events.HaltPoint.TheVariants as points
-use Rattle.cas_lines.specs.Command.{IsAcceptor, IsProposer, leg_word, IsLeg, IsWho, IsVerdict, HasLast, IsHalt, IsCommand}
+use Rattle.cas_lines.specs.Command.{IsAcceptor, IsProposer, leg_word, IsLeg, IsWho, NamesVerdict, HasLast, IsHalt, IsCommand}
 use Rattle.cas_lines.specs.Reading.{within, ended, key_in, key_at, event_name, leg_name, verdict_name, party_name, halt_point_name, acceptor_of, proposer_of, one_or_all, leg_in, leg_at, who_in, who_at, verdict_at, party_at, halt_point_at, acceptor_at, proposer_at, net_at, crash_of, restart_of, halt_of, halt_at, show_at, event_at}
 use Rattle.cas_lines.proofs.ChangeLines.{ended_found, key_in-found, key_in-again}
 
@@ -158,15 +158,15 @@ leg_named word leg e = elim (named word (codes "prepare") legs.Prepare leg _ e) 
   ]
 ]
 
-verdict_named : (word : Word) (verdict : Verdict) → verdict_name word ≡ Some verdict → IsVerdict verdict word
+verdict_named : (word : Word) (verdict : Verdict) → verdict_name word ≡ Some verdict → NamesVerdict verdict word
 verdict_named word verdict e = elim (named word (codes "deliver") verdicts.Deliver verdict _ e) [
-  | inl p ↦ subst (λ (v : Verdict). IsVerdict v word) p.1 p.0
+  | inl p ↦ subst (λ (v : Verdict). NamesVerdict v word) p.1 p.0
   | inr e1 ↦ elim (named word (codes "lose") verdicts.Lose verdict _ e1) [
-    | inl p ↦ subst (λ (v : Verdict). IsVerdict v word) p.1 p.0
+    | inl p ↦ subst (λ (v : Verdict). NamesVerdict v word) p.1 p.0
     | inr e2 ↦ elim (named word (codes "twice") verdicts.Twice verdict _ e2) [
-      | inl p ↦ subst (λ (v : Verdict). IsVerdict v word) p.1 p.0
+      | inl p ↦ subst (λ (v : Verdict). NamesVerdict v word) p.1 p.0
       | inr e3 ↦ elim (named word (codes "late") verdicts.Late verdict None e3) [
-        | inl p ↦ subst (λ (v : Verdict). IsVerdict v word) p.1 p.0
+        | inl p ↦ subst (λ (v : Verdict). NamesVerdict v word) p.1 p.0
         | inr e4 ↦ absurd cc
       ]
     ]
@@ -214,7 +214,7 @@ net_found proposers left command e =
     let verdict = last_one_found (said verdict_name why.UnknownWord) w.0.1 v.0 v.1 in
     let is_leg : IsLeg l.0.0 leg.0 = one_or_all-found (codes "all") leg_name why.UnknownWord IsLeg (λ word is. is) (λ word x is. leg_named word x is) left.at leg.0 l.0.0 leg.2 in
     let is_who : IsWho w.0.0 who.0 = one_or_all-found (codes "*") acceptor_of why.BadNumber IsWho (λ word is. is) (λ word x is. acceptor_found word x is) l.0.1.at who.0 w.0.0 who.2 in
-    let is_verdict : IsVerdict v.0 verdict.0 = verdict_named verdict.0 v.0 (said_found verdict_name why.UnknownWord w.0.1.at verdict.0 v.0 verdict.2) in
+    let is_verdict : NamesVerdict v.0 verdict.0 = verdict_named verdict.0 v.0 (said_found verdict_name why.UnknownWord w.0.1.at verdict.0 v.0 verdict.2) in
     let same : Net l.0.0 w.0.0 v.0 ≡ command = cc (v.2) in
     let split : codes "net" ∷ left.words ≡ codes "net" ∷ leg.0 ∷ who.0 ∷ verdict.0 ∷ [] =
     ap (λ (ws : List Word). codes "net" ∷ ws) leg.1
@@ -358,14 +358,14 @@ who_in-again at word (Some id) is = by (bytes_eq word (codes "*")) refl
     by true star = absurd (let no_number : None ≡ Some id = sym (star_none word star) ∙ is.0 in cc)
     by false star = rw (star, acceptor_again word id is) refl
 
-verdict_again : (word : Word) (verdict : Verdict) → IsVerdict verdict word → verdict_name word ≡ Some verdict
+verdict_again : (word : Word) (verdict : Verdict) → NamesVerdict verdict word → verdict_name word ≡ Some verdict
 verdict_again word verdicts.Deliver is = ap verdict_name is
 verdict_again word verdicts.Lose is = ap verdict_name is
 verdict_again word verdicts.Twice is = ap verdict_name is
 verdict_again word verdicts.Late is = ap verdict_name is
 verdict_again word verdicts.Hold is = absurd is
 
-pub net_again : (at : ℕ) (leg : Option Leg) (who : Option ℕ) (verdict : Verdict) (first second third : Word) → IsLeg leg first → IsWho who second → IsVerdict verdict third
+pub net_again : (at : ℕ) (leg : Option Leg) (who : Option ℕ) (verdict : Verdict) (first second third : Word) → IsLeg leg first → IsWho who second → NamesVerdict verdict third
     → net_at (from at (first ∷ second ∷ third ∷ [])) ≡ Ok (Net leg who verdict)
 unfolding net_at leg_at who_at verdict_at
 net_again at leg who verdict first second third is_leg is_who is_verdict =

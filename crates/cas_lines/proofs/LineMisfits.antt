@@ -32,7 +32,7 @@ use Rattle.cas_lines.specs.declared.operator.OpName.{OpName}
 use Rattle.cas_lines.specs.declared.operator.OpName.TheVariants as ops
 use Rattle.cas_lines.specs.declared.reading.LineHead.{LineHead}
 use Rattle.cas_lines.specs.declared.reading.LineHead.TheVariants as heads
-use Rattle.cas_lines.specs.Command.{IsCaller, IsCommand, IsUnlimited, AreCommand, AreUnlimited, is_remark}
+use Rattle.cas_lines.specs.Command.{NamesCaller, IsCommand, IsUnlimited, AreCommand, AreUnlimited, is_remark}
 use Rattle.cas_lines.specs.Reading.{begins_with_digit, within, change_name, name_at, key_in, key_at, change_of_name, change_at, op_name, op_name_at, op_of_name, op_at, event_name, leg_name, verdict_name, party_name, halt_point_name, acceptor_of, proposer_of, one_or_all, leg_in, leg_at, who_in, who_at, verdict_at, party_at, halt_point_at, acceptor_at, proposer_at, net_at, crash_of, restart_of, halt_of, halt_at, show_at, event_at, head_in, head_at, command_behind, command_at, words_in, line_in}
 use Rattle.cas_lines.proofs.ChangeLines.{change_word, form, front_at, front_found, change_of_name-found}
 use Rattle.cas_lines.proofs.Commands.{IsHead, line_at, line_at-found, behind_found, command_again}
@@ -265,7 +265,7 @@ unlimited_of proposers words (HaltProposed proposer) is = is
 unlimited_of proposers words (Stray index) is = is
 unlimited_of proposers words (Show id key) is = is
 
-within_found : (most proposers caller : ℕ) (word : Word) (key : List ℕ) → IsCaller proposers caller word → IsKey key → (name : ChangeName) (left : WordsLeft) (command : Command)
+within_found : (most proposers caller : ℕ) (word : Word) (key : List ℕ) → NamesCaller proposers caller word → IsKey key → (name : ChangeName) (left : WordsLeft) (command : Command)
     → change_within most name caller key left ≡ Ok command → IsUnlimited proposers (word ∷ change_word name ∷ key ∷ left.words) command
 within_found most proposers caller word key is names_key name left command e = by name e
   where

@@ -2,7 +2,7 @@
 use Rattle.std.proofs.Common.{◌≡◌, ℕ, ◌<◌, true, false, ◌||◌, ◌==◌, cond, List, [], ◌∷◌, ◌++◌, length, Option, Some, None, Ok, Err, refl, sym, ap, ◌∙◌, subst, arith, inl, inr, append_assoc, append-nil}
 use Rattle.std.specs.Prelude.{◌⊎◌}
 use Rattle.std.specs.Io.BufRead.{drop_through}
-use Rattle.cas_lines.specs.Lines.{has_newline, text_of, lines_of, Asked, not_asked, asked, Heard, going, stopped, LineState, LinesState, IsTextOf, TellsAtOnce, HasTold, told_nothing, told_bytes, told_end, FailsBehind}
+use Rattle.cas_lines.specs.Lines.{has_newline, text_of, lines_of, SourceGave, not_asked, asked, Heard, going, stopped, LineState, LinesState, IsTextOf, TellsAtOnce, HasTold, told_nothing, told_bytes, told_end, FailsBehind}
 use Rattle.cas_lines.specs.Source.{Taken, End, Fault}
 use Rattle.cas_lines.specs.declared.lines.LineFault.TheVariants.{ReadFault}
 use Rattle.cas_lines.proofs.FirstLens.{first_line_ends}
@@ -44,7 +44,7 @@ hands_nothing gives start held empty = record {
 
 -- what was asked for was told
 asked_told : {S : Type 0} (gives : S → Taken → S → Type 0) (start : S) (told : List (List ℕ)) (bytes : List ℕ) (room : ℕ) (held : List ℕ) (old : S) (more : List ℕ) (new : S)
-    → HasTold gives start told bytes old → Asked gives room held old more new → HasTold gives start told (bytes ++ more) new
+    → HasTold gives start told bytes old → SourceGave gives room held old more new → HasTold gives start told (bytes ++ more) new
 asked_told gives start told bytes room held old more new h not_asked = subst (λ b. HasTold gives start told b new) (sym (append-nil bytes)) h
 asked_told gives start told bytes room held old more new h (asked {more = before} {bytes = last} {mid = mid} calls still gave) =
     subst (λ b. HasTold gives start told b new) (append_assoc bytes before last) (told_bytes (asked_told gives start told bytes room held old before mid h calls) gave)
@@ -57,7 +57,7 @@ split_more bytes held more ended split later =
 
 -- a line whose newline is there went out
 hands_ended : {S : Type 0} (gives : S → Taken → S → Type 0) (start : S) (lines : List (List ℕ)) (held more rest line : List ℕ) (room : ℕ) (old new : S)
-    → HandsOutTold gives start lines held old → Asked gives room held old more new → IsTextOf (held ++ more) line rest → has_newline (held ++ more) ≡ true
+    → HandsOutTold gives start lines held old → SourceGave gives room held old more new → IsTextOf (held ++ more) line rest → has_newline (held ++ more) ≡ true
     → HandsOutTold gives start (lines ++ line ∷ []) rest new
 hands_ended gives start lines held more rest line room old new h calls is some = record {
   told = h.told;
@@ -73,7 +73,7 @@ hands_ended gives start lines held more rest line room old new h calls is some =
 
 -- a line behind which the input ended went out
 hands_last : {S : Type 0} (gives : S → Taken → S → Type 0) (start : S) (lines : List (List ℕ)) (held more rest line : List ℕ) (room : ℕ) (old mid new : S)
-    → HandsOutTold gives start lines held old → Asked gives room held old more mid → gives mid End new → IsTextOf (held ++ more) line rest
+    → HandsOutTold gives start lines held old → SourceGave gives room held old more mid → gives mid End new → IsTextOf (held ++ more) line rest
     → has_newline (held ++ more) ≡ false → 0 < length (held ++ more) → HandsOutTold gives start (lines ++ line ∷ []) rest new
 hands_last gives start lines held more rest line room old mid new h calls gave is none some =
     let text : lines_of (held ++ more) ≡ line ∷ [] = one_line (held ++ more) none some ∙ ap (λ l. l ∷ []) (sym is.0) in

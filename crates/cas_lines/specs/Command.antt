@@ -22,12 +22,12 @@ use Rattle.cas_lines.specs.declared.command.Command.TheVariants.{Get, Set, Num, 
 -- ---- the grammar
 
 -- the word is the number of one of the proposers, from 1
-abbrev pub IsCaller : ℕ → ℕ → Word → Type 0
-IsCaller proposers caller word = (u64_of word ≡ Some caller) × (1 ≤ caller) × (caller ≤ proposers)
+abbrev pub NamesCaller : ℕ → ℕ → Word → Type 0
+NamesCaller proposers caller word = (u64_of word ≡ Some caller) × (1 ≤ caller) × (caller ≤ proposers)
 
 -- a caller, the name of a form, a key, and these words
 abbrev pub IsForm : ℕ → List Word → ℕ → Word → List ℕ → List Word → Type 0
-IsForm proposers words caller name key rest = (word : Word) × IsCaller proposers caller word × IsKey key × (words ≡ word ∷ name ∷ key ∷ rest)
+IsForm proposers words caller name key rest = (word : Word) × NamesCaller proposers caller word × IsKey key × (words ≡ word ∷ name ∷ key ∷ rest)
 
 -- the same, where one word follows the key
 abbrev pub IsFormWith : ℕ → List Word → ℕ → Word → List ℕ → (Word → Type 0) → Type 0
@@ -67,12 +67,12 @@ IsWho None word = word ≡ codes "*"
 IsWho (Some id) word = IsAcceptor id word
 
 -- the word names this verdict. No word names that a frame is held back
-abbrev pub IsVerdict : Verdict → Word → Type 0
-IsVerdict verdicts.Deliver word = word ≡ codes "deliver"
-IsVerdict verdicts.Lose word = word ≡ codes "lose"
-IsVerdict verdicts.Twice word = word ≡ codes "twice"
-IsVerdict verdicts.Late word = word ≡ codes "late"
-IsVerdict verdicts.Hold word = ⊥
+abbrev pub NamesVerdict : Verdict → Word → Type 0
+NamesVerdict verdicts.Deliver word = word ≡ codes "deliver"
+NamesVerdict verdicts.Lose word = word ≡ codes "lose"
+NamesVerdict verdicts.Twice word = word ≡ codes "twice"
+NamesVerdict verdicts.Late word = word ≡ codes "late"
+NamesVerdict verdicts.Hold word = ⊥
 
 -- these words, and a last one
 abbrev pub HasLast : List Word → List Word → (Word → Type 0) → Type 0
@@ -99,7 +99,7 @@ IsCommand proposers words (Leave id) = HasLast words (codes "op" ∷ codes "leav
 IsCommand proposers words (Collect key) = (words ≡ codes "op" ∷ codes "collect" ∷ key ∷ []) × IsKey key
 IsCommand proposers words (Probe key) = (words ≡ codes "op" ∷ codes "probe" ∷ key ∷ []) × IsKey key
 IsCommand proposers words (Net leg who verdict) =
-    (first second third : Word) × (words ≡ codes "net" ∷ first ∷ second ∷ third ∷ []) × IsLeg leg first × IsWho who second × IsVerdict verdict third
+    (first second third : Word) × (words ≡ codes "net" ∷ first ∷ second ∷ third ∷ []) × IsLeg leg first × IsWho who second × NamesVerdict verdict third
 IsCommand proposers words (CrashAcceptor id) = HasLast words (codes "crash" ∷ codes "acceptor" ∷ []) (IsAcceptor id)
 IsCommand proposers words (RestartAcceptor id) = HasLast words (codes "restart" ∷ codes "acceptor" ∷ []) (IsAcceptor id)
 IsCommand proposers words (CrashProposer proposer) = HasLast words (codes "crash" ∷ codes "proposer" ∷ []) (IsProposer proposers proposer)
@@ -144,12 +144,12 @@ IsLine proposers line (Some command) = (length line ≤ LONGEST_LINE) × IsComma
 -- ---- what a command asks for
 
 -- a change of the register of a key, for a caller
-pub record Asked : Type 0 where
+pub record AskedChange : Type 0 where
   pub caller : ℕ
   pub key : List ℕ
   pub program : List Clause
 
-abbrev pub asks : ℕ → List ℕ → List Clause → Option Asked
+abbrev pub asks : ℕ → List ℕ → List Clause → Option AskedChange
 asks caller key program = Some (record { caller = caller; key = key; program = program })
 
 -- a program of one clause
@@ -157,7 +157,7 @@ abbrev pub one : Guard → Act → List Clause
 one guard act = record { guard = guard; act = act } ∷ []
 
 -- the change that a command asks for; none where it is an event or an operator's
-abbrev pub change_of : Command → Option Asked
+abbrev pub change_of : Command → Option AskedChange
 change_of (Get caller key) = asks caller key (one Always Keep)
 change_of (Set caller key text) = asks caller key (one Always (PutText text))
 change_of (Num caller key number) = asks caller key (one Always (PutNumber number))

@@ -110,14 +110,14 @@ abbrev pub IsOpen : ℕ → List ℕ → Type 0
 IsOpen room bytes = (has_newline bytes ≡ false) × (length bytes ≤ room)
 
 -- a source was asked for what follows the bytes held, each time only while it was open what comes next. It gave these
-pub data Asked {S : Type 0} (gives : S → Taken → S → Type 0) (room : ℕ) (held : List ℕ) (old : S) : List ℕ → S → Type 0 where
-  not_asked : Asked gives room held old [] old
-  asked : {more bytes : List ℕ} {mid new : S} → Asked gives room held old more mid → IsOpen room (held ++ more) → gives mid (Bytes bytes) new → Asked gives room held old (more ++ bytes) new
+pub data SourceGave {S : Type 0} (gives : S → Taken → S → Type 0) (room : ℕ) (held : List ℕ) (old : S) : List ℕ → S → Type 0 where
+  not_asked : SourceGave gives room held old [] old
+  asked : {more bytes : List ℕ} {mid new : S} → SourceGave gives room held old more mid → IsOpen room (held ++ more) → gives mid (Bytes bytes) new → SourceGave gives room held old (more ++ bytes) new
 
 -- the same up to the end of the input or a fault, where the last call told one
 pub data Heard {S : Type 0} (gives : S → Taken → S → Type 0) (room : ℕ) (held : List ℕ) (old : S) : List ℕ → Option Taken → S → Type 0 where
-  going : {more : List ℕ} {new : S} → Asked gives room held old more new → Heard gives room held old more None new
-  stopped : {more : List ℕ} {mid new : S} {last : Taken} → Asked gives room held old more mid → IsOpen room (held ++ more) → gives mid last new → Heard gives room held old more (Some last) new
+  going : {more : List ℕ} {new : S} → SourceGave gives room held old more new → Heard gives room held old more None new
+  stopped : {more : List ℕ} {mid new : S} {last : Taken} → SourceGave gives room held old more mid → IsOpen room (held ++ more) → gives mid last new → Heard gives room held old more (Some last) new
 
 -- the text of the first line of the bytes, and what follows it
 abbrev pub IsTextOf : List ℕ → List ℕ → List ℕ → Type 0

@@ -40,7 +40,7 @@ use Rattle.cas_record.proofs.Logs.Checks.{each_place, each_at, check_next, lawfu
 use Rattle.cas_record.proofs.Logs.Listings.{stones_of_listing}
 use Rattle.cas_record.proofs.Logs.Reasons.{check_reason, orderly_checked}
 use Rattle.cas_record.proofs.Tests.{key_same, nat_same}
-use Rattle.cas_protocol.specs.Acceptors.{Tells}
+use Rattle.cas_protocol.specs.Acceptors.{LogTells}
 use Rattle.cas_model.specs.Parties.{IsVaultTrue, IsHeldReady}
 use Rattle.cas_protocol.specs.Protocol.{Made, IsLeaving}
 use Rattle.cas_model.specs.View.{Meaning}
@@ -170,7 +170,7 @@ not_telling_slot : HasReason small_cluster told_before tells_nothing → ⊥
 not_telling_slot may = let same : ◌≡◌ {A = ℕ} 0 1 = ap (λ (b : Ballot). b.counter) may.slot in absurd (omega arith)
 
 -- and an acceptor that keeps what the log tells does not answer so
-not_telling_answer : (kept new : Contents) → Tells told_before 2 kept → Handles kept silent (tell.Promised None) new → ⊥
+not_telling_answer : (kept new : Contents) → LogTells told_before 2 kept → Handles kept silent (tell.Promised None) new → ⊥
 not_telling_answer kept new tells row =
     let same : ◌≡◌ {A = ℕ} 1 (accepted_ballot (accepted_of (kept_at kept key_a))).counter = ap (λ (slot : SlotTold). slot.accepted.counter) (tells.slots key_a) in
     let none : ◌≡◌ {A = ℕ} 0 (accepted_ballot (accepted_of (kept_at kept key_a))).counter = ap (λ (accepted : Option Accepted). (accepted_ballot accepted).counter) row.1.0 in

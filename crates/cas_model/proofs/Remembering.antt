@@ -30,9 +30,9 @@ use Rattle.cas_model.specs.Council.{MemberPlace, ListingView, NextKeys, PlanView
 use Rattle.cas_model.specs.Eras.Listed.{IsPlanKnown, IsPlanTrue}
 use Rattle.cas_model.specs.Calls.Step as calls
 use Rattle.cas_model.specs.Calls.Step.{IsRescan, Rescans, rescanned_by, one_more}
-use Rattle.cas_model.specs.Eras.Course.{Entry, Course, IsNoEra, course_of, entries_in, Follows, entering, next_era, shown_era, era_shown, WorksIn, not_yet, entered, IsUnderWay, IsCourse, IsCourseOf}
+use Rattle.cas_model.specs.Eras.Course.{EraEntry, Course, IsNoEra, course_of, entries_in, Follows, entering, next_era, shown_era, era_shown, WorksIn, not_yet, entered, CourseIsUnderWay, IsCourse, IsCourseOf}
 use Rattle.cas_model.specs.History.{IsLogged, IsInEra, inside, torn, IsFollowed, IsRemembered}
-use Rattle.cas_model.specs.Parties.{AreMessagesTrue, IsWithin, IsEraOf, AreReady, HaveOneEach, IsDeskTrue, IsDoneTrue, IsToldTrue, IsCallTrue, IsCallerTrue}
+use Rattle.cas_model.specs.Parties.{AreMessagesTrue, VaultKeepsEra, IsEraOf, ArePromisesHeld, HaveOneEach, IsDeskTrue, IsDoneTrue, IsToldTrue, IsCallTrue, IsCallerTrue}
 use Rattle.cas_protocol.specs.Protocol.{Made, GlobalState, is_done, IsListed, IsLeaving, MarksEra, with_mark}
 use Rattle.cas_model.specs.Step as step
 use Rattle.cas_model.specs.Step.{Event, Step, StepEnd, StepRestartProposer, restarted}
@@ -97,7 +97,7 @@ one_of (inr x) = x
 shown_same : (of : Course) (id : ℕ) → id ≤ of.last_proposer → IsCourse of → era_shown of.plan (era_in of.eras id) (era_in of.eras id).number ≡ era_in of.eras id
 shown_same of id low is = by_plan of.plan is.under_way
   where
-    by_plan : (plan : Option PlanView) → IsUnderWay of plan → era_shown plan (era_in of.eras id) (era_in of.eras id).number ≡ era_in of.eras id
+    by_plan : (plan : Option PlanView) → CourseIsUnderWay of plan → era_shown plan (era_in of.eras id) (era_in of.eras id).number ≡ era_in of.eras id
     by_plan None under_way = refl
     by_plan (Some plan) under_way = by_next (entering plan.progress.left) refl
       where
@@ -221,13 +221,13 @@ entry_quiet m old id plan next at in_base now same_id none idle still =
 -- ---- disks in eras
 -- a proposer whose era is the same is in it as before
 still_in : {S V : Type 0} (m : Meaning S V) (of : Course) (eras : List Era) (id : ℕ) (desk : DeskView V) → era_in eras id ≡ era_in of.eras id → IsInEra m of id desk → IsInEra m (record of { eras = eras }) id desk
-still_in {S} {V} m of eras id desk same (inside within) = inside (subst (λ (e : Era). IsWithin m.disks e.number e.number desk.vault) (sym same) within)
+still_in {S} {V} m of eras id desk same (inside within) = inside (subst (λ (e : Era). VaultKeepsEra m.disks e.number e.number desk.vault) (sym same) within)
 still_in {S} {V} m of eras id desk same (torn plan next is_plan is_next in_base down none idle within) =
-    torn plan next is_plan is_next (same ∙ in_base) down none idle (subst (λ (e : Era). IsWithin m.disks e.number next.number desk.vault) (sym same) within)
+    torn plan next is_plan is_next (same ∙ in_base) down none idle (subst (λ (e : Era). VaultKeepsEra m.disks e.number next.number desk.vault) (sym same) within)
 
 -- ---- a proposer is up again in the next era
 restarts_entered : {S V : Type 0} (m : Meaning S V) (old : View S V) (id : ℕ) (plan : PlanView) (next : Era) (now : DeskView V) → (at : GoesNext m old id plan next) → m.disks.tells
-    → era_at old id ≡ plan.progress.era → at.desk.cache ≡ [] → at.desk.round ≡ None → Restarts m.disks at.desk now → IsWithin m.disks next.number next.number now.vault
+    → era_at old id ≡ plan.progress.era → at.desk.cache ≡ [] → at.desk.round ≡ None → Restarts m.disks at.desk now → VaultKeepsEra m.disks next.number next.number now.vault
     → IsFollowed m (record (with_desk old id now) { eras = slice_set old.eras id next })
 restarts_entered {S} {V} m old id plan next now at disks in_base none idle by within = record {
   cluster = at.is.cluster;
@@ -266,7 +266,7 @@ restarts_entered {S} {V} m old id plan next now at disks in_base none idle by wi
     by_place p d at_d (inl own) = subst (λ (q : ℕ). (q ≤ old.last_proposer) × IsInEra m (course_of new) q d) (sym own) (
       known_in m old id plan next at,
       subst (IsInEra m (course_of new) id) (sym (own_set old.desks id now d (subst (λ (q : ℕ). IsAt (slice_set old.desks id now) q d) own at_d)))
-          (inside (subst (λ (e : Era). IsWithin m.disks e.number e.number now.vault) (sym (era_set old.eras id next (omega (arith, known_in m old id plan next at, at.is.course.is_course.few, at.is.course.is_course.places)))) within)),
+          (inside (subst (λ (e : Era). VaultKeepsEra m.disks e.number e.number now.vault) (sym (era_set old.eras id next (omega (arith, known_in m old id plan next at, at.is.course.is_course.few, at.is.course.is_course.places)))) within)),
     )
     by_place p d at_d (inr other) =
         let was = at.is.in_eras p d (other_set old.desks id now p d other at_d) in
@@ -281,13 +281,13 @@ shown_up {S} {V} m old id desk now caller is disks at at_c by up = by_era (is.in
     low = (is.in_eras id desk at).0
 
     -- it shows its era
-    same : IsWithin m.disks (era_at old id).number (era_at old id).number now.vault → IsFollowed m (record (with_desk old id now) { eras = slice_set old.eras id (era_shown old.council.plan (era_at old id) (kept_of now.vault).era) })
+    same : VaultKeepsEra m.disks (era_at old id).number (era_at old id).number now.vault → IsFollowed m (record (with_desk old id now) { eras = slice_set old.eras id (era_shown old.council.plan (era_at old id) (kept_of now.vault).era) })
     same within = subst (λ (l : List Era). IsFollowed m (record (with_desk old id now) { eras = l }))
         (sym (ap (λ (n : ℕ). slice_set old.eras id (era_shown old.council.plan (era_at old id) n)) within.kept ∙ ap (λ (e : Era). slice_set old.eras id e) (shown_same (course_of old) id low is.course.is_course) ∙ set-get_or old.eras id (majority_era 0 [])))
         (restarts_inside m old id desk now is disks at by (inside within))
 
     -- or the next one
-    goes : (plan : PlanView) (next : Era) → old.council.plan ≡ Some plan → next_era old.council.plan ≡ Some next → era_at old id ≡ plan.progress.era → desk.cache ≡ [] → desk.round ≡ None → IsWithin m.disks next.number next.number now.vault
+    goes : (plan : PlanView) (next : Era) → old.council.plan ≡ Some plan → next_era old.council.plan ≡ Some next → era_at old id ≡ plan.progress.era → desk.cache ≡ [] → desk.round ≡ None → VaultKeepsEra m.disks next.number next.number now.vault
         → IsFollowed m (record (with_desk old id now) { eras = slice_set old.eras id (era_shown old.council.plan (era_at old id) (kept_of now.vault).era) })
     goes plan next is_plan is_next in_base none idle within = subst (λ (e : Era). IsFollowed m (record (with_desk old id now) { eras = slice_set old.eras id e }))
         (sym (ap (λ (n : ℕ). era_shown old.council.plan (era_at old id) n) within.kept ∙ ap (λ (o : Option Era). shown_era o (era_at old id) next.number) is_next ∙ if_true (next.number == next.number) next (era_at old id) (nat_is refl)))
@@ -366,7 +366,7 @@ enters_log {S} {V} m old id plan next at disks (entered there) = record {
         same_id = ap (λ (x : DeskView V). x.id) enters.desk ∙ of.same_id;
         known = of.known;
         vault = vault_past m at.is.logged.global.log id (era_at old id).number (record { still_past = enters.still_past disks; ages = enters.ages disks }) of.vault;
-        cached = subst (AreReady at.is.cluster at.is.logged.global.log at.is.logged.global.made id (era_at old id).number) (sym (ap (λ (x : DeskView V). x.cache) enters.desk)) (λ key ready h. absurd (contains_none h));
+        cached = subst (ArePromisesHeld at.is.cluster at.is.logged.global.log at.is.logged.global.made id (era_at old id).number) (sym (ap (λ (x : DeskView V). x.cache) enters.desk)) (λ key ready h. absurd (contains_none h));
         one_each = subst HaveOneEach (sym (ap (λ (x : DeskView V). x.cache) enters.desk)) tt;
         none_open = ap (λ (x : DeskView V). x.round) enters.desk;
       });
@@ -433,7 +433,7 @@ enters_logged {S} {V} m old plan next middle at disks leaves =
         (happens at.is.cluster whole.meets log.after whole.history (MarksEra id next.number may)) whole
 
 -- what is to come is still to come, or was the next
-later_of_next : (cluster : Cluster) (plan : PlanView) (next : Era) (b : Bool) (last_proposer : ℕ) (eras : List Era) (entries : List Entry) → entering plan.progress.left ≡ Some next → Follows plan.progress.era next
+later_of_next : (cluster : Cluster) (plan : PlanView) (next : Era) (b : Bool) (last_proposer : ℕ) (eras : List Era) (entries : List EraEntry) → entering plan.progress.left ≡ Some next → Follows plan.progress.era next
     → ((era : Era) → Contains (eras_in plan.progress.left) era → IsEraOf cluster era) → ((number : ℕ) → plan.progress.era.number + length (eras_in plan.progress.left) < number → IsNoEra cluster number)
     → IsCourse (course last_proposer eras (Some (if b then record plan { progress = record { era = next; left = rest_of plan.progress.left }; entered = 0; listing = None } else record plan { entered = suc plan.entered })) entries)
     → IsCourseOf cluster (course last_proposer eras (Some (if b then record plan { progress = record { era = next; left = rest_of plan.progress.left }; entered = 0; listing = None } else record plan { entered = suc plan.entered })) entries)
@@ -468,7 +468,7 @@ torn_still {S} {V} m old plan next at p d other at_d = by_era (at.is.in_eras p d
     same = era_kept old.eras plan.entered p next other
 
     by_era : IsInEra m (course_of old) p d → IsInEra m (New (plan_after old.last_proposer plan next)) p d
-    by_era (inside within) = inside (subst (λ (e : Era). IsWithin m.disks e.number e.number d.vault) (sym same) within)
+    by_era (inside within) = inside (subst (λ (e : Era). VaultKeepsEra m.disks e.number e.number d.vault) (sym same) within)
     by_era (torn plan_ next_ is_plan_ is_next_ in_base down none idle within) = by_last (plan.entered == old.last_proposer) refl
       where
         one : plan_ ≡ plan
@@ -481,7 +481,7 @@ torn_still {S} {V} m old plan next at p d other at_d = by_era (at.is.in_eras p d
         next_is = ap next_era (sym at.is_plan) ∙ is_next_
 
         by_last : (b : Bool) → (plan.entered == old.last_proposer) ≡ b → IsInEra m (New (if b then record plan { progress = record { era = next; left = rest_of plan.progress.left }; entered = 0; listing = None } else record plan { entered = suc plan.entered })) p d
-        by_last false is = torn (record plan { entered = suc plan.entered }) next_ refl next_is (same ∙ base) down none idle (subst (λ (e : Era). IsWithin m.disks e.number next_.number d.vault) (sym same) within)
+        by_last false is = torn (record plan { entered = suc plan.entered }) next_ refl next_is (same ∙ base) down none idle (subst (λ (e : Era). VaultKeepsEra m.disks e.number next_.number d.vault) (sym same) within)
         by_last true is = elim ((planned m old plan.entered plan next at).is_course.under_way.each p (at.is.in_eras p d at_d).0) [
           | not_yet few in_era ↦ absurd (omega (arith, few, other, nat_same is, (at.is.in_eras p d at_d).0))
           | entered there ↦ absurd (omega (arith, ap (λ (e : Era). e.number) (some_is (sym there ∙ at.is_next)), ap (λ (e : Era). e.number) base, (follows_next m old plan.entered plan next at).number))
@@ -497,7 +497,7 @@ enters_remembered {S} {V} m old plan next middle at disks leaves = record {
   in_eras = λ p d at_d. subst (λ (c : Course). (p ≤ c.last_proposer) × IsInEra m c p d) (sym is) (by_place p d (there leaves p d at_d));
 }
   where
-    entries : List Entry
+    entries : List EraEntry
     entries = entries_in old.marks ++ record { proposer = plan.entered; era = next.number } ∷ []
 
     on : IsCourseOf at.is.cluster (course old.last_proposer old.eras (Some plan) (entries_in old.marks))
@@ -523,7 +523,7 @@ enters_remembered {S} {V} m old plan next middle at disks leaves = record {
     by_place : (p : ℕ) (d : DeskView V) → Changed p d → (p ≤ old.last_proposer) × IsInEra m (course old.last_proposer (slice_set old.eras plan.entered next) (Some (plan_after old.last_proposer plan next)) entries) p d
     by_place p d (inl own) = subst (λ (q : ℕ). (q ≤ old.last_proposer) × IsInEra m (course old.last_proposer (slice_set old.eras plan.entered next) (Some (plan_after old.last_proposer plan next)) entries) q d) (sym own.0) (
       known_in m old plan.entered plan next at,
-      inside (subst (λ (e : Era). IsWithin m.disks e.number e.number d.vault)
+      inside (subst (λ (e : Era). VaultKeepsEra m.disks e.number e.number d.vault)
           (sym (era_set old.eras plan.entered next (omega (arith, known_in m old plan.entered plan next at, at.is.course.is_course.few, at.is.course.is_course.places)))) (own.1.in_era disks)),
     )
     by_place p d (inr other) = ((at.is.in_eras p d other.1).0, torn_still m old plan next at p d other.0 other.1)
@@ -546,9 +546,9 @@ fails_remembered {S} {V} m old plan next middle at disks down =
     in_era desk now fails (torn plan_ next_ is_plan is_next in_base was_down none idle within) = absurd (cc (was_down, fails.up))
     in_era desk now fails (inside within) = by_era works (fails.torn disks (era_at old plan.entered).number within)
       where
-        by_era : WorksIn plan plan.entered (era_at old plan.entered) → IsWithin m.disks (era_at old plan.entered).number next.number now.vault → IsInEra m (course_of old) plan.entered now
+        by_era : WorksIn plan plan.entered (era_at old plan.entered) → VaultKeepsEra m.disks (era_at old plan.entered).number next.number now.vault → IsInEra m (course_of old) plan.entered now
         by_era (not_yet few in_base) left = torn plan next at.is_plan (ap next_era at.is_plan ∙ at.is_next) in_base (ap (λ (d : DeskView V). d.down) fails.crashed) (ap (λ (d : DeskView V). d.cache) fails.crashed) (ap (λ (d : DeskView V). d.round) fails.crashed) left
-        by_era (entered there) left = inside (subst (λ (n : ℕ). IsWithin m.disks (era_at old plan.entered).number n now.vault) (ap (λ (e : Era). e.number) (some_is (sym at.is_next ∙ there))) left)
+        by_era (entered there) left = inside (subst (λ (n : ℕ). VaultKeepsEra m.disks (era_at old plan.entered).number n now.vault) (ap (λ (e : Era). e.number) (some_is (sym at.is_next ∙ there))) left)
 
 enters : {S V : Type 0} (m : Meaning S V) (old : View S V) (id : ℕ) (new : View S V) → m.disks.tells → IsFollowed m old → StepEnterEra m old id new → IsFollowed m new
 enters {S} {V} m old id new disks is by = by_case by.enters

@@ -22,7 +22,7 @@ use Rattle.cas_record.specs.Logs.Orderly.{IsAboveFloors, IsClear, IsNoneOrAbove}
 use Rattle.cas_record.specs.Places.{Stands, IsPrefix}
 use Rattle.cas_record.proofs.Logs.Lemmas.{acked_at, not_zero, acked_proposed}
 use Rattle.cas_model.specs.View.{Meaning, View, CallView, era_at, IsAt}
-use Rattle.cas_protocol.specs.Acceptors.{IsLeft, Tells}
+use Rattle.cas_protocol.specs.Acceptors.{IsLeft, LogTells}
 use Rattle.cas_protocol.specs.Held.{Holds}
 use Rattle.cas_model.specs.History.{IsRemembered}
 use Rattle.cas_model.specs.Parties.{IsAcceptorTrue, IsDeskTrue, IsPrepareTrue, IsAcceptTrue, IsOpenTrue}
@@ -88,7 +88,7 @@ done_kept {S} {V} m tells view a is stands above = record {
     stood = subst (Stands (Acked a)) (sym is.followed.logged.agrees.marks) stands
 
     held : (is.followed.cluster.accepts a.era a.by ≡ true)
-        × ((acceptor : ℕ) (kept new : Contents) → has_member a.by acceptor ≡ true → Tells log acceptor kept → IsLeft log acceptor kept (Ok new) → Holds log a.key a.ballot new)
+        × ((acceptor : ℕ) (kept new : Contents) → has_member a.by acceptor ≡ true → LogTells log acceptor kept → IsLeft log acceptor kept (Ok new) → Holds log a.key a.ballot new)
     held = held_by is.followed.cluster is.followed.logged.meets log a is.followed.logged.history.lawful is.followed.logged.history.orderly stood (subst (λ (l : List Mark). IsAboveFloors l a.key a.ballot) (sym is.followed.logged.agrees.marks) above)
 
     some : a.ballot ≡ zero_ballot → ⊥

@@ -49,14 +49,14 @@ use Rattle.cas_change.specs.declared.outcome.Took.TheVariants.{Clause as ByClaus
 use Rattle.cas_record.specs.Places.{here, past}
 use Rattle.cas_record.specs.Logs.Witness.{three, key_a, at}
 use Rattle.cas_model.specs.Council.{opening_council}
-use Rattle.cas_model.specs.Parties.{IsAged, IsWithin}
+use Rattle.cas_model.specs.Parties.{IsAged, VaultKeepsEra}
 use Rattle.cas_model.specs.Step.{Begin, Turn, Propose, Count, End, Stray, CrashAcceptor, RestartAcceptor, CrashProposer, RestartProposer, Step, IsOpening, IsFreshAcceptor, IsFreshDesk, History, opens, steps, crashes, starts, restarts}
 use Rattle.cas_model.specs.Stops.Step.{of_client, closes}
 use Rattle.cas_model.specs.Frames.Acceptors.{AnswersByTable, StopsWithin}
 use Rattle.cas_model.specs.Calls.Step as calls
 use Rattle.cas_model.specs.Calls.Step.{Sends, prepares_to, accepts_to}
 use Rattle.cas_model.specs.Frames.Step as frames
-use Rattle.cas_model.specs.Calls.Desks.{GoesOn, HasDrawn, Restarts}
+use Rattle.cas_model.specs.Calls.Desks.{VaultGoesOn, HasDrawn, Restarts}
 use Rattle.cas_model.specs.View.{View, CallView, CallerView, IsAt, new_caller, new_call, with_acceptor}
 use Rattle.cas_model.specs.Witness.{ToyShelf, ToyDisk, toys, ShownHistory}
 use Rattle.cas_protocol.proofs.Handling as handling
@@ -84,13 +84,13 @@ module _ {D : Type 0} (begun : Vault D) where
   abbrev vault_at : ℕ → Vault ToyDisk
   vault_at counter = record { cells = record { disk = record { kept = kept }; alloc = begun.cells.alloc; narrow = begun.cells.narrow; cells = begun.cells.cells; change = begun.cells.change }; counter = counter; kept = kept }
 
-  in_era : (counter : ℕ) → IsWithin toys.disks 0 0 (vault_at counter)
+  in_era : (counter : ℕ) → VaultKeepsEra toys.disks 0 0 (vault_at counter)
   in_era counter = record { kept = refl; left = λ c other on too. inl (ap (λ (k : Kept). k.era) (same_kept other kept c too on)) }
 
   in_age : (counter : ℕ) → IsAged toys.disks 0 (vault_at counter)
   in_age counter = record { kept = omega arith; left = λ c other on too. omega arith }
 
-  goes_on : (old new : ℕ) → old ≤ new → GoesOn toys.disks (vault_at old) (vault_at new)
+  goes_on : (old new : ℕ) → old ≤ new → VaultGoesOn toys.disks (vault_at old) (vault_at new)
   goes_on old new up = record {
     still_past = λ tells n past. record { counter = omega (arith, up, past.counter); images = past.images };
     ages = λ tells age is. record { kept = is.kept; left = is.left };

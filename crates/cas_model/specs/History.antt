@@ -10,7 +10,7 @@ use Rattle.cas_record.specs.Logs.Lawful.{Cluster, ClusterMeets}
 use Rattle.cas_model.specs.Collection.Logged.{AreRenewed}
 use Rattle.cas_model.specs.Council.{PlanView}
 use Rattle.cas_model.specs.Eras.Course.{Course, course_of, next_era, IsCourseOf}
-use Rattle.cas_model.specs.Parties.{IsWithin, IsAcceptorTrue, AreMessagesTrue, IsEraOf, IsDeskTrue, IsCallerTrue}
+use Rattle.cas_model.specs.Parties.{VaultKeepsEra, IsAcceptorTrue, AreMessagesTrue, IsEraOf, IsDeskTrue, IsCallerTrue}
 use Rattle.cas_model.specs.Eras.Listed.{IsCouncilTrue}
 use Rattle.cas_protocol.specs.Protocol.{GlobalState, HasHistory}
 use Rattle.cas_model.specs.View.{Meaning, View, CallerView, IsAt, era_at, era_in}
@@ -39,9 +39,9 @@ pub record IsLogged {S V : Type 0} (m : Meaning S V) (cluster : Cluster) (view :
 -- A crash leaves the vault in the era in which its proposer works. Or the proposer is down, holds no promise and has no open round, and
 -- a crash leaves its vault in that era, which all entered last, or in the next one.
 pub data IsInEra {S V : Type 0} (m : Meaning S V) (course : Course) (id : ℕ) (desk : DeskView V) : Type 0 where
-  inside : IsWithin m.disks (era_in course.eras id).number (era_in course.eras id).number desk.vault → IsInEra m course id desk
+  inside : VaultKeepsEra m.disks (era_in course.eras id).number (era_in course.eras id).number desk.vault → IsInEra m course id desk
   torn : (plan : PlanView) (next : Era) → course.plan ≡ Some plan → next_era course.plan ≡ Some next → era_in course.eras id ≡ plan.progress.era → desk.down ≡ true → desk.cache ≡ [] → desk.round ≡ None
-      → IsWithin m.disks (era_in course.eras id).number next.number desk.vault → IsInEra m course id desk
+      → VaultKeepsEra m.disks (era_in course.eras id).number next.number desk.vault → IsInEra m course id desk
 
 abbrev pub AreInEras : {S V : Type 0} → Meaning S V → View S V → Type 0
 AreInEras {S} {V} m view = (id : ℕ) (desk : DeskView V) → IsAt view.desks id desk → (id ≤ view.last_proposer) × IsInEra m (course_of view) id desk

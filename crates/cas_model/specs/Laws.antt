@@ -52,12 +52,12 @@ pub record IsKeptBy {S V : Type 0} (m : Meaning S V) (marks : List Mark) (key : 
 
 -- What is acknowledged stands on the shelves of those that confirmed it, who are an accept quorum of its era, until a floor is made at or
 -- above it.
-pub record IsKept {S V : Type 0} (m : Meaning S V) (view : View S V) (a : Acknowledgment) : Type 0 where
+pub record AcknowledgedIsKept {S V : Type 0} (m : Meaning S V) (view : View S V) (a : Acknowledgment) : Type 0 where
   pub quorum : (id : ℕ) → id ≤ view.last_proposer → a.era ≡ (era_at view id).number → holds_acc (era_at view id) a.by ≡ true
   pub kept : (id : ℕ) (acceptor : AcceptorView S) → has_member a.by id ≡ true → IsAt view.acceptors id acceptor → IsKeptBy m (reverse view.marks) a.key a.ballot acceptor
 
 abbrev pub WhatIsDoneIsKept : {S V : Type 0} → Meaning S V → Type 0
-WhatIsDoneIsKept {S} {V} m = m.shelves.tells → (view : View S V) (a : Acknowledgment) → IsRemembered m view → Stands (Acked a) (reverse view.marks) → IsAboveFloors (reverse view.marks) a.key a.ballot → IsKept m view a
+WhatIsDoneIsKept {S} {V} m = m.shelves.tells → (view : View S V) (a : Acknowledgment) → IsRemembered m view → Stands (Acked a) (reverse view.marks) → IsAboveFloors (reverse view.marks) a.key a.ballot → AcknowledgedIsKept m view a
 
 -- The proposer draws nothing at or below the floor, whatever a crash now leaves of its vault; and the promise that it holds of the key, the
 -- round that it has open for the key and the ballot that rides with that are above the floor.

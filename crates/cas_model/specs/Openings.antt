@@ -16,7 +16,7 @@ use Rattle.cas_record.specs.declared.mark.Mark.{Mark}
 use Rattle.cas_record.specs.declared.mark.Mark.TheVariants.{Floor}
 use Rattle.cas_model.specs.Council.{opening_council}
 use Rattle.cas_model.specs.Calls.Step.{most_marks}
-use Rattle.cas_model.specs.Parties.{IsWithin}
+use Rattle.cas_model.specs.Parties.{VaultKeepsEra}
 use Rattle.cas_model.specs.View.{Meaning, CallerView, View, IsAt, new_caller}
 
 -- ---- floors
@@ -45,7 +45,7 @@ abbrev pub slot_of : Opening → Slot
 slot_of o = record { promise = zero_ballot; accepted = Some (record { ballot = o.ballot; era = 0; state = o.state }) }
 
 -- these are the floors, each in its slot, and no other key has one
-pub record Holds (floors : List Opening) (kept : Contents) : Type 0 where
+pub record HoldsFloors (floors : List Opening) (kept : Contents) : Type 0 where
   pub each : (o : Opening) → Contains floors o → kept_at kept o.key ≡ Some (slot_of o)
   pub no_other : (key : List ℕ) → ((o : Opening) → Contains floors o → o.key ≡ key → ⊥) → kept_at kept key ≡ None
 
@@ -53,7 +53,7 @@ pub record Holds (floors : List Opening) (kept : Contents) : Type 0 where
 pub record IsOpenAcceptor {S V : Type 0} (m : Meaning S V) (members : List ℕ) (floors : List Opening) (id : ℕ) (acceptor : AcceptorView S) : Type 0 where
   pub same_id : acceptor.id ≡ id
   pub started : acceptor.down ≡ false → acceptor.started ≡ true
-  pub holds : has_member members id ≡ true → acceptor.down ≡ false → Holds floors (m.shelves.contents acceptor.shelf)
+  pub holds : has_member members id ≡ true → acceptor.down ≡ false → HoldsFloors floors (m.shelves.contents acceptor.shelf)
   pub keeps : has_member members id ≡ false → acceptor.down ≡ false → m.shelves.contents acceptor.shelf ≡ nothing
   pub lasts : m.shelves.tells → acceptor.down ≡ false → OnlyLeaves (m.shelves.contents acceptor.shelf) (m.shelves.may_leave acceptor.shelf)
   pub not_started : acceptor.down ≡ true → acceptor.started ≡ false
@@ -67,7 +67,7 @@ pub record IsUp {S V : Type 0} (view : View S V) (id : ℕ) : Type 0 where
 -- it holds no promise and has no open round, and its vault is in era 0 and past each floor
 pub record IsOpenDesk {S V : Type 0} (m : Meaning S V) (floors : List Opening) (id : ℕ) (desk : DeskView V) : Type 0 where
   pub same_id : desk.id ≡ id
-  pub in_era : m.disks.tells → IsWithin m.disks 0 0 desk.vault
+  pub in_era : m.disks.tells → VaultKeepsEra m.disks 0 0 desk.vault
   pub past : m.disks.tells → (o : Opening) → Contains floors o → IsPast m.disks.may_leave o.ballot.counter desk.vault
   pub no_promise : desk.cache ≡ []
   pub none_open : desk.round ≡ None

@@ -99,7 +99,7 @@ pub record IsEraOf (cluster : Cluster) (era : Era) : Type 0 where
   pub sized : IsSized era
 
 -- the vault keeps this era, and whatever a crash leaves of it keeps this one or the other
-pub record IsWithin {V : Type 0} (m : DiskMeaning V) (era other : ℕ) (vault : Vault V) : Type 0 where
+pub record VaultKeepsEra {V : Type 0} (m : DiskMeaning V) (era other : ℕ) (vault : Vault V) : Type 0 where
   pub kept : (kept_of vault).era ≡ era
   pub left : (c : List ℕ) (kept : Kept) → m.may_leave (disk_of vault) c → KeptOn kept c → (kept.era ≡ era) ⊎ (kept.era ≡ other)
 
@@ -213,8 +213,8 @@ pub record IsVaultTrue {S V : Type 0} (m : Meaning S V) (log : List Happening) (
   pub not_beyond : Stands (Entered id (suc era)) log → ⊥
 
 -- each promise of the cache is held
-abbrev pub AreReady : Cluster → List Happening → List Made → ℕ → ℕ → List (List ℕ × Ready) → Type 0
-AreReady cluster log all id era cache = (key : List ℕ) (ready : Ready) → Contains cache (key, ready) → IsHeldReady cluster log all id era key ready
+abbrev pub ArePromisesHeld : Cluster → List Happening → List Made → ℕ → ℕ → List (List ℕ × Ready) → Type 0
+ArePromisesHeld cluster log all id era cache = (key : List ℕ) (ready : Ready) → Contains cache (key, ready) → IsHeldReady cluster log all id era key ready
 
 -- no key has two promises
 abbrev pub HaveOneEach : List (List ℕ × Ready) → Type 0
@@ -230,7 +230,7 @@ pub record IsDeskTrue {S V : Type 0} (m : Meaning S V) (cluster : Cluster) (log 
   pub same_id : desk.id ≡ id
   pub known : id ≤ cluster.last_proposer
   pub vault : IsVaultTrue m log id era desk.vault
-  pub cached : AreReady cluster log all id era desk.cache
+  pub cached : ArePromisesHeld cluster log all id era desk.cache
   pub one_each : HaveOneEach desk.cache
   pub none_open : HasNone desk.round desk.cache
   pub round : IsOpenTrue cluster log all id era caller waiting desk.round

@@ -20,7 +20,7 @@ use Rattle.cas_record.specs.declared.operator.OpAnswer.{OpAnswer}
 use Rattle.cas_model.specs.Council.{Question, opening_council}
 use Rattle.cas_model.specs.Eras.Course.{era_shown}
 use Rattle.cas_model.specs.Openings.{Opening, IsOpeningOn}
-use Rattle.cas_model.specs.Parties.{IsWithin}
+use Rattle.cas_model.specs.Parties.{VaultKeepsEra}
 use Rattle.cas_model.specs.Frames.Acceptors.{CrashesShelf, StartsShelf, FailsToStart}
 use Rattle.cas_model.specs.Calls.Step.{most_marks, Opens, BeginsRound, RefusesCall, ProposesOrEnds, CountsOrEnds, EndsCall, telling, with_call}
 use Rattle.cas_model.specs.Collection.Step.{keep_always, StepBeginCollect, StepReadHeld, StepCountCollect, StepEndCollect, StepGatherRound, StepRenew, StepAskCollect, StepGatherCollect, StepMakeFloor}
@@ -197,7 +197,7 @@ pub record IsFreshAcceptor {S V : Type 0} (m : Meaning S V) (id : ℕ) (acceptor
 -- it holds no promise and has no open round, and its vault is in era 0
 pub record IsFreshDesk {S V : Type 0} (m : Meaning S V) (id : ℕ) (desk : DeskView V) : Type 0 where
   pub same_id : desk.id ≡ id
-  pub in_era : m.disks.tells → IsWithin m.disks 0 0 desk.vault
+  pub in_era : m.disks.tells → VaultKeepsEra m.disks 0 0 desk.vault
   pub no_promise : desk.cache ≡ []
   pub none_open : desk.round ≡ None
 

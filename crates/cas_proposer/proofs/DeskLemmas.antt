@@ -16,7 +16,7 @@ use Rattle.cas_cache.specs.Cache.{promises_of}
 use Rattle.cas_cache.specs.Entries.{promise_at, without}
 use Rattle.cas_vault.specs.declared.kept.Kept.{Kept}
 use Rattle.cas_vault.specs.declared.vault.Vault.{Vault}
-use Rattle.cas_vault.specs.Vault.{disk_of, kept_of, IsBeforeOrAfter, Stands, IsPast}
+use Rattle.cas_vault.specs.Vault.{disk_of, kept_of, KeepsBeforeOrAfter, VaultStands, IsPast}
 use Rattle.cas_proposer.specs.declared.round.Round.{Round}
 use Rattle.cas_proposer.specs.Round.{met_with, met_after, is_heard_at, Hears, may_keep}
 use Rattle.cas_proposer.specs.Desk.{cache_after, met_counter, IsDesk}
@@ -93,6 +93,6 @@ module _ {V : Type 0} (tells : Type 0) (seen : V → List ℕ) (may_leave : V �
 
   module _ (moment : V → ℕ) (left_since : V → ℕ → List ℕ → Type 0) where
     -- a vault that was not touched
-    pub untouched : (vault : Vault V) (after : Kept) → Stands tells seen may_leave vault → tells → ((c : List ℕ) → left_since (disk_of vault) (moment (disk_of vault)) c → may_leave (disk_of vault) c)
-        → LeavesOnly moment left_since (disk_of vault) (disk_of vault) (IsBeforeOrAfter (kept_of vault) after)
+    pub untouched : (vault : Vault V) (after : Kept) → VaultStands tells seen may_leave vault → tells → ((c : List ℕ) → left_since (disk_of vault) (moment (disk_of vault)) c → may_leave (disk_of vault) c)
+        → LeavesOnly moment left_since (disk_of vault) (disk_of vault) (KeepsBeforeOrAfter (kept_of vault) after)
     untouched vault after stands t now = record { later = omega arith; each = λ c left. inl (stands.images t c (now c left)) }

@@ -7,7 +7,7 @@ use Rattle.cas_cache.specs.declared.cache.Cache.{Cache}
 use Rattle.cas_cache.specs.Cache.{promises_of, place_of}
 use Rattle.cas_cache.specs.Entries.{promise_at, without}
 use Rattle.cas_vault.specs.declared.vault.Vault.{Vault}
-use Rattle.cas_vault.specs.Vault.{counter_of, kept_of, kept_to_draw, Stands}
+use Rattle.cas_vault.specs.Vault.{counter_of, kept_of, kept_to_draw, VaultStands}
 use Rattle.cas_proposer.specs.declared.began.Began.{Began}
 use Rattle.cas_proposer.specs.declared.began.Began.TheVariants.{Prepare, Accept}
 use Rattle.cas_proposer.specs.declared.round.Round.{Round}
@@ -93,7 +93,7 @@ DrawsFor id old new (Accept ready) = new ≡ old
 
 -- ---- a desk goes down
 -- where its vault's disk fails in a draw: an open round ends, and the promises stay
-pub record GoesDown {V : Type 0} (old new : DeskView V) : Type 0 where
+pub record GoesDownInDraw {V : Type 0} (old new : DeskView V) : Type 0 where
   pub desk : new ≡ record old { vault = new.vault; cache = cache_without old.round old.cache; round = None; down = true }
   pub counter : counter_of new.vault ≡ counter_without old.round (counter_of old.vault)
   pub kept : kept_of new.vault ≡ kept_of old.vault
@@ -115,9 +115,9 @@ abbrev pub met_counter : Option Ballot → ℕ
 met_counter None = 0
 met_counter (Some met) = met.counter
 
-abbrev pub IsWithin : Option Round → Type 0
-IsWithin None = ⊤
-IsWithin (Some round) = met_counter round.met ≤ 2 ^ 48
+abbrev pub MetIsWithin : Option Round → Type 0
+MetIsWithin None = ⊤
+MetIsWithin (Some round) = met_counter round.met ≤ 2 ^ 48
 
 -- no ballot rides with a round in its prepare phase
 abbrev pub IsUnridden : Option Round → Type 0
@@ -127,9 +127,9 @@ IsUnridden (Some round) = is_preparing round.phase ≡ true → round.ride ≡ N
 -- where it is up its vault is in use, and where it is down no round is open; the open place of the cache is that of the open
 -- round's key, which has no promise; a ballot rides in an accept phase alone; and no counter that was met is above its end
 pub record IsDesk {V : Type 0} (tells : Type 0) (seen : V → List ℕ) (may_leave : V → List ℕ → Type 0) (vault : Vault V) (cache : Cache) (round : Option Round) (down : Bool) : Type 0 where
-  pub stands : down ≡ false → Stands tells seen may_leave vault
+  pub stands : down ≡ false → VaultStands tells seen may_leave vault
   pub idle : down ≡ true → round ≡ None
   pub place : place_of cache ≡ key_of round
   pub out : IsOut round (promises_of cache)
   pub unridden : IsUnridden round
-  pub within : IsWithin round
+  pub within : MetIsWithin round

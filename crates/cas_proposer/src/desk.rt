@@ -6,7 +6,7 @@ ghost use Rattle.cas_round.specs.Replies.{met_by};
 ghost use Rattle.cas_cache.specs.Cache.{promises_of, place_of};
 ghost use Rattle.cas_cache.specs.Entries.{promise_at, without};
 ghost use Rattle.cas_vault.specs.Error.{HasVaultCause, IsNotForeign};
-ghost use Rattle.cas_vault.specs.Vault.{disk_of, counter_of, kept_of, kept_to_draw, kept_one_older, kept_in_era, KeptOn, IsBeforeOrAfter, Stands, IsPast, IsForeignAt};
+ghost use Rattle.cas_vault.specs.Vault.{disk_of, counter_of, kept_of, kept_to_draw, kept_one_older, kept_in_era, KeptOn, KeepsBeforeOrAfter, VaultStands, IsPast, IsForeignAt};
 
 use crate::began::Began;
 use crate::round::Round;
@@ -47,7 +47,7 @@ impl<V: Disk> Model for Desk<V> {
 }
 
 impl<V: Disk> Desk<V> {
-    ghost use Rattle.cas_proposer.specs.Desk.{cache_after, cache_without, counter_without, promise_used, IsOpened, is_in_prepare, may_read, may_ride, with_ride, met_counter, Draws, DrawsFor, ShowsTheSame, GoesDown, IsCrashed};
+    ghost use Rattle.cas_proposer.specs.Desk.{cache_after, cache_without, counter_without, promise_used, IsOpened, is_in_prepare, may_read, may_ride, with_ride, met_counter, Draws, DrawsFor, ShowsTheSame, GoesDownInDraw, IsCrashed};
     ghost use Rattle.cas_proposer.specs.declared.round.Round.{Round as ARound};
     ghost use Rattle.cas_proposer.specs.Round.{Hears, IsVerdictOf, IsConfirmersOf, confirmed_in, has_quorum, TurnsToAccept, IsReadOf};
 
@@ -58,7 +58,7 @@ impl<V: Disk> Desk<V> {
         id: ProposerId,
         vault: Vault<V>,
     ) -> Result<Desk<V>, (AllocError, Vault<V>)>
-        requires { Stands V.tells V.seen V.may_leave vault }
+        requires { VaultStands V.tells V.seen V.may_leave vault }
         ensures desk { IfOk result (λ desk. desk ≡ record { id = id; vault = vault; cache = []; round = None; down = false }) }
         ensures back { IfErr result (λ back. back.1 ≡ vault) }
     {
@@ -87,12 +87,12 @@ impl<V: Disk> Desk<V> {
         ensures vault { IfOk result (DrawsFor self.old.id self.old.vault self.new.vault) }
         ensures desk { OnOk result (self.new ≡ record self.old { vault = self.new.vault; cache = without key.now self.old.cache; round = self.new.round }) }
         ensures gone { OnOk result (promise_at key.now self.new.cache ≡ None) }
-        ensures stands { self.new.down ≡ false → Stands V.tells V.seen V.may_leave self.new.vault }
+        ensures stands { self.new.down ≡ false → VaultStands V.tells V.seen V.may_leave self.new.vault }
 
         // The vault is then past the ballot that was drawn, and still past each number that it was past.
         ensures past { V.tells → IfOk result (λ began. promise_used began ≡ None → IsPast V.may_leave (counter_of self.new.vault) self.new.vault) }
         ensures still_past { V.tells → (n : ℕ) → IsPast V.may_leave n self.old.vault → IsPast V.may_leave n self.new.vault }
-        ensures any_moment { V.tells → LeavesOnly V.moment V.left_since (disk_of self.old.vault) (disk_of self.new.vault) (IsBeforeOrAfter (kept_of self.old.vault) (kept_to_draw (counter_of self.old.vault) (kept_of self.old.vault))) }
+        ensures any_moment { V.tells → LeavesOnly V.moment V.left_since (disk_of self.old.vault) (disk_of self.new.vault) (KeepsBeforeOrAfter (kept_of self.old.vault) (kept_to_draw (counter_of self.old.vault) (kept_of self.old.vault))) }
 
         ensures spent { IsErrOf result VaultError.Spent → (promise_at key.now self.old.cache ≡ None) × (counter_of self.old.vault ≡ 2 ^ 48) }
         ensures spent_or_no_memory { promise_at key.now self.old.cache ≡ None → counter_of self.old.vault ≡ 2 ^ 48 → IsErrOf result VaultError.Spent ⊎ IsErrOf result VaultError.NoMemory }
@@ -191,17 +191,17 @@ impl<V: Disk> Desk<V> {
         ensures drawn { (ballot : ABallot) → result ≡ Ok (Some ballot) → Draws self.old.id self.old.vault self.new.vault ballot }
         ensures rides { (ballot : ABallot) → result ≡ Ok (Some ballot) → self.new ≡ record self.old { vault = self.new.vault; round = with_ride self.old.round ballot } }
         ensures not_drawn { (self.old.id ≡ 0) ⊎ (counter_of self.old.vault ≡ 2 ^ 48) → result ≡ Ok None }
-        ensures stands { self.new.down ≡ false → Stands V.tells V.seen V.may_leave self.new.vault }
+        ensures stands { self.new.down ≡ false → VaultStands V.tells V.seen V.may_leave self.new.vault }
 
         // The vault is then past the ballot that was drawn, and still past each number that it was past.
         ensures past { V.tells → (ballot : ABallot) → result ≡ Ok (Some ballot) → IsPast V.may_leave ballot.counter self.new.vault }
         ensures still_past { V.tells → (n : ℕ) → IsPast V.may_leave n self.old.vault → IsPast V.may_leave n self.new.vault }
-        ensures any_moment { V.tells → LeavesOnly V.moment V.left_since (disk_of self.old.vault) (disk_of self.new.vault) (IsBeforeOrAfter (kept_of self.old.vault) (kept_to_draw (counter_of self.old.vault) (kept_of self.old.vault))) }
+        ensures any_moment { V.tells → LeavesOnly V.moment V.left_since (disk_of self.old.vault) (disk_of self.new.vault) (KeepsBeforeOrAfter (kept_of self.old.vault) (kept_to_draw (counter_of self.old.vault) (kept_of self.old.vault))) }
 
         ensures not_spent { IsErrOf result VaultError.Spent → ⊥ }
         ensures not_foreign { IsNotForeign result }
         ensures no_memory { IsErrOf result VaultError.NoMemory → (self.new ≡ record self.old { vault = self.new.vault }) × ShowsTheSame self.old.vault self.new.vault }
-        ensures fault { IsErrOf result VaultError.VaultFault → GoesDown self.old self.new }
+        ensures fault { IsErrOf result VaultError.VaultFault → GoesDownInDraw self.old self.new }
         ensures cause { HasVaultCause result (V.fault_count (disk_of self.old.vault)) (V.fault_count (disk_of self.new.vault)) }
     {
         if self.id.number() == 0 || self.vault.counter() == LAST_COUNTER {
@@ -224,7 +224,7 @@ impl<V: Disk> Desk<V> {
         ensures counter { counter_of self.new.vault ≡ counter_without self.old.round (counter_of self.old.vault) }
         ensures kept { kept_of self.new.vault ≡ kept_of self.old.vault }
         ensures disk { disk_of self.new.vault ≡ disk_of self.old.vault }
-        ensures stands { self.new.down ≡ false → Stands V.tells V.seen V.may_leave self.new.vault }
+        ensures stands { self.new.down ≡ false → VaultStands V.tells V.seen V.may_leave self.new.vault }
         ensures still_past { (n : ℕ) → IsPast V.may_leave n self.old.vault → IsPast V.may_leave n self.new.vault }
     {
         let Some(round) = self.round.take() else {
@@ -246,12 +246,12 @@ impl<V: Disk> Desk<V> {
         ensures desk { OnOk result (self.new ≡ record self.old { vault = self.new.vault; cache = without key.now (cache_without self.old.round self.old.cache); round = None }) }
         ensures counter { IsErrOf result VaultError.Spent ⊎ (counter_of self.new.vault ≡ max (counter_of self.old.vault) tomb.counter) }
         ensures kept { OnOk result (kept_of self.new.vault ≡ kept_one_older (max (counter_of self.old.vault) tomb.counter) (kept_of self.old.vault)) }
-        ensures stands { self.new.down ≡ false → Stands V.tells V.seen V.may_leave self.new.vault }
+        ensures stands { self.new.down ≡ false → VaultStands V.tells V.seen V.may_leave self.new.vault }
 
         // The vault is then past the tombstone, and still past each number that it was past.
         ensures past { V.tells → OnOk result (IsPast V.may_leave tomb.counter self.new.vault) }
         ensures still_past { V.tells → (n : ℕ) → IsPast V.may_leave n self.old.vault → IsPast V.may_leave n self.new.vault }
-        ensures any_moment { V.tells → LeavesOnly V.moment V.left_since (disk_of self.old.vault) (disk_of self.new.vault) (IsBeforeOrAfter (kept_of self.old.vault) (kept_one_older (max (counter_of self.old.vault) tomb.counter) (kept_of self.old.vault))) }
+        ensures any_moment { V.tells → LeavesOnly V.moment V.left_since (disk_of self.old.vault) (disk_of self.new.vault) (KeepsBeforeOrAfter (kept_of self.old.vault) (kept_one_older (max (counter_of self.old.vault) tomb.counter) (kept_of self.old.vault))) }
 
         ensures spent { IsErrOf result VaultError.Spent ↔ ((kept_of self.old.vault).age ≡ 2 ^ 48) }
         ensures after_spent { IsErrOf result VaultError.Spent → self.new ≡ self.old }
@@ -285,9 +285,9 @@ impl<V: Disk> Desk<V> {
         ensures desk { OnOk result (self.new ≡ record self.old { vault = self.new.vault; cache = []; round = None }) }
         ensures counter { counter_of self.new.vault ≡ counter_of self.old.vault }
         ensures kept { OnOk result (kept_of self.new.vault ≡ kept_in_era era.now.number (kept_of self.old.vault)) }
-        ensures stands { self.new.down ≡ false → Stands V.tells V.seen V.may_leave self.new.vault }
+        ensures stands { self.new.down ≡ false → VaultStands V.tells V.seen V.may_leave self.new.vault }
         ensures still_past { V.tells → (n : ℕ) → IsPast V.may_leave n self.old.vault → IsPast V.may_leave n self.new.vault }
-        ensures any_moment { V.tells → LeavesOnly V.moment V.left_since (disk_of self.old.vault) (disk_of self.new.vault) (IsBeforeOrAfter (kept_of self.old.vault) (kept_in_era era.now.number (kept_of self.old.vault))) }
+        ensures any_moment { V.tells → LeavesOnly V.moment V.left_since (disk_of self.old.vault) (disk_of self.new.vault) (KeepsBeforeOrAfter (kept_of self.old.vault) (kept_in_era era.now.number (kept_of self.old.vault))) }
         ensures not_spent { IsErrOf result VaultError.Spent → ⊥ }
         ensures not_foreign { IsNotForeign result }
         ensures no_memory { IsErrOf result VaultError.NoMemory → self.new ≡ record self.old { vault = self.new.vault } }
@@ -315,17 +315,17 @@ impl<V: Disk> Desk<V> {
         requires up { self.old.down ≡ false }
         ensures drawn { IfOk result (Draws self.old.id self.old.vault self.new.vault) }
         ensures desk { OnOk result (self.new ≡ record self.old { vault = self.new.vault }) }
-        ensures stands { self.new.down ≡ false → Stands V.tells V.seen V.may_leave self.new.vault }
+        ensures stands { self.new.down ≡ false → VaultStands V.tells V.seen V.may_leave self.new.vault }
 
         // The vault is then past the ballot that was drawn, and still past each number that it was past.
         ensures past { V.tells → IfOk result (λ ballot. IsPast V.may_leave ballot.counter self.new.vault) }
         ensures still_past { V.tells → (n : ℕ) → IsPast V.may_leave n self.old.vault → IsPast V.may_leave n self.new.vault }
-        ensures any_moment { V.tells → LeavesOnly V.moment V.left_since (disk_of self.old.vault) (disk_of self.new.vault) (IsBeforeOrAfter (kept_of self.old.vault) (kept_to_draw (counter_of self.old.vault) (kept_of self.old.vault))) }
+        ensures any_moment { V.tells → LeavesOnly V.moment V.left_since (disk_of self.old.vault) (disk_of self.new.vault) (KeepsBeforeOrAfter (kept_of self.old.vault) (kept_to_draw (counter_of self.old.vault) (kept_of self.old.vault))) }
 
         ensures spent { IsErrOf result VaultError.Spent ↔ (counter_of self.old.vault ≡ 2 ^ 48) }
         ensures not_foreign { IsNotForeign result }
         ensures refused { OnErr result (self.new.down ≡ false → (self.new ≡ record self.old { vault = self.new.vault }) × ShowsTheSame self.old.vault self.new.vault) }
-        ensures fault { IsErrOf result VaultError.VaultFault → GoesDown self.old self.new }
+        ensures fault { IsErrOf result VaultError.VaultFault → GoesDownInDraw self.old self.new }
         ensures down { IsErrOf result VaultError.VaultFault ↔ IsTrue self.new.down }
         ensures cause { HasVaultCause result (V.fault_count (disk_of self.old.vault)) (V.fault_count (disk_of self.new.vault)) }
     {
@@ -360,7 +360,7 @@ impl<V: Disk> Desk<V> {
     pub fn restart(&mut self) -> Result<(), VaultError>
         ensures up { self.old.down ≡ false → (result ≡ Ok tt) × (self.new ≡ self.old) }
         ensures desk { OnOk result (self.new ≡ record self.old { vault = self.new.vault; down = false }) }
-        ensures stands { self.new.down ≡ false → Stands V.tells V.seen V.may_leave self.new.vault }
+        ensures stands { self.new.down ≡ false → VaultStands V.tells V.seen V.may_leave self.new.vault }
         ensures counter { IsTrue self.old.down → OnOk result (counter_of self.new.vault ≡ (kept_of self.new.vault).bound) }
         ensures image { V.tells → IsTrue self.old.down → V.may_leave (disk_of self.old.vault) (V.seen (disk_of self.new.vault)) }
         ensures reopened { V.tells → IsTrue self.old.down → OnOk result (KeptOn (kept_of self.new.vault) (V.seen (disk_of self.new.vault))) }
@@ -397,7 +397,7 @@ impl<V: Disk> Desk<V> {
     /// How often it was renewed. While the desk is up, whatever a crash leaves of its vault was renewed as often.
     pub fn age(&self) -> u64
         ensures age { result ≡ (kept_of self.now.vault).age }
-        ensures stands { self.now.down ≡ false → Stands V.tells V.seen V.may_leave self.now.vault }
+        ensures stands { self.now.down ≡ false → VaultStands V.tells V.seen V.may_leave self.now.vault }
     {
         self.vault.age()
     }
@@ -424,18 +424,18 @@ impl<V: Disk> Desk<V> {
     }
 }
 
-ghost use Rattle.cas_proposer.specs.Desk.{cache_after, counter_after, cache_without, counter_without, met_counter, key_of, IsOut, IsWithin, Draws, ShowsTheSame};
+ghost use Rattle.cas_proposer.specs.Desk.{cache_after, counter_after, cache_without, counter_without, met_counter, key_of, IsOut, MetIsWithin, Draws, ShowsTheSame};
 
 // Draws a ballot of this proposer.
 fn draw<V: Disk>(vault: &mut Vault<V>, id: ProposerId) -> Result<Ballot, VaultError>
-    requires { Stands V.tells V.seen V.may_leave vault.old }
+    requires { VaultStands V.tells V.seen V.may_leave vault.old }
     ensures drawn { IfOk result (Draws id vault.old vault.new) }
-    ensures stands { OnOk result (Stands V.tells V.seen V.may_leave vault.new) }
+    ensures stands { OnOk result (VaultStands V.tells V.seen V.may_leave vault.new) }
     ensures past { V.tells → IfOk result (λ ballot. IsPast V.may_leave ballot.counter vault.new) }
     ensures still_past { V.tells → (n : ℕ) → IsPast V.may_leave n vault.old → IsPast V.may_leave n vault.new }
-    ensures any_moment { V.tells → LeavesOnly V.moment V.left_since (disk_of vault.old) (disk_of vault.new) (IsBeforeOrAfter (kept_of vault.old) (kept_to_draw (counter_of vault.old) (kept_of vault.old))) }
+    ensures any_moment { V.tells → LeavesOnly V.moment V.left_since (disk_of vault.old) (disk_of vault.new) (KeepsBeforeOrAfter (kept_of vault.old) (kept_to_draw (counter_of vault.old) (kept_of vault.old))) }
     ensures spent { IsErrOf result VaultError.Spent ↔ (counter_of vault.old ≡ 2 ^ 48) }
-    ensures stands_still { OnErr result (IsErrOf result VaultError.VaultFault ⊎ Stands V.tells V.seen V.may_leave vault.new) }
+    ensures stands_still { OnErr result (IsErrOf result VaultError.VaultFault ⊎ VaultStands V.tells V.seen V.may_leave vault.new) }
     ensures not_foreign { IsNotForeign result }
     ensures same { OnErr result (ShowsTheSame vault.old vault.new) }
     ensures cause { HasVaultCause result (V.fault_count (disk_of vault.old)) (V.fault_count (disk_of vault.new)) }
@@ -449,17 +449,17 @@ fn draw<V: Disk>(vault: &mut Vault<V>, id: ProposerId) -> Result<Ballot, VaultEr
 
 // Moves the counter up to this one and raises the age, by one change of the disk.
 fn grow_older<V: Disk>(vault: &mut Vault<V>, counter: u64) -> Result<u64, VaultError>
-    requires stands { Stands V.tells V.seen V.may_leave vault.old }
+    requires stands { VaultStands V.tells V.seen V.may_leave vault.old }
     requires within { counter ≤ 2 ^ 48 }
     ensures age { IfOk result (λ age. age ≡ (kept_of vault.old).age + 1) }
     ensures counter { counter_of vault.new ≡ max (counter_of vault.old) counter }
     ensures kept { OnOk result (kept_of vault.new ≡ kept_one_older (max (counter_of vault.old) counter) (kept_of vault.old)) }
-    ensures stands { OnOk result (Stands V.tells V.seen V.may_leave vault.new) }
+    ensures stands { OnOk result (VaultStands V.tells V.seen V.may_leave vault.new) }
     ensures past { V.tells → OnOk result (IsPast V.may_leave counter vault.new) }
     ensures still_past { V.tells → (n : ℕ) → IsPast V.may_leave n vault.old → IsPast V.may_leave n vault.new }
-    ensures any_moment { V.tells → LeavesOnly V.moment V.left_since (disk_of vault.old) (disk_of vault.new) (IsBeforeOrAfter (kept_of vault.old) (kept_one_older (max (counter_of vault.old) counter) (kept_of vault.old))) }
+    ensures any_moment { V.tells → LeavesOnly V.moment V.left_since (disk_of vault.old) (disk_of vault.new) (KeepsBeforeOrAfter (kept_of vault.old) (kept_one_older (max (counter_of vault.old) counter) (kept_of vault.old))) }
     ensures spent { IsErrOf result VaultError.Spent → (kept_of vault.old).age ≡ 2 ^ 48 }
-    ensures after_no_memory { IsErrOf result VaultError.NoMemory → Stands V.tells V.seen V.may_leave vault.new }
+    ensures after_no_memory { IsErrOf result VaultError.NoMemory → VaultStands V.tells V.seen V.may_leave vault.new }
     ensures not_foreign { IsNotForeign result }
     ensures same { OnErr result (kept_of vault.new ≡ kept_of vault.old) }
     ensures cause { HasVaultCause result (V.fault_count (disk_of vault.old)) (V.fault_count (disk_of vault.new)) }
@@ -499,7 +499,7 @@ fn fall(cache: &mut Cache, round: &mut Option<Round>, down: &mut bool)
 fn give_up<V: Disk>(vault: &mut Vault<V>, cache: &mut Cache, round: Option<Round>)
     requires place { place_of cache.old ≡ key_of round }
     requires out { IsOut round (promises_of cache.old) }
-    requires within { IsWithin round }
+    requires within { MetIsWithin round }
     ensures promises { promises_of cache.new ≡ cache_without round (promises_of cache.old) }
     ensures place { place_of cache.new ≡ None }
     ensures counter { counter_of vault.new ≡ counter_without round (counter_of vault.old) }
@@ -522,7 +522,7 @@ fn finish<V: Disk>(vault: &mut Vault<V>, cache: &mut Cache, round: Round, kept: 
     ensures counter { counter_of vault.new ≡ counter_after (counter_of vault.old) round.met }
     ensures kept { kept_of vault.new ≡ kept_of vault.old }
     ensures disk { disk_of vault.new ≡ disk_of vault.old }
-    ensures stands { Stands V.tells V.seen V.may_leave vault.old → Stands V.tells V.seen V.may_leave vault.new }
+    ensures stands { VaultStands V.tells V.seen V.may_leave vault.old → VaultStands V.tells V.seen V.may_leave vault.new }
     ensures still_past { (n : ℕ) → IsPast V.may_leave n vault.old → IsPast V.may_leave n vault.new }
 {
     if let Some(met) = round.met {

@@ -21,7 +21,7 @@ use Rattle.cas_slot.specs.Contents.{Contents, kept_at}
 use Rattle.cas_slot.specs.Rules.{is_accepted_at}
 use Rattle.cas_slot.specs.Slot.{accepted_of, accepted_ballot, seen_of}
 use Rattle.cas_slot.proofs.SlotsLemmas.{slot_at-with_slot_same, slot_at-without_slot_same}
-use Rattle.cas_slot.specs.Table.{Handles, Answers, IsAnswered, IsTombstone, seen_at, accepted_at, promised_at}
+use Rattle.cas_slot.specs.Table.{Handles, Answers, IsReplyByTable, IsAcceptedTombstone, seen_at, accepted_at, promised_at}
 use Rattle.cas_record.specs.declared.mark.Mark.{Mark}
 use Rattle.cas_record.specs.declared.mark.Mark.TheVariants.{Voted}
 use Rattle.cas_record.proofs.PlaceLemmas.{stands_later}
@@ -34,26 +34,26 @@ use Rattle.cas_record.specs.Histories.Replay.{replay_from, opening_state}
 use Rattle.cas_record.specs.Logs.Orderly.{WasAsked, IsTold, IsTombstoneTold}
 use Rattle.cas_record.specs.Places.{Stands, here, past}
 use Rattle.cas_record.proofs.Tests.{ballot_same}
-use Rattle.cas_protocol.specs.Acceptors.{told_of, Tells, IsMadeState, IsOpeningState, IsAcceptedState, IsAskState, IsEmptyAt, deeds_of, votes_of, done_log, answered_log}
-use Rattle.cas_protocol.specs.Laws.{GoesOn}
+use Rattle.cas_protocol.specs.Acceptors.{told_of, LogTells, IsMadeState, IsOpeningState, IsAcceptedState, IsAskState, IsEmptyAt, deeds_of, votes_of, done_log, answered_log}
+use Rattle.cas_protocol.specs.Laws.{LogTellsKept}
 use Rattle.cas_protocol.proofs.Pages.{absent_unlisted}
 use Rattle.cas_protocol.proofs.Deeds.{own_age, promises, tells_again, tells_promise, takes, raises, drops}
 
 -- the acceptor was asked, and its least age is not above the request's
-was_asked : {log : List Happening} (cluster : Cluster) (request : Request) (old : Contents) → GoesOn cluster log request.to old → Stands (Asked request) log → request.from ≤ 16
+was_asked : {log : List Happening} (cluster : Cluster) (request : Request) (old : Contents) → LogTellsKept cluster log request.to old → Stands (Asked request) log → request.from ≤ 16
     → least_age old.ages request.from ≤ request.age → WasAsked log request.to request
 was_asked cluster request old on asked known old_enough = record { asked = asked; to = refl; age = omega (arith, on.tells.ages request.from known, old_enough) }
 
 -- ---- what the acceptor did
-kept_still : {cluster : Cluster} {log : List Happening} {id : ℕ} {old new : Contents} → new ≡ old → GoesOn cluster log id old → GoesOn cluster log id new
-kept_still {cluster} {log} {id} same on = subst (GoesOn cluster log id) (sym same) on
+kept_still : {cluster : Cluster} {log : List Happening} {id : ℕ} {old new : Contents} → new ≡ old → LogTellsKept cluster log id old → LogTellsKept cluster log id new
+kept_still {cluster} {log} {id} same on = subst (LogTellsKept cluster log id) (sym same) on
 
 -- what the log tells once a slot promised, whether it had just seen the ballot or not
-promise_tells : (log : List Happening) (id : ℕ) (old new : Contents) (key : List ℕ) (ballot : Ballot) (accepted : Option Accepted) → Tells log id old → Answers old (ask.Prepare key ballot) (tell.Promised accepted) new
-    → Tells (Promised id key ballot (accepted_ballot accepted) ∷ log) id new
+promise_tells : (log : List Happening) (id : ℕ) (old new : Contents) (key : List ℕ) (ballot : Ballot) (accepted : Option Accepted) → LogTells log id old → Answers old (ask.Prepare key ballot) (tell.Promised accepted) new
+    → LogTells (Promised id key ballot (accepted_ballot accepted) ∷ log) id new
 promise_tells log id old new key ballot accepted tells row = elim row.1 [
-  | inl again ↦ subst (Tells (Promised id key ballot (accepted_ballot accepted) ∷ log) id) (sym again.1) (tells_again id old key ballot (accepted_ballot accepted) tells again.0)
-  | inr fresh ↦ subst (Tells (Promised id key ballot (accepted_ballot accepted) ∷ log) id) (sym fresh.2) (tells_promise id old key ballot (accepted_ballot accepted) accepted tells fresh.0 row.0)
+  | inl again ↦ subst (LogTells (Promised id key ballot (accepted_ballot accepted) ∷ log) id) (sym again.1) (tells_again id old key ballot (accepted_ballot accepted) tells again.0)
+  | inr fresh ↦ subst (LogTells (Promised id key ballot (accepted_ballot accepted) ∷ log) id) (sym fresh.2) (tells_promise id old key ballot (accepted_ballot accepted) accepted tells fresh.0 row.0)
 ]
 
 promise_low : (old new : Contents) (key : List ℕ) (ballot : Ballot) (accepted : Option Accepted) → Answers old (ask.Prepare key ballot) (tell.Promised accepted) new → BallotAtMost (seen_at old key) ballot
@@ -72,15 +72,15 @@ repeat_not (Some a) ballot h = false_of_not _ (λ e. h (ballot_same {a = a.ballo
 
 -- an accept is confirmed: again, or for the first time
 accepts : (cluster : Cluster) {log : List Happening} (request : Request) (old new : Contents) (key : List ℕ) (ballot : Ballot) (era : ℕ) (ride : Option Ballot) (state : State)
-    → request.ask ≡ ask.Accept key ballot era ride state → GoesOn cluster log request.to old → WasAsked log request.to request → IsMadeState (marks_of log) key ballot era state
-    → Answers old (ask.Accept key ballot era ride state) tell.Accepted new → GoesOn cluster (deeds_of request.to old (ask.Accept key ballot era ride state) tell.Accepted ++ log) request.to new
+    → request.ask ≡ ask.Accept key ballot era ride state → LogTellsKept cluster log request.to old → WasAsked log request.to request → IsMadeState (marks_of log) key ballot era state
+    → Answers old (ask.Accept key ballot era ride state) tell.Accepted new → LogTellsKept cluster (deeds_of request.to old (ask.Accept key ballot era ride state) tell.Accepted ++ log) request.to new
 accepts cluster {log} request old new key ballot era ride state is on was made row = elim row [
   | inl again ↦
-      subst (λ (b : Bool). GoesOn cluster (cond b [] (Took request.to key ballot (unwrap_or ride zero_ballot) ∷ []) ++ log) request.to new) (sym (repeat_is (accepted_at old key) ballot again.0))
+      subst (λ (b : Bool). LogTellsKept cluster (cond b [] (Took request.to key ballot (unwrap_or ride zero_ballot) ∷ []) ++ log) request.to new) (sym (repeat_is (accepted_at old key) ballot again.0))
       (kept_still again.1 on)
   | inr fresh ↦
-      subst (λ (b : Bool). GoesOn cluster (cond b [] (Took request.to key ballot (unwrap_or ride zero_ballot) ∷ []) ++ log) request.to new) (sym (repeat_not (accepted_at old key) ballot fresh.0))
-      (subst (GoesOn cluster (Took request.to key ballot (unwrap_or ride zero_ballot) ∷ log) request.to) (sym fresh.3) (takes cluster request old key ballot era ride state is on was fresh.1 made))
+      subst (λ (b : Bool). LogTellsKept cluster (cond b [] (Took request.to key ballot (unwrap_or ride zero_ballot) ∷ []) ++ log) request.to new) (sym (repeat_not (accepted_at old key) ballot fresh.0))
+      (subst (LogTellsKept cluster (Took request.to key ballot (unwrap_or ride zero_ballot) ∷ log) request.to) (sym fresh.3) (takes cluster request old key ballot era ride state is on was fresh.1 made))
 ]
 
 -- a slot that holds the tombstone is there, and accepted at it
@@ -93,21 +93,21 @@ tombstone_there (Some slot) tomb h = (refl, held slot.accepted h)
     held (Some a) h = h.0
 
 removes : (cluster : Cluster) {log : List Happening} (request : Request) (old new : Contents) (key : List ℕ) (tomb : Ballot) → request.ask ≡ ask.Remove key tomb
-    → GoesOn cluster log request.to old → WasAsked log request.to request → Answers old (ask.Remove key tomb) tell.Removed new
-    → GoesOn cluster (deeds_of request.to old (ask.Remove key tomb) tell.Removed ++ log) request.to new
+    → LogTellsKept cluster log request.to old → WasAsked log request.to request → Answers old (ask.Remove key tomb) tell.Removed new
+    → LogTellsKept cluster (deeds_of request.to old (ask.Remove key tomb) tell.Removed ++ log) request.to new
 removes cluster {log} request old new key tomb is on was row = elim row [
   | inl absent ↦
-      subst (λ (s : Option Slot). GoesOn cluster (cond (is_some s) (Dropped request.to key tomb ∷ []) [] ++ log) request.to new) (sym absent.0) (kept_still absent.1 on)
+      subst (λ (s : Option Slot). LogTellsKept cluster (cond (is_some s) (Dropped request.to key tomb ∷ []) [] ++ log) request.to new) (sym absent.0) (kept_still absent.1 on)
   | inr held ↦
       let there = tombstone_there (kept_at old key) tomb held.0.0 in
-      subst (λ (b : Bool). GoesOn cluster (cond b (Dropped request.to key tomb ∷ []) [] ++ log) request.to new) (sym there.0)
-      (subst (GoesOn cluster (Dropped request.to key tomb ∷ log) request.to) (sym held.1) (drops cluster request old key tomb is on was there.1 held.0.1))
+      subst (λ (b : Bool). LogTellsKept cluster (cond b (Dropped request.to key tomb ∷ []) [] ++ log) request.to new) (sym there.0)
+      (subst (LogTellsKept cluster (Dropped request.to key tomb ∷ log) request.to) (sym held.1) (drops cluster request old key tomb is on was there.1 held.0.1))
 ]
 
 -- the log and the contents after whatever the acceptor did
 pub deeds : (cluster : Cluster) {log : List Happening} (request : Request) (old new : Contents) (question : Ask) (answer : Tell) → request.ask ≡ question
-    → GoesOn cluster log request.to old → Stands (Asked request) log → IsAskState (marks_of log) question → request.from ≤ 16
-    → Handles old (record request { ask = question }) answer new → GoesOn cluster (deeds_of request.to old question answer ++ log) request.to new
+    → LogTellsKept cluster log request.to old → Stands (Asked request) log → IsAskState (marks_of log) question → request.from ≤ 16
+    → Handles old (record request { ask = question }) answer new → LogTellsKept cluster (deeds_of request.to old question answer ++ log) request.to new
 deeds cluster {log} request old new (ask.Prepare key ballot) (tell.Promised accepted) is on asked state known row =
     promises cluster request old new key ballot accepted is on (was_asked cluster request old on asked known row.0) row.1.0 (promise_low old new key ballot accepted row.1) (promise_tells log request.to old new key ballot accepted on.tells row.1)
 deeds cluster request old new (ask.Prepare key ballot) (tell.Met seen) is on asked state known row = kept_still row.1.2 on
@@ -116,7 +116,7 @@ deeds cluster request old new (ask.Accept key ballot era ride state) tell.Accept
     accepts cluster request old new key ballot era ride state is on (was_asked cluster request old on asked known row.0) made row.1
 deeds cluster request old new (ask.Accept key ballot era ride state) (tell.Met seen) is on asked made known row = kept_still row.1.3 on
 deeds cluster request old new (ask.Accept key ballot era ride state) tell.Full is on asked made known row = kept_still row.1.2 on
-deeds cluster request old new (ask.Ages tag least) tell.AgesSet is on asked state known row = subst (GoesOn cluster _ request.to) (sym row.1) (raises cluster request.to old least on)
+deeds cluster request old new (ask.Ages tag least) tell.AgesSet is on asked state known row = subst (LogTellsKept cluster _ request.to) (sym row.1) (raises cluster request.to old least on)
 deeds cluster request old new (ask.Remove key tomb) tell.Removed is on asked state known row = removes cluster request old new key tomb is on (was_asked cluster request old on asked known row.0) row.1
 deeds cluster request old new (ask.Remove key tomb) tell.Kept is on asked state known row = kept_still row.1.2 on
 deeds cluster request old new (ask.List tag after) (tell.Listed told keys more) is on asked state known row = kept_still row.1.3 on
@@ -165,8 +165,8 @@ state_voted marks vote key (Some a) id k b is (inl h) = inl (subst (λ (m : Mark
 state_voted marks vote key (Some a) id k b is (inr h) =
     inr (subst (λ (m : Mark). IsOpeningState (m ∷ marks) key a.ballot a.era a.state) (sym is) (record { opens = h.opens; some = h.some; same_era = h.same_era; state_is = h.state_is }))
 
-votes : (cluster : Cluster) {log : List Happening} (id : ℕ) (kept : Contents) (key : List ℕ) (ballot : Ballot) → GoesOn cluster log id kept → accepted_ballot (accepted_at kept key) ≡ ballot → (ballot ≡ zero_ballot → ⊥)
-    → GoesOn cluster (Marked (Voted id key ballot) ∷ log) id kept
+votes : (cluster : Cluster) {log : List Happening} (id : ℕ) (kept : Contents) (key : List ℕ) (ballot : Ballot) → LogTellsKept cluster log id kept → accepted_ballot (accepted_at kept key) ≡ ballot → (ballot ≡ zero_ballot → ⊥)
+    → LogTellsKept cluster (Marked (Voted id key ballot) ∷ log) id kept
 votes cluster {log} id kept key ballot on holds some =
     let took = took_tells log id key ballot (ap (λ (s : SlotTold). s.accepted) (on.tells.slots key) ∙ holds) some in
     record {
@@ -197,9 +197,9 @@ deeds_marks id old log question answer = refl
 
 -- the log with what the acceptor did and its vote
 pub voted : (cluster : Cluster) {log : List Happening} (request : Request) (old new : Contents) (question : Ask) (answer : Tell)
-    → GoesOn cluster log request.to old → GoesOn cluster (deeds_of request.to old question answer ++ log) request.to new → IsAskState (marks_of log) question
+    → LogTellsKept cluster log request.to old → LogTellsKept cluster (deeds_of request.to old question answer ++ log) request.to new → IsAskState (marks_of log) question
     → Handles old (record request { ask = question }) answer new
-    → GoesOn cluster (votes_of request.to question answer ++ (deeds_of request.to old question answer ++ log)) request.to new
+    → LogTellsKept cluster (votes_of request.to question answer ++ (deeds_of request.to old question answer ++ log)) request.to new
 voted cluster {log} request old new (ask.Accept key ballot era ride state) tell.Accepted on did made row =
     votes cluster request.to new key ballot did (accepted_is old new key ballot era ride state row.1) (made_not_zero cluster log on.lawful made)
 voted cluster request old new question answer on did state row = did
@@ -210,8 +210,8 @@ accepted_low None = at_most_refl zero_ballot
 accepted_low (Some slot) = at_most_greater_right slot.promise (accepted_ballot slot.accepted)
 
 -- a tombstone holds the empty state, so a slot that is kept holds none
-not_tombstone : (cluster : Cluster) {log : List Happening} (id : ℕ) (old : Contents) (key : List ℕ) (tomb : Ballot) → GoesOn cluster log id old → IsEmptyAt (marks_of log) key tomb
-    → (IsTombstone old key tomb → ⊥) → IsTombstoneTold (slot_told log id key) tomb → ⊥
+not_tombstone : (cluster : Cluster) {log : List Happening} (id : ℕ) (old : Contents) (key : List ℕ) (tomb : Ballot) → LogTellsKept cluster log id old → IsEmptyAt (marks_of log) key tomb
+    → (IsAcceptedTombstone old key tomb → ⊥) → IsTombstoneTold (slot_told log id key) tomb → ⊥
 not_tombstone cluster {log} id old key tomb on empty other held =
     let told : slot_told log id key ≡ told_of (kept_at old key) = on.tells.slots key in
     let accepted : accepted_ballot (accepted_at old key) ≡ tomb = ap (λ (s : SlotTold). s.accepted) (sym told) ∙ held.holds in
@@ -228,8 +228,8 @@ not_tombstone cluster {log} id old key tomb on empty other held =
         (same, made.state_is ∙ ap (λ (b : Ballot). replay_from (opening_state key (marks_of log)) (chain_of key b (marks_of log))) same ∙ sym empty.1.state_is)
 
 -- what the acceptor answers is so in the log with what it did and its vote
-told_so : (cluster : Cluster) {log : List Happening} (request : Request) (old new : Contents) (question : Ask) (answer : Tell) → GoesOn cluster log request.to old
-    → GoesOn cluster (deeds_of request.to old question answer ++ log) request.to new → IsAskState (marks_of log) question
+told_so : (cluster : Cluster) {log : List Happening} (request : Request) (old new : Contents) (question : Ask) (answer : Tell) → LogTellsKept cluster log request.to old
+    → LogTellsKept cluster (deeds_of request.to old question answer ++ log) request.to new → IsAskState (marks_of log) question
     → Handles old (record request { ask = question }) answer new
     → IsTold (votes_of request.to question answer ++ (deeds_of request.to old question answer ++ log)) request.to question answer
 told_so cluster {log} request old new (ask.Prepare key ballot) (tell.Promised accepted) on did state row =
@@ -260,9 +260,9 @@ told_so cluster request old new (ask.Probe tag key) (tell.Aged least) on did sta
 -- nothing else is told
 told_so cluster request old new question answer on did state row = absurd row.1
 
-pub answers : (cluster : Cluster) {log : List Happening} (old new : Contents) (request : Request) (reply : Reply) → GoesOn cluster log request.to old → Stands (Asked request) log
-    → IsAskState (marks_of log) request.ask → request.from ≤ 16 → IsAnswered request.to old request reply new
-    → GoesOn cluster (done_log request.to old request reply.tell log) request.to new × GoesOn cluster (answered_log request.to old request reply log) request.to new
+pub answers : (cluster : Cluster) {log : List Happening} (old new : Contents) (request : Request) (reply : Reply) → LogTellsKept cluster log request.to old → Stands (Asked request) log
+    → IsAskState (marks_of log) request.ask → request.from ≤ 16 → IsReplyByTable request.to old request reply new
+    → LogTellsKept cluster (done_log request.to old request reply.tell log) request.to new × LogTellsKept cluster (answered_log request.to old request reply log) request.to new
 answers cluster {log} old new request reply on asked state known is =
     let did = deeds cluster request old new request.ask reply.tell refl on asked state known is.row in
     let vote = voted cluster request old new request.ask reply.tell on did state is.row in

@@ -26,8 +26,8 @@ use Rattle.cas_record.proofs.Logs.Orders.{reason, above_dropped}
 use Rattle.cas_record.proofs.PlaceLemmas.{stands_part}
 use Rattle.cas_record.proofs.Logs.Slots.{IsAboveDropped, may_promise, may_take}
 use Rattle.cas_record.proofs.Tests.{nat_is}
-use Rattle.cas_protocol.specs.Acceptors.{told_of, Tells, IsMadeState, IsAcceptedState}
-use Rattle.cas_protocol.specs.Laws.{GoesOn}
+use Rattle.cas_protocol.specs.Acceptors.{told_of, LogTells, IsMadeState, IsAcceptedState}
+use Rattle.cas_protocol.specs.Laws.{LogTellsKept}
 use Rattle.cas_protocol.proofs.SlotChanges.{low_promise, low_accepted, promised_new, promised_again, promise_changes, take_changes, drop_changes, slots_put, slots_same, slots_dropped, states_put, states_dropped}
 
 -- what a request of a round asks for is above what the acceptor has removed
@@ -38,9 +38,9 @@ dropped_below cluster {log} {request} key ballot orderly was round k t =
 
 -- ---- a promise
 pub promises : (cluster : Cluster) {log : List Happening} (request : Request) (old new : Contents) (key : List ℕ) (ballot : Ballot) (accepted : Option Accepted) → request.ask ≡ ask.Prepare key ballot
-    → GoesOn cluster log request.to old → WasAsked log request.to request → accepted ≡ accepted_at old key → BallotAtMost (seen_at old key) ballot
-    → Tells (Promised request.to key ballot (accepted_ballot accepted) ∷ log) request.to new
-    → GoesOn cluster (Promised request.to key ballot (accepted_ballot accepted) ∷ log) request.to new
+    → LogTellsKept cluster log request.to old → WasAsked log request.to request → accepted ≡ accepted_at old key → BallotAtMost (seen_at old key) ballot
+    → LogTells (Promised request.to key ballot (accepted_ballot accepted) ∷ log) request.to new
+    → LogTellsKept cluster (Promised request.to key ballot (accepted_ballot accepted) ∷ log) request.to new
 promises cluster {log} request old new key ballot accepted is on was same low tells =
     let slot = kept_at old key in
     let told : slot_told log request.to key ≡ told_of slot = on.tells.slots key in
@@ -57,15 +57,15 @@ promises cluster {log} request old new key ballot accepted is on was same low te
     }
 
 -- what the log tells after a promise: of a slot that had just seen the ballot, and of one that had not
-pub tells_again : {log : List Happening} (id : ℕ) (old : Contents) (key : List ℕ) (ballot told : Ballot) → Tells log id old → seen_at old key ≡ ballot → Tells (Promised id key ballot told ∷ log) id old
+pub tells_again : {log : List Happening} (id : ℕ) (old : Contents) (key : List ℕ) (ballot told : Ballot) → LogTells log id old → seen_at old key ≡ ballot → LogTells (Promised id key ballot told ∷ log) id old
 tells_again {log} id old key ballot told tells same = record {
   slots = slots_same old (promise_changes log id key ballot told) (ap (λ s. promised_slot s ballot) (tells.slots key) ∙ promised_again (kept_at old key) ballot same) tells.slots;
   ages = tells.ages;
   states = tells.states;
 }
 
-pub tells_promise : {log : List Happening} (id : ℕ) (old : Contents) (key : List ℕ) (ballot told : Ballot) (accepted : Option Accepted) → Tells log id old → BallotLess (seen_at old key) ballot → accepted ≡ accepted_at old key
-    → Tells (Promised id key ballot told ∷ log) id (with_kept old key (record { promise = ballot; accepted = accepted }))
+pub tells_promise : {log : List Happening} (id : ℕ) (old : Contents) (key : List ℕ) (ballot told : Ballot) (accepted : Option Accepted) → LogTells log id old → BallotLess (seen_at old key) ballot → accepted ≡ accepted_at old key
+    → LogTells (Promised id key ballot told ∷ log) id (with_kept old key (record { promise = ballot; accepted = accepted }))
 tells_promise {log} id old key ballot told accepted tells less same = record {
   slots = slots_put old (record { promise = ballot; accepted = accepted }) (promise_changes log id key ballot told)
       (ap (λ s. promised_slot s ballot) (tells.slots key) ∙ promised_new (kept_at old key) ballot less ∙ ap (λ (a : Option Accepted). told_of (Some (record { promise = ballot; accepted = a }))) (sym same))
@@ -76,9 +76,9 @@ tells_promise {log} id old key ballot told accepted tells less same = record {
 
 -- ---- an acceptance
 pub takes : (cluster : Cluster) {log : List Happening} (request : Request) (old : Contents) (key : List ℕ) (ballot : Ballot) (era : ℕ) (rides : Option Ballot) (state : State)
-    → request.ask ≡ ask.Accept key ballot era rides state → GoesOn cluster log request.to old → WasAsked log request.to request → BallotAtMost (seen_at old key) ballot
+    → request.ask ≡ ask.Accept key ballot era rides state → LogTellsKept cluster log request.to old → WasAsked log request.to request → BallotAtMost (seen_at old key) ballot
     → IsMadeState (marks_of log) key ballot era state
-    → GoesOn cluster (Took request.to key ballot (unwrap_or rides zero_ballot) ∷ log) request.to
+    → LogTellsKept cluster (Took request.to key ballot (unwrap_or rides zero_ballot) ∷ log) request.to
     (with_kept old key (record { promise = unwrap_or rides zero_ballot; accepted = Some (record { ballot = ballot; era = era; state = state }) }))
 takes cluster {log} request old key ballot era rides state is on was low made =
     let slot = kept_at old key in
@@ -107,7 +107,7 @@ takes cluster {log} request old key ballot era rides state is on was low made =
 pub own_age : (id proposer : ℕ) (least : Ages) (log : List Happening) → age_told (Raised id least ∷ log) id proposer ≡ max (least_age least proposer) (age_told log id proposer)
 own_age id proposer least log = if_true (id == id) _ _ (nat_is {a = id} refl)
 
-pub raises : (cluster : Cluster) {log : List Happening} (id : ℕ) (old : Contents) (least : Ages) → GoesOn cluster log id old → GoesOn cluster (Raised id least ∷ log) id (with_raised old least)
+pub raises : (cluster : Cluster) {log : List Happening} (id : ℕ) (old : Contents) (least : Ages) → LogTellsKept cluster log id old → LogTellsKept cluster (Raised id least ∷ log) id (with_raised old least)
 raises cluster {log} id old least on = record {
   lawful = (on.lawful, tt);
   orderly = (on.orderly, tt);
@@ -120,8 +120,8 @@ raises cluster {log} id old least on = record {
 
 -- ---- a removal
 pub drops : (cluster : Cluster) {log : List Happening} (request : Request) (old : Contents) (key : List ℕ) (tomb : Ballot) → request.ask ≡ ask.Remove key tomb
-    → GoesOn cluster log request.to old → WasAsked log request.to request → accepted_ballot (accepted_at old key) ≡ tomb → BallotAtMost (promised_at old key) tomb
-    → GoesOn cluster (Dropped request.to key tomb ∷ log) request.to (without_kept old key)
+    → LogTellsKept cluster log request.to old → WasAsked log request.to request → accepted_ballot (accepted_at old key) ≡ tomb → BallotAtMost (promised_at old key) tomb
+    → LogTellsKept cluster (Dropped request.to key tomb ∷ log) request.to (without_kept old key)
 drops cluster {log} request old key tomb is on was holds promise =
     let told : slot_told log request.to key ≡ told_of (kept_at old key) = on.tells.slots key in
     let may_ask : MayAsk cluster was.asked.older request request.ask = reason cluster on.orderly was.asked.at in

@@ -24,7 +24,7 @@ use Rattle.cas_slot.specs.Contents.{Contents, nothing, kept_at}
 use Rattle.cas_slot.specs.Slot.{accepted_of}
 use Rattle.cas_slot.specs.Message.{tag_of}
 use Rattle.cas_slot.specs.Rules.{key_of}
-use Rattle.cas_slot.specs.Table.{Handles, IsAnswered}
+use Rattle.cas_slot.specs.Table.{Handles, IsReplyByTable}
 use Rattle.cas_record.specs.declared.answer.Answer.{Answer}
 use Rattle.cas_record.specs.declared.answer.Answer.TheVariants as answer
 use Rattle.cas_record.specs.declared.mark.Mark.{Mark}
@@ -32,8 +32,8 @@ use Rattle.cas_record.specs.declared.mark.Mark.TheVariants.{Begun, Proposed, Ack
 use Rattle.cas_record.specs.declared.mark.Proposal.{Proposal}
 use Rattle.cas_record.specs.Histories.Chain.{chain_of, link_of}
 use Rattle.cas_record.specs.Logs.Happening.{Happening, Marked, Asked, Entered, Drew, Replied, marks_of}
-use Rattle.cas_record.specs.Laws.{IsOpened}
-use Rattle.cas_record.specs.Logs.Lawful.{Cluster, ClusterMeets, Lawful, AreFirst, May, MayPropose, MayLeave, MayAnswer}
+use Rattle.cas_record.specs.Laws.{HistoryIsOpened}
+use Rattle.cas_record.specs.Logs.Lawful.{Cluster, ClusterMeets, Lawful, AreFirst, May, MayPropose, MayLeaveEra, MayAnswer}
 use Rattle.cas_record.specs.Legal.{HasFloor}
 use Rattle.cas_record.specs.Logs.Orderly.{Orderly, HasReason, IsRoundAsk, MayAsk, MayAskFor, MayTakeFirst, IsAgedOut, IsClear, took_it, never_asked}
 use Rattle.cas_record.specs.Places.{At, Stands, here, past}
@@ -45,9 +45,9 @@ use Rattle.cas_record.proofs.Logs.Openings.{first_at, first_taken, has_opening_d
 use Rattle.cas_record.proofs.PlaceLemmas.{newest_or, none_at_nil, stands_at, stands_part}
 use Rattle.cas_record.proofs.Tests.{nat_same, nat_is}
 use Rattle.cas_record.proofs.LawLemmas.{lawful_is_legal}
-use Rattle.cas_protocol.specs.Acceptors.{told_of, IsAcceptedState, Tells, IsMadeState, IsEmptyAt, IsAskState, IsElsewhere, deeds_of, votes_of, done_log, answered_log}
+use Rattle.cas_protocol.specs.Acceptors.{told_of, IsAcceptedState, LogTells, IsMadeState, IsEmptyAt, IsAskState, IsElsewhere, deeds_of, votes_of, done_log, answered_log}
 use Rattle.cas_protocol.specs.Desks.{IsRiding}
-use Rattle.cas_protocol.specs.Laws.{GoesOn}
+use Rattle.cas_protocol.specs.Laws.{LogTellsKept}
 use Rattle.cas_protocol.specs.Proposers.{IsReplyTrue, AreRepliesTrue, AreFloorsClear, state_read}
 use Rattle.cas_protocol.specs.Protocol.{Made, GlobalState, kept_but, AllReplied, HasMade, IsMadeAsk, IsPrepared, IsPreparedByRide, is_done, IsLeaving, Begins, Draws, Asks, Answers, StopsWithin, Proposes, ProposesByRide, Counts, EndsDone, EndsElse, Harms, TellsOperator, MakesFloor, Enters, MarksEra, Run, opened, then, IsMadeOf, IsFloorClear, Knows, HasHistory, EventsKeepHistory, RunsAreLegal, HasEnded, IsEndedAsk}
 use Rattle.cas_protocol.proofs.Along.{EachOf, along, deeds_each, votes_each}
@@ -105,7 +105,7 @@ floor_now h log key floor has = elim (mark_now h log has.stands) [
 ]
 
 -- what opened the history of a key did
-opened_grows : {cluster : Cluster} (h : Happening) (log : List Happening) {key : List ℕ} {floor : Ballot} → IsOpened cluster log key floor → IsOpened cluster (h ∷ log) key floor
+opened_grows : {cluster : Cluster} (h : Happening) (log : List Happening) {key : List ℕ} {floor : Ballot} → HistoryIsOpened cluster log key floor → HistoryIsOpened cluster (h ∷ log) key floor
 opened_grows h log was = record {
   opening = has_opening_deeper was.opening here;
   some = was.some;
@@ -256,8 +256,8 @@ IsPlain h = (cluster : Cluster) (log : List Happening) → IsGood cluster log h
 knows_front : (cluster : Cluster) (front log : List Happening) (all : List Made) → EachOf IsPlain front → Lawful cluster (front ++ log) → Orderly cluster (front ++ log) → Knows cluster log all → Knows cluster (front ++ log) all
 knows_front cluster front log all = along cluster IsPlain (λ l. Knows cluster l all) (λ h l lawful orderly plain. knows_more cluster h l all lawful orderly (plain cluster l)) front log
 
-pub tells_front : (cluster : Cluster) (front log : List Happening) (id : ℕ) (kept : Contents) → EachOf (IsElsewhere id) front → Lawful cluster (front ++ log) → Orderly cluster (front ++ log) → Tells log id kept → Tells (front ++ log) id kept
-tells_front cluster front log id kept = along cluster (IsElsewhere id) (λ l. Tells l id kept) (λ h l lawful orderly elsewhere. tells_still cluster h l id kept lawful elsewhere) front log
+pub tells_front : (cluster : Cluster) (front log : List Happening) (id : ℕ) (kept : Contents) → EachOf (IsElsewhere id) front → Lawful cluster (front ++ log) → Orderly cluster (front ++ log) → LogTells log id kept → LogTells (front ++ log) id kept
+tells_front cluster front log id kept = along cluster (IsElsewhere id) (λ l. LogTells l id kept) (λ h l lawful orderly elsewhere. tells_still cluster h l id kept lawful elsewhere) front log
 
 deeds_plain : (to : ℕ) (old : Contents) (question : Ask) (answer : Tell) → EachOf IsPlain (deeds_of to old question answer)
 deeds_plain to old question answer = deeds_each IsPlain to old question answer (record { promised = λ key ballot told c log. tt; took = λ key ballot ride c log. tt; dropped = λ key tomb c log. tt; raised = λ least c log. tt })
@@ -267,10 +267,10 @@ deeds_elsewhere id to old question answer other =
     deeds_each (IsElsewhere id) to old question answer (record { promised = λ key ballot told. other; took = λ key ballot ride. other; dropped = λ key tomb. other; raised = λ least. other })
 
 -- what the log tells of each acceptor, where one keeps something new
-pub tells_but : (log : List Happening) (kept : ℕ → Contents) (to : ℕ) (new : Contents) → Tells log to new → ((id : ℕ) → (to ≡ id → ⊥) → Tells log id (kept id)) → (id : ℕ) → Tells log id (kept_but kept to new id)
+pub tells_but : (log : List Happening) (kept : ℕ → Contents) (to : ℕ) (new : Contents) → LogTells log to new → ((id : ℕ) → (to ≡ id → ⊥) → LogTells log id (kept id)) → (id : ℕ) → LogTells log id (kept_but kept to new id)
 tells_but log kept to new own others id = elim (true_or_false (id == to)) [
-  | inl same ↦ subst (Tells log id) (sym (if_true (id == to) new (kept id) same)) (subst (λ (i : ℕ). Tells log i new) (sym (nat_same {a = id} {b = to} same)) own)
-  | inr other ↦ subst (Tells log id) (sym (if_false (id == to) new (kept id) other)) (others id (λ same. not_both (id == to) (nat_is {a = id} {b = to} (sym same)) other))
+  | inl same ↦ subst (LogTells log id) (sym (if_true (id == to) new (kept id) same)) (subst (λ (i : ℕ). LogTells log i new) (sym (nat_same {a = id} {b = to} same)) own)
+  | inr other ↦ subst (LogTells log id) (sym (if_false (id == to) new (kept id) other)) (others id (λ same. not_both (id == to) (nat_is {a = id} {b = to} (sym same)) other))
 ]
 
 -- an acceptor stopped within a request
@@ -279,7 +279,7 @@ stops_within : (cluster : Cluster) (global : GlobalState) (request : Request) (t
 stops_within cluster global request tell new history asked row =
     let to = request.to in
     let old = global.kept to in
-    let on : GoesOn cluster global.log to old = record { lawful = history.lawful; orderly = history.orderly; tells = history.tells to } in
+    let on : LogTellsKept cluster global.log to old = record { lawful = history.lawful; orderly = history.orderly; tells = history.tells to } in
     let did = deeds cluster request old new request.ask tell refl on asked (history.knows.asked request asked) (history.knows.known request asked).0 row in
     record {
       lawful = did.lawful;
@@ -290,12 +290,12 @@ stops_within cluster global request tell new history asked row =
     }
 
 -- an acceptor answers
-answers_on : (cluster : Cluster) (global : GlobalState) (request : Request) (reply : Reply) (new : Contents) → HasHistory cluster global → Stands (Asked request) global.log → IsAnswered request.to (global.kept request.to) request reply new
+answers_on : (cluster : Cluster) (global : GlobalState) (request : Request) (reply : Reply) (new : Contents) → HasHistory cluster global → Stands (Asked request) global.log → IsReplyByTable request.to (global.kept request.to) request reply new
     → HasHistory cluster (record { log = answered_log request.to (global.kept request.to) request reply global.log; kept = kept_but global.kept request.to new; made = global.made })
 answers_on cluster global request reply new history asked answered =
     let to = request.to in
     let old = global.kept to in
-    let on : GoesOn cluster global.log to old = record { lawful = history.lawful; orderly = history.orderly; tells = history.tells to } in
+    let on : LogTellsKept cluster global.log to old = record { lawful = history.lawful; orderly = history.orderly; tells = history.tells to } in
     let state = history.knows.asked request asked in
     let bounds = history.knows.known request asked in
     let did = answers cluster old new request reply on asked state bounds.0 answered in
@@ -370,7 +370,7 @@ prepared_by_ride cluster global p program ready history begun is =
 
 -- ---- eras
 leaves : (cluster : Cluster) → ClusterMeets cluster → (log : List Happening) (proposer left : ℕ) → Lawful cluster log → Orderly cluster log
-    → ((key : List ℕ) (floor : Ballot) → HasFloor key floor (marks_of log) → IsEmptyAt (marks_of log) key floor ⊎ IsOpened cluster log key floor) → IsLeaving cluster log proposer left → MayLeave cluster log proposer left
+    → ((key : List ℕ) (floor : Ballot) → HasFloor key floor (marks_of log) → IsEmptyAt (marks_of log) key floor ⊎ HistoryIsOpened cluster log key floor) → IsLeaving cluster log proposer left → MayLeaveEra cluster log proposer left
 leaves cluster meets log proposer left lawful orderly floors is = record {
   known = is.known;
   once = is.once;

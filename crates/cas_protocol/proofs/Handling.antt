@@ -19,7 +19,7 @@ use Rattle.cas_slot.specs.Contents.{Contents, nothing, no_ages, kept_at, with_ke
 use Rattle.cas_slot.specs.Message.{phase_of, tag_of}
 use Rattle.cas_slot.specs.Slot.{accepted_of, seen_of}
 use Rattle.cas_slot.specs.Slots.{no_slots, IsFullFor}
-use Rattle.cas_slot.specs.Table.{Handles, IsAnswered}
+use Rattle.cas_slot.specs.Table.{Handles, IsReplyByTable}
 use Rattle.cas_slot.proofs.SlotsLemmas.{slot_at-with_slot_same}
 use Rattle.cas_record.specs.Logs.Witness.{key_a}
 
@@ -55,7 +55,7 @@ not_new e = cc
 abbrev pub reply_to : Request → Tell → Reply
 reply_to request told = record { from = request.to; to = request.from; phase = phase_of request.ask; tag = tag_of request.ask; tell = told }
 
-pub answered : {id : ℕ} {old new : Contents} (request : Request) (told : Tell) → request.to ≡ id → Handles old request told new → IsAnswered id old request (reply_to request told) new
+pub answered : {id : ℕ} {old new : Contents} (request : Request) (told : Tell) → request.to ≡ id → Handles old request told new → IsReplyByTable id old request (reply_to request told) new
 answered request told same row = record { from = same; to = refl; phase = refl; tag = refl; row = row }
 
 pub promises : (to from : ℕ) (ballot : Ballot) → least_age no_ages from ≤ 0 → BallotLess zero_ballot ballot

@@ -22,9 +22,9 @@ use Rattle.cas_record.proofs.Logs.Eras.{seam_of}
 use Rattle.cas_record.proofs.Logs.Lemmas.{law, stands_in_log, ack_law, AckedAt, acked_at, proposed_at, part_of}
 use Rattle.cas_record.proofs.Logs.Openings.{opening_in_log}
 use Rattle.cas_record.proofs.PlaceLemmas.{stands_later, stands_deeper, stands_part, prefix_same}
-use Rattle.cas_protocol.specs.Acceptors.{Tells, IsAcceptedState, IsLeft}
+use Rattle.cas_protocol.specs.Acceptors.{LogTells, IsAcceptedState, IsLeft}
 use Rattle.cas_protocol.specs.Held.{Holds}
-use Rattle.cas_protocol.specs.Laws.{GoesOn, WhatIsAckedIsHeld, WhatIsSettledIsHeld}
+use Rattle.cas_protocol.specs.Laws.{LogTellsKept, WhatIsAckedIsHeld, WhatIsSettledIsHeld}
 use Rattle.cas_protocol.proofs.Staying.{goes_on_from, taken}
 
 -- no slot of the key was removed at or above a ballot that is above its floors
@@ -52,9 +52,9 @@ begins cluster log key ballot lawful seam acked accepted made low = elim (at_mos
 
 -- each of those that took it holds it, whatever a crash leaves
 holds : (cluster : Cluster) → ClusterMeets cluster → (log : List Happening) (key : List ℕ) (ballot ride : Ballot) → Lawful cluster log → Orderly cluster log → AckedAt key ballot log → IsAboveFloors (marks_of log) key ballot
-    → (acceptor : ℕ) (kept new : Contents) → Stands (Took acceptor key ballot ride) log → Tells log acceptor kept → IsLeft log acceptor kept (Ok new) → Holds log key ballot new
+    → (acceptor : ℕ) (kept new : Contents) → Stands (Took acceptor key ballot ride) log → LogTells log acceptor kept → IsLeft log acceptor kept (Ok new) → Holds log key ballot new
 holds cluster meets log key ballot ride lawful orderly acked above acceptor kept new took tells left =
-    let on : GoesOn cluster log acceptor kept = record { lawful = lawful; orderly = orderly; tells = tells } in
+    let on : LogTellsKept cluster log acceptor kept = record { lawful = lawful; orderly = orderly; tells = tells } in
     let after = goes_on_from cluster log acceptor kept on new left in
     let above_after : IsAboveFloors (marks_of (after.0 ++ log)) key ballot = subst (λ (marks : List Mark). IsAboveFloors marks key ballot) (sym after.2) above in
     let low : BallotAtMost ballot (accepted_ballot (accepted_at new key)) =
@@ -68,14 +68,14 @@ holds cluster meets log key ballot ride lawful orderly acked above acceptor kept
 
 -- what was acknowledged at a place of the log is held by those that confirmed it
 held_at : (cluster : Cluster) → ClusterMeets cluster → (log : List Happening) {key : List ℕ} {ballot : Ballot} (a : AckedAt key ballot log) → Lawful cluster log → Orderly cluster log → IsAboveFloors (marks_of log) key ballot
-    → (acceptor : ℕ) (kept new : Contents) → has_member a.acknowledgment.by acceptor ≡ true → Tells log acceptor kept → IsLeft log acceptor kept (Ok new) → Holds log key ballot new
+    → (acceptor : ℕ) (kept new : Contents) → has_member a.acknowledgment.by acceptor ≡ true → LogTells log acceptor kept → IsLeft log acceptor kept (Ok new) → Holds log key ballot new
 held_at cluster meets log {key} {ballot} a lawful orderly above acceptor kept new member tells left =
     let took = took_of_acked cluster lawful a acceptor member in
     holds cluster meets log key ballot took.ride lawful orderly a above acceptor kept new (stands_deeper took.stands a.at) tells left
 
 pub held_by : (cluster : Cluster) → ClusterMeets cluster → (log : List Happening) (a : Acknowledgment) → Lawful cluster log → Orderly cluster log → Stands (Acked a) (marks_of log) → IsAboveFloors (marks_of log) a.key a.ballot
     → (cluster.accepts a.era a.by ≡ true)
-    × ((acceptor : ℕ) (kept new : Contents) → has_member a.by acceptor ≡ true → Tells log acceptor kept → IsLeft log acceptor kept (Ok new) → Holds log a.key a.ballot new)
+    × ((acceptor : ℕ) (kept new : Contents) → has_member a.by acceptor ≡ true → LogTells log acceptor kept → IsLeft log acceptor kept (Ok new) → Holds log a.key a.ballot new)
 held_by cluster meets log a lawful orderly stands above =
     let place = stands_in_log log stands in
     let acked : AckedAt a.key a.ballot log = record { older = place.older; acknowledgment = a; at = place.at; same_key = refl; same_ballot = refl } in

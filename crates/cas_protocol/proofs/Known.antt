@@ -35,7 +35,7 @@ use Rattle.cas_record.proofs.PlaceLemmas.{stands_deeper, newest_or}
 use Rattle.cas_record.proofs.Histories.Replays.{replay_of_proposal}
 use Rattle.cas_protocol.specs.Acceptors.{IsAcceptedState, IsTellState, deeds_of, votes_of}
 use Rattle.cas_protocol.specs.Desks.{IsRiding}
-use Rattle.cas_protocol.specs.Laws.{GoesOn, RepliesAreTrue, WhatIsKnownStays, ProposalsMakeStates, PromisesRideLawfully, TombstonesAreFloors}
+use Rattle.cas_protocol.specs.Laws.{LogTellsKept, RepliesAreTrue, WhatIsKnownStays, ProposalsMakeStates, PromisesRideLawfully, TombstonesAreFloors}
 use Rattle.cas_protocol.specs.Proposers.{IsReplyTrue}
 use Rattle.cas_protocol.proofs.Growing.{opening_later, made_grows, ask_grows, tell_grows}
 use Rattle.cas_protocol.proofs.Proposes.{voter}
@@ -43,7 +43,7 @@ use Rattle.cas_protocol.proofs.Proposing.{vote_heard}
 
 -- ---- replies
 -- what is told of a state was accepted, and so is the state of a proposal
-tell_made : (cluster : Cluster) {log : List Happening} (request : Request) (old new : Contents) (question : Ask) (answer : Tell) → GoesOn cluster log request.to old
+tell_made : (cluster : Cluster) {log : List Happening} (request : Request) (old new : Contents) (question : Ask) (answer : Tell) → LogTellsKept cluster log request.to old
     → Handles old (record request { ask = question }) answer new
     → IsTellState (marks_of (votes_of request.to question answer ++ (deeds_of request.to old question answer ++ log))) question answer
 tell_made cluster {log} request old new (ask.Prepare key ballot) (tell.Promised accepted) on row = subst (IsAcceptedState (marks_of log) key) (sym row.1.0) (on.tells.states key)

@@ -23,7 +23,7 @@ use Rattle.cas_record.specs.declared.entry.Entry.{Entry}
 use Rattle.cas_record.specs.Histories.Chain.{is_key, floor_below, chain_of, link_of, has_calls}
 use Rattle.cas_record.specs.Histories.Replay.{replay_from, opening_state}
 use Rattle.cas_record.specs.Logs.Happening.{Happening, Marked, Promised, Entered, Drew, marks_of}
-use Rattle.cas_record.specs.Laws.{IsOpened}
+use Rattle.cas_record.specs.Laws.{HistoryIsOpened}
 use Rattle.cas_record.specs.Logs.Lawful.{Cluster, ClusterMeets, Lawful, IsIn, AllEntered, IsMade, Granted, MayPropose}
 use Rattle.cas_record.specs.Legal.{HasProposal, HasFloor}
 use Rattle.cas_record.specs.Logs.Orderly.{Orderly, IsAboveFloors, MayDraw, WasRead, nothing_read, read_from}
@@ -190,12 +190,12 @@ opens_empty key (Floor k floor state ∷ older) none =
 opens_empty key (mark ∷ older) none = opens_empty key older (λ f o. none f (opens_later o))
 
 -- a floor is not zero
-floor_not_zero : (cluster : Cluster) (log : List Happening) {key : List ℕ} {floor : Ballot} → Lawful cluster log → IsEmptyAt (marks_of log) key floor ⊎ IsOpened cluster log key floor → floor ≡ zero_ballot → ⊥
+floor_not_zero : (cluster : Cluster) (log : List Happening) {key : List ℕ} {floor : Ballot} → Lawful cluster log → IsEmptyAt (marks_of log) key floor ⊎ HistoryIsOpened cluster log key floor → floor ≡ zero_ballot → ⊥
 floor_not_zero cluster log lawful (inl empty) zero = made_not_zero cluster log lawful empty.1 zero
 floor_not_zero cluster log lawful (inr opened) zero = less_irreflexive (subst (BallotLess zero_ballot) zero opened.some)
 
 -- where a proposal goes on from nothing the key has no floor
-none_opens : (cluster : Cluster) (log : List Happening) (p : Proposal) → Lawful cluster log → IsAboveFloors (marks_of log) p.key p.ballot → ((floor : Ballot) → HasFloor p.key floor (marks_of log) → IsEmptyAt (marks_of log) p.key floor ⊎ IsOpened cluster log p.key floor)
+none_opens : (cluster : Cluster) (log : List Happening) (p : Proposal) → Lawful cluster log → IsAboveFloors (marks_of log) p.key p.ballot → ((floor : Ballot) → HasFloor p.key floor (marks_of log) → IsEmptyAt (marks_of log) p.key floor ⊎ HistoryIsOpened cluster log p.key floor)
     → link_of (marks_of log) p ≡ zero_ballot → (floor : Ballot) → OpensAt p.key floor (marks_of log) → ⊥
 none_opens cluster log p lawful above each link floor o =
     let stands : Stands (Floor p.key floor o.state) (marks_of log) = stands_at o.at in
@@ -220,7 +220,7 @@ state_is_read cluster meets log p replies read lawful orderly round true_ by is_
     at_read (Some a) (inl made) link = made.state_is ∙ ap (λ b. replay_from (opening_state p.key (marks_of log)) (chain_of p.key b (marks_of log))) (sym link)
 
     at_floor : (r : Option Accepted) → p.read ≡ accepted_ballot r → IsAcceptedState (marks_of log) p.key r → accepted_ballot r ≡ zero_ballot
-        → IsEmptyAt (marks_of log) p.key (link_of (marks_of log) p) ⊎ IsOpened cluster log p.key (link_of (marks_of log) p)
+        → IsEmptyAt (marks_of log) p.key (link_of (marks_of log) p) ⊎ HistoryIsOpened cluster log p.key (link_of (marks_of log) p)
         → state_read r ≡ replay_from (opening_state p.key (marks_of log)) (chain_of p.key (link_of (marks_of log) p) (marks_of log))
     at_floor None nothing made zero (inl empty) = empty.1.state_is
     at_floor None nothing made zero (inr opened) =
@@ -248,7 +248,7 @@ all_in_low cluster log all proposer era lawful known not_beyond (inr all_in) = e
 
 -- a quorum of a round is clear of the floors that members are clear of
 pub clear_of_floors : (cluster : Cluster) (log : List Happening) (p : Proposal) (replies : List Reply) → Lawful cluster log → Orderly cluster log → IsOpenRound log p.caller p.call p.key p.ballot p.era
-    → AreRepliesTrue log replies → p.prepared_by ≡ promisers_of p.ballot replies → ((floor : Ballot) → HasFloor p.key floor (marks_of log) → IsEmptyAt (marks_of log) p.key floor ⊎ IsOpened cluster log p.key floor)
+    → AreRepliesTrue log replies → p.prepared_by ≡ promisers_of p.ballot replies → ((floor : Ballot) → HasFloor p.key floor (marks_of log) → IsEmptyAt (marks_of log) p.key floor ⊎ HistoryIsOpened cluster log p.key floor)
     → ((floor : Ballot) → HasFloor p.key floor (marks_of log) → IsFloorClear cluster log p.key floor) → AreFloorsClear cluster log p.key p.ballot p.prepared_by
 clear_of_floors cluster log p replies lawful orderly round true_ by empty clear =
     let may : MayDraw cluster round.drawn.older p.ballot p.key p.era = reason cluster orderly round.drawn.at in

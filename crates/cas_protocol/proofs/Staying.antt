@@ -19,8 +19,8 @@ use Rattle.cas_record.specs.Logs.Orderly.{WasAsked, age_told}
 use Rattle.cas_record.specs.Places.{Stands, past}
 use Rattle.cas_record.proofs.Logs.Slots.{slot_bounds}
 use Rattle.cas_record.proofs.Tests.{slot_same, nat_same}
-use Rattle.cas_protocol.specs.Acceptors.{Tells, IsElsewhere, IsLeft, IsAskState, deeds_of}
-use Rattle.cas_protocol.specs.Laws.{GoesOn, OthersChangeNothing, AcceptorsStopLawfully, WhatWasTakenStays}
+use Rattle.cas_protocol.specs.Acceptors.{LogTells, IsElsewhere, IsLeft, IsAskState, deeds_of}
+use Rattle.cas_protocol.specs.Laws.{LogTellsKept, OthersChangeNothing, AcceptorsStopLawfully, WhatWasTakenStays}
 use Rattle.cas_protocol.proofs.Answered.{deeds, deeds_marks}
 use Rattle.cas_protocol.proofs.Growing.{accepted_grows, ask_grows}
 
@@ -36,7 +36,7 @@ age_elsewhere : (h : Happening) (log : List Happening) (id proposer : ℕ) → I
 age_elsewhere (Raised a least) log id proposer other = if_false (a == id) _ _ (false_of_not _ (λ e. other (nat_same {a = a} {b = id} e)))
 age_elsewhere h log id proposer other = refl
 
-pub tells_still : (cluster : Cluster) (h : Happening) (log : List Happening) (id : ℕ) (kept : Contents) → Lawful cluster (h ∷ log) → IsElsewhere id h → Tells log id kept → Tells (h ∷ log) id kept
+pub tells_still : (cluster : Cluster) (h : Happening) (log : List Happening) (id : ℕ) (kept : Contents) → Lawful cluster (h ∷ log) → IsElsewhere id h → LogTells log id kept → LogTells (h ∷ log) id kept
 tells_still cluster h log id kept lawful other tells = record {
   slots = λ key. slot_elsewhere h log id key other ∙ tells.slots key;
   ages = λ proposer known. omega (arith, age_elsewhere h log id proposer other, tells.ages proposer known);
@@ -85,7 +85,7 @@ asked_row kept request tell.Kept new row = inr row.0
 asked_row kept request (tell.Listed after keys more) new row = inr row.0
 asked_row kept request (tell.Probed promise accepted) new row = inr row.0
 
-pub stops : (cluster : Cluster) (log : List Happening) (id : ℕ) (kept : Contents) → GoesOn cluster log id kept → (request : Request) (left : Left) → Stands (Asked request) log → request.to ≡ id
+pub stops : (cluster : Cluster) (log : List Happening) (id : ℕ) (kept : Contents) → LogTellsKept cluster log id kept → (request : Request) (left : Left) → Stands (Asked request) log → request.to ≡ id
     → IsAskState (marks_of log) request.ask → request.from ≤ 16 → LeavesByTable kept request left → IsLeft log id kept left
 stops cluster log id kept on request left asked to state known (inl same) = inl same
 stops cluster log id kept on request left asked to state known (inr row) = elim (asked_row kept request row.0 row.1 row.2) [
@@ -107,16 +107,16 @@ stops cluster log id kept on request left asked to state known (inr row) = elim 
 pub left_is : (a b : Contents) → ◌≡◌ {A = Left} (Ok a) (Ok b) → a ≡ b
 left_is a b e = cc
 
-pub goes_on_from : (cluster : Cluster) (log : List Happening) (id : ℕ) (kept : Contents) → GoesOn cluster log id kept → (new : Contents) → IsLeft log id kept (Ok new)
-    → (done : List Happening) × GoesOn cluster (done ++ log) id new × (marks_of (done ++ log) ≡ marks_of log)
-goes_on_from cluster log id kept on new (inl same) = ([], subst (GoesOn cluster log id) (left_is kept new (sym same)) on, refl)
+pub goes_on_from : (cluster : Cluster) (log : List Happening) (id : ℕ) (kept : Contents) → LogTellsKept cluster log id kept → (new : Contents) → IsLeft log id kept (Ok new)
+    → (done : List Happening) × LogTellsKept cluster (done ++ log) id new × (marks_of (done ++ log) ≡ marks_of log)
+goes_on_from cluster log id kept on new (inl same) = ([], subst (LogTellsKept cluster log id) (left_is kept new (sym same)) on, refl)
 goes_on_from cluster log id kept on new (inr half) =
     let h = half.1 in
-    let on_to : GoesOn cluster log h.request.to kept = subst (λ i. GoesOn cluster log i kept) (sym h.was_asked.to) on in
+    let on_to : LogTellsKept cluster log h.request.to kept = subst (λ i. LogTellsKept cluster log i kept) (sym h.was_asked.to) on in
     let did = deeds cluster h.request kept half.0 h.request.ask h.answer refl on_to h.was_asked.asked h.state h.known h.row in (
       deeds_of h.request.to kept h.request.ask h.answer,
-      subst (λ i. GoesOn cluster (deeds_of h.request.to kept h.request.ask h.answer ++ log) i new) h.was_asked.to
-          (subst (GoesOn cluster (deeds_of h.request.to kept h.request.ask h.answer ++ log) h.request.to) (left_is half.0 new (sym half.2)) did),
+      subst (λ i. LogTellsKept cluster (deeds_of h.request.to kept h.request.ask h.answer ++ log) i new) h.was_asked.to
+          (subst (LogTellsKept cluster (deeds_of h.request.to kept h.request.ask h.answer ++ log) h.request.to) (left_is half.0 new (sym half.2)) did),
       deeds_marks h.request.to kept log h.request.ask h.answer,
     )
 

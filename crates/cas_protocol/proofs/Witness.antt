@@ -48,7 +48,7 @@ use Rattle.cas_slot.specs.declared.message.Ask.{Ask}
 use Rattle.cas_protocol.specs.Acceptors.{deeds_of}
 use Rattle.cas_protocol.specs.Desks.{IsPastAll}
 use Rattle.cas_protocol.specs.Proposers.{AllRide}
-use Rattle.cas_protocol.specs.Protocol.{Made, GlobalState, opening, AllReplied, HasMade, IsPrepared, IsAccepted, Event, Begins, Draws, Asks, Answers, StopsWithin, Proposes, Counts, EndsDone, after, opened, then, SomeRunIsDone, IsPreparedByRide, ProposesByRide}
+use Rattle.cas_protocol.specs.Protocol.{Made, GlobalState, opening, AllReplied, HasMade, IsPrepared, IsAccepted, ProtocolEvent, Begins, Draws, Asks, Answers, StopsWithin, Proposes, Counts, EndsDone, after, opened, then, SomeRunIsDone, IsPreparedByRide, ProposesByRide}
 use Rattle.cas_protocol.proofs.Answered.{deeds_marks}
 use Rattle.cas_protocol.proofs.Handling as handling
 use Rattle.cas_protocol.proofs.Handling.{none_kept, accepted_kept, room, reply_to, answered}
@@ -134,7 +134,7 @@ takes_again acceptor = (omega arith, inl (subst (λ (s : Option Slot). IsSomeAnd
 abbrev pub program : List Clause
 program = record { guard = Always; act = Add (pos 5) } ∷ []
 
-abbrev begins : Event small_cluster opening
+abbrev begins : ProtocolEvent small_cluster opening
 begins = Begins 0 1 key_a program refl
 
 abbrev begun : GlobalState
@@ -148,7 +148,7 @@ past_all = record {
   floors = λ floor has. absurd (none is_floor (marks_of begun.log) refl refl has.stands);
 }
 
-abbrev draws : Event small_cluster begun
+abbrev draws : ProtocolEvent small_cluster begun
 draws = Draws 0 0 0 key_a past_all
 
 abbrev drawn : GlobalState
@@ -165,7 +165,7 @@ asks_for log request from member stands no_floor = record {
   above = record { above = λ {floor} {state} floored. absurd (none is_floor (marks_of log) no_floor refl floored) };
 }
 
-abbrev asks_first : Event small_cluster drawn
+abbrev asks_first : ProtocolEvent small_cluster drawn
 asks_first = Asks (ask_prepare 1) (record { may = asks_for drawn.log (ask_prepare 1) refl refl (record { older = begun.log; at = here }) refl; made = tt; ended = tt; from = omega arith; to = omega arith })
 
 abbrev asked_first : GlobalState
@@ -174,13 +174,13 @@ asked_first = after small_cluster drawn asks_first
 abbrev first : Reply
 first = reply_to (ask_prepare 1) (tell.Promised None)
 
-abbrev first_promises : Event small_cluster asked_first
+abbrev first_promises : ProtocolEvent small_cluster asked_first
 first_promises = Answers (ask_prepare 1) first promised (record { older = drawn.log; at = here }) (answered (ask_prepare 1) (tell.Promised None) refl (promises 1))
 
 abbrev promised_first : GlobalState
 promised_first = after small_cluster asked_first first_promises
 
-abbrev asks_second : Event small_cluster promised_first
+abbrev asks_second : ProtocolEvent small_cluster promised_first
 asks_second = Asks (ask_prepare 2) (record { may = asks_for promised_first.log (ask_prepare 2) refl refl (record { older = begun.log; at = past (past (past here)) }) refl; made = tt; ended = tt; from = omega arith; to = omega arith })
 
 abbrev asked_second : GlobalState
@@ -189,7 +189,7 @@ asked_second = after small_cluster promised_first asks_second
 abbrev second : Reply
 second = reply_to (ask_prepare 2) (tell.Promised None)
 
-abbrev second_promises : Event small_cluster asked_second
+abbrev second_promises : ProtocolEvent small_cluster asked_second
 second_promises = Answers (ask_prepare 2) second promised (record { older = promised_first.log; at = here }) (answered (ask_prepare 2) (tell.Promised None) refl (promises 2))
 
 abbrev promised_second : GlobalState
@@ -243,7 +243,7 @@ prepared = record {
 abbrev made : Made
 made = record { proposal = proposal; outcome = outcome_of program Empty }
 
-abbrev proposes : Event small_cluster promised_second
+abbrev proposes : ProtocolEvent small_cluster promised_second
 proposes = Proposes proposal program None begun_stands prepared
 
 abbrev proposed : GlobalState
@@ -265,7 +265,7 @@ past_one = record {
   floors = λ floor has. absurd (none is_floor (marks_of proposed.log) refl refl has.stands);
 }
 
-abbrev draws_ride : Event small_cluster proposed
+abbrev draws_ride : ProtocolEvent small_cluster proposed
 draws_ride = Draws 0 0 1 key_a past_one
 
 abbrev drawn_ride : GlobalState
@@ -283,7 +283,7 @@ accepts log request is may stands drawn =
 made_five : HasMade (made ∷ []) key_a one 0 five
 made_five = record { made = made; stands = record { older = []; at = here }; same_key = refl; same_ballot = refl; same_era = refl; same_state = refl }
 
-abbrev asks_to_accept : Event small_cluster drawn_ride
+abbrev asks_to_accept : ProtocolEvent small_cluster drawn_ride
 asks_to_accept = Asks (ask_accept 1) (record {
   may = accepts drawn_ride.log (ask_accept 1) refl (asks_for drawn_ride.log (ask_accept 1) refl refl (record { older = begun.log; at = past (past drawn_stands.at) }) refl)
       (record { older = promised_second.log; at = past here }) (record { older = proposed.log; at = here });
@@ -297,7 +297,7 @@ abbrev asked_to_accept : GlobalState
 asked_to_accept = after small_cluster drawn_ride asks_to_accept
 
 -- the first stops within it, and a crash leaves what it wrote
-abbrev stops_within : Event small_cluster asked_to_accept
+abbrev stops_within : ProtocolEvent small_cluster asked_to_accept
 stops_within = StopsWithin (ask_accept 1) tell.Accepted accepted (record { older = drawn_ride.log; at = here }) (takes 1)
 
 abbrev stopped : GlobalState
@@ -313,7 +313,7 @@ abbrev third : Reply
 third = reply_to (ask_accept 1) tell.Accepted
 
 -- and it is asked the same again
-abbrev first_accepts : Event small_cluster stopped
+abbrev first_accepts : ProtocolEvent small_cluster stopped
 first_accepts = Answers (ask_accept 1) third accepted asked_before (answered (ask_accept 1) tell.Accepted refl (takes_again 1))
 
 abbrev accepted_again : GlobalState
@@ -342,7 +342,7 @@ marks_again : marks_of accepted_again.log ≡ Voted 1 key_a one ∷ marks_of ask
 marks_again = ap (λ (marks : List Mark). Voted 1 key_a one ∷ marks)
     (deeds_marks 1 accepted stopped.log (ask_accept 1).ask tell.Accepted ∙ deeds_marks 1 promised asked_to_accept.log (ask_accept 1).ask tell.Accepted)
 
-abbrev asks_other : Event small_cluster accepted_again
+abbrev asks_other : ProtocolEvent small_cluster accepted_again
 asks_other = Asks (ask_accept 2) (record {
   may = accepts accepted_again.log (ask_accept 2) refl (asks_for accepted_again.log (ask_accept 2) refl refl drawn_still (ap (list_any is_floor) marks_again)) proposed_still ride_still;
   made = made_five;
@@ -357,7 +357,7 @@ asked_other = after small_cluster accepted_again asks_other
 abbrev fourth : Reply
 fourth = reply_to (ask_accept 2) tell.Accepted
 
-abbrev other_accepts : Event small_cluster asked_other
+abbrev other_accepts : ProtocolEvent small_cluster asked_other
 other_accepts = Answers (ask_accept 2) fourth accepted (record { older = accepted_again.log; at = here }) (answered (ask_accept 2) tell.Accepted refl (takes 2))
 
 abbrev accepted_by_other : GlobalState
@@ -392,7 +392,7 @@ abbrev acknowledgment : Acknowledgment
 acknowledgment = record { key = key_a; ballot = one; era = 0; by = 1 ∷ 2 ∷ [] }
 
 -- the third acceptor is asked too, and answers nothing yet
-abbrev asks_late : Event small_cluster accepted_by_other
+abbrev asks_late : ProtocolEvent small_cluster accepted_by_other
 asks_late = Asks (ask_accept 3) (record {
   may = accepts accepted_by_other.log (ask_accept 3) refl (asks_for accepted_by_other.log (ask_accept 3) refl refl (other_has drawn_still) (ap (list_any is_floor) marks_other)) (other_has proposed_still)
       (other_has ride_still);
@@ -428,7 +428,7 @@ is_accepted = record {
   quorum = two_suffice;
 }
 
-abbrev counts : Event small_cluster asked_late
+abbrev counts : ProtocolEvent small_cluster asked_late
 counts = Counts acknowledgment is_accepted
 
 abbrev counted : GlobalState
@@ -440,7 +440,7 @@ not_ended ended = none is_ended (marks_of counted.log) (ap (list_any is_ended) m
 is_acked : IsAcked key_a one (marks_of counted.log)
 is_acked = record { acknowledgment = acknowledgment; stands = record { older = marks_of asked_late.log; at = here }; same_key = refl; same_ballot = refl }
 
-abbrev ends : Event small_cluster counted
+abbrev ends : ProtocolEvent small_cluster counted
 ends = EndsDone made 1 (record { older = []; at = here }) is_acked not_ended
 
 abbrev ended : GlobalState
@@ -459,7 +459,7 @@ abbrev ends_next : Mark → Bool
 ends_next (Ended caller call rounds answer) = call == 2
 ends_next other = false
 
-abbrev begins_next : Event small_cluster ended
+abbrev begins_next : ProtocolEvent small_cluster ended
 begins_next = Begins 0 2 key_a program (ap (λ (marks : List Mark). suc (calls_of 0 marks)) (sym marks_other))
 
 abbrev begun_next : GlobalState
@@ -550,7 +550,7 @@ prepared_by_ride = record {
   over_floors = λ floor has. absurd (none_floored has.stands);
 }
 
-abbrev proposes_by_ride : Event small_cluster begun_next
+abbrev proposes_by_ride : ProtocolEvent small_cluster begun_next
 proposes_by_ride = ProposesByRide next_proposal program ready (record { older = marks_of ended.log; at = here }) prepared_by_ride
 
 abbrev proposed_next : GlobalState
@@ -560,7 +560,7 @@ proposed_next = after small_cluster begun_next proposes_by_ride
 late_asked : Stands (Asked (ask_accept 3)) proposed_next.log
 late_asked = record { older = accepted_by_other.log; at = past (past (past (past here))) }
 
-abbrev answers_late : Event small_cluster proposed_next
+abbrev answers_late : ProtocolEvent small_cluster proposed_next
 answers_late = Answers (ask_accept 3) (reply_to (ask_accept 3) tell.Accepted) late late_asked (answered (ask_accept 3) tell.Accepted refl (takes_late 3))
 
 abbrev wrote_late : List Happening
@@ -596,7 +596,7 @@ past_none = record {
   floors = λ floor has. absurd (none is_floor (marks_of all_over.log) no_floor_over refl has.stands);
 }
 
-abbrev draws_against : Event small_cluster all_over
+abbrev draws_against : ProtocolEvent small_cluster all_over
 draws_against = Draws 1 0 0 key_a past_none
 
 abbrev contended : GlobalState
@@ -614,7 +614,7 @@ may_ask_against = record {
   above = record { above = λ {floor} {state} s. absurd (none is_floor (marks_of contended.log) no_floor_over refl s) };
 }
 
-abbrev asks_against : Event small_cluster contended
+abbrev asks_against : ProtocolEvent small_cluster contended
 asks_against = Asks ask_against (record { may = may_ask_against; made = tt; ended = tt; from = omega arith; to = omega arith })
 
 abbrev asked_against : GlobalState
@@ -623,7 +623,7 @@ asked_against = after small_cluster contended asks_against
 meets : Handles accepted ask_against (tell.Met two) accepted
 meets = (omega arith, (ap seen_of (sym (accepted_kept one two five)), record { counters = omega arith; proposers = λ same. absurd (omega (arith, same)) }, refl))
 
-abbrev is_met : Event small_cluster asked_against
+abbrev is_met : ProtocolEvent small_cluster asked_against
 is_met = Answers ask_against (reply_to ask_against (tell.Met two)) accepted (record { older = contended.log; at = here }) (answered ask_against (tell.Met two) refl meets)
 
 against_has : {x : Happening} → Stands x all_over.log → Stands x (after small_cluster asked_against is_met).log

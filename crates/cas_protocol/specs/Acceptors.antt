@@ -73,7 +73,7 @@ told_of slot = record { promise = promise_of slot; accepted = accepted_ballot (a
 
 -- the log tells each slot that the acceptor keeps, and no least age above the one that it keeps; and what a slot accepted is the state
 -- of a proposal or of an opening floor
-pub record Tells (log : List Happening) (id : ℕ) (kept : Contents) : Type 0 where
+pub record LogTells (log : List Happening) (id : ℕ) (kept : Contents) : Type 0 where
   pub slots : (key : List ℕ) → slot_told log id key ≡ told_of (kept_at kept key)
   pub ages : (proposer : ℕ) → proposer ≤ 16 → age_told log id proposer ≤ least_age kept.ages proposer
   pub states : (key : List ℕ) → IsAcceptedState (marks_of log) key (accepted_of (kept_at kept key))

@@ -10,7 +10,7 @@ use Rattle.cas_record.specs.Histories.Chain.{chain_of}
 use Rattle.cas_record.specs.Logs.Happening.{Happening, marks_of}
 use Rattle.cas_record.specs.Logs.Lawful.{Cluster}
 use Rattle.cas_record.specs.Places.{IsPrefix}
-use Rattle.cas_protocol.specs.Acceptors.{Tells, IsAcceptedState, IsLeft}
+use Rattle.cas_protocol.specs.Acceptors.{LogTells, IsAcceptedState, IsLeft}
 
 -- what is kept of the key is at or above the ballot: a state that was proposed, whose history the ballot's begins
 pub record Holds (log : List Happening) (key : List ℕ) (ballot : Ballot) (kept : Contents) : Type 0 where
@@ -23,4 +23,4 @@ pub record IsHeld (cluster : Cluster) (log : List Happening) (key : List ℕ) (b
   pub era : ℕ
   pub by : List ℕ
   pub quorum : cluster.accepts era by ≡ true
-  pub held : (acceptor : ℕ) (kept new : Contents) → has_member by acceptor ≡ true → Tells log acceptor kept → IsLeft log acceptor kept (Ok new) → Holds log key ballot new
+  pub held : (acceptor : ℕ) (kept new : Contents) → has_member by acceptor ≡ true → LogTells log acceptor kept → IsLeft log acceptor kept (Ok new) → Holds log key ballot new

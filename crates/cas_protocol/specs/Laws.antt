@@ -21,7 +21,7 @@ use Rattle.cas_record.specs.Histories.Replay.{replay_from, opening_state}
 use Rattle.cas_slot.specs.declared.message.Reply.{Reply}
 use Rattle.cas_slot.specs.Contents.{Contents}
 use Rattle.cas_slot.specs.Shelf.{Left}
-use Rattle.cas_slot.specs.Table.{IsAnswered, accepted_at}
+use Rattle.cas_slot.specs.Table.{IsReplyByTable, accepted_at}
 use Rattle.cas_acceptor.specs.Acceptor.{LeavesByTable}
 use Rattle.cas_record.specs.declared.answer.Answer.TheVariants as answer
 use Rattle.cas_record.specs.declared.mark.Mark.TheVariants.{Begun, Proposed, Floor}
@@ -30,31 +30,31 @@ use Rattle.cas_record.specs.Legal.{IsEnded, IsAcked, HasFloor}
 use Rattle.cas_record.specs.Logs.Lawful.{Cluster, ClusterMeets, Lawful, MayPropose, MayAck, MayEnd}
 use Rattle.cas_record.specs.Logs.Orderly.{Orderly, MayDraw, IsAboveFloors, IsClear}
 use Rattle.cas_record.specs.Places.{Stands, At}
-use Rattle.cas_protocol.specs.Acceptors.{Tells, IsMadeState, IsEmptyAt, IsAskState, IsElsewhere, IsLeft, done_log, answered_log}
+use Rattle.cas_protocol.specs.Acceptors.{LogTells, IsMadeState, IsEmptyAt, IsAskState, IsElsewhere, IsLeft, done_log, answered_log}
 use Rattle.cas_protocol.specs.Desks.{IsRiding, IsPastAll}
 use Rattle.cas_protocol.specs.Held.{IsHeld}
 use Rattle.cas_protocol.specs.Proposers.{IsReplyTrue, AreRepliesTrue, IsOpenRound, IsProposedIn, AreFloorsClear, AllRide, state_read}
 
 -- the log is lawful and each happening has its reason, and it tells what the acceptor keeps
-pub record GoesOn (cluster : Cluster) (log : List Happening) (id : ℕ) (kept : Contents) : Type 0 where
+pub record LogTellsKept (cluster : Cluster) (log : List Happening) (id : ℕ) (kept : Contents) : Type 0 where
   pub lawful : Lawful cluster log
   pub orderly : Orderly cluster log
-  pub tells : Tells log id kept
+  pub tells : LogTells log id kept
 
 -- An acceptor keeps what the log tells, and handles a request that it was asked. Then it keeps what the log tells once it goes on with
 -- what the acceptor did, and once it also goes on with its vote and its reply.
 abbrev pub AcceptorsAnswerLawfully : Type 0
 AcceptorsAnswerLawfully = (cluster : Cluster) (log : List Happening) (old new : Contents) (request : Request) (reply : Reply)
-    → GoesOn cluster log request.to old → Stands (Asked request) log → IsAskState (marks_of log) request.ask → request.from ≤ 16
-    → IsAnswered request.to old request reply new
-    → GoesOn cluster (done_log request.to old request reply.tell log) request.to new
-    × GoesOn cluster (answered_log request.to old request reply log) request.to new
+    → LogTellsKept cluster log request.to old → Stands (Asked request) log → IsAskState (marks_of log) request.ask → request.from ≤ 16
+    → IsReplyByTable request.to old request reply new
+    → LogTellsKept cluster (done_log request.to old request reply.tell log) request.to new
+    × LogTellsKept cluster (answered_log request.to old request reply log) request.to new
 
 -- The reply that an acceptor makes then is true: it tells what is so, and a state that it tells is that of a proposal.
 abbrev pub RepliesAreTrue : Type 0
 RepliesAreTrue = (cluster : Cluster) (log : List Happening) (old new : Contents) (request : Request) (reply : Reply)
-    → GoesOn cluster log request.to old → Stands (Asked request) log → IsAskState (marks_of log) request.ask → request.from ≤ 16 → request.to < 64
-    → IsAnswered request.to old request reply new → IsReplyTrue (answered_log request.to old request reply log) reply
+    → LogTellsKept cluster log request.to old → Stands (Asked request) log → IsAskState (marks_of log) request.ask → request.from ≤ 16 → request.to < 64
+    → IsReplyByTable request.to old request reply new → IsReplyTrue (answered_log request.to old request reply log) reply
 
 -- what is known still is once the log goes on with this: that a state is that of a proposal, that a request asks for such a one, that a
 -- reply is true; and that a promise rode along, unless a floor is made above what it read
@@ -72,20 +72,20 @@ WhatIsKnownStays = (cluster : Cluster) (h : Happening) (log : List Happening) �
 -- What others do changes nothing of what the log tells of an acceptor, be it up or stopped.
 abbrev pub OthersChangeNothing : Type 0
 OthersChangeNothing = (cluster : Cluster) (h : Happening) (log : List Happening) (id : ℕ) → Lawful cluster (h ∷ log) → IsElsewhere id h
-    → ((kept : Contents) → Tells log id kept → Tells (h ∷ log) id kept) × ((kept : Contents) (left : Left) → IsLeft log id kept left → IsLeft (h ∷ log) id kept left)
+    → ((kept : Contents) → LogTells log id kept → LogTells (h ∷ log) id kept) × ((kept : Contents) (left : Left) → IsLeft log id kept left → IsLeft (h ∷ log) id kept left)
 
 -- An acceptor that stops within a request leaves what the log tells or what the answer would make of it; and whichever a later crash
 -- leaves, the log goes on with it lawfully, although nobody was answered.
 abbrev pub AcceptorsStopLawfully : Type 0
-AcceptorsStopLawfully = (cluster : Cluster) (log : List Happening) (id : ℕ) (kept : Contents) → GoesOn cluster log id kept
+AcceptorsStopLawfully = (cluster : Cluster) (log : List Happening) (id : ℕ) (kept : Contents) → LogTellsKept cluster log id kept
     → ((request : Request) (left : Left) → Stands (Asked request) log → request.to ≡ id → IsAskState (marks_of log) request.ask → request.from ≤ 16
     → LeavesByTable kept request left → IsLeft log id kept left)
-    × ((new : Contents) → IsLeft log id kept (Ok new) → (deeds : List Happening) × GoesOn cluster (deeds ++ log) id new × (marks_of (deeds ++ log) ≡ marks_of log))
+    × ((new : Contents) → IsLeft log id kept (Ok new) → (deeds : List Happening) × LogTellsKept cluster (deeds ++ log) id new × (marks_of (deeds ++ log) ≡ marks_of log))
 
 -- What an acceptor took for a key stays: as long as it did not remove the slot at a tombstone at or above it, the key's accepted ballot
 -- is at least that.
 abbrev pub WhatWasTakenStays : Type 0
-WhatWasTakenStays = (cluster : Cluster) (log : List Happening) (id : ℕ) (kept : Contents) (key : List ℕ) (ballot ride : Ballot) → GoesOn cluster log id kept
+WhatWasTakenStays = (cluster : Cluster) (log : List Happening) (id : ℕ) (kept : Contents) (key : List ℕ) (ballot ride : Ballot) → LogTellsKept cluster log id kept
     → Stands (Took id key ballot ride) log → ((tomb : Ballot) → Stands (Dropped id key tomb) log → BallotLess tomb ballot)
     → BallotAtMost ballot (accepted_ballot (accepted_at kept key))
 

@@ -15,7 +15,7 @@ use Rattle.cas_record.specs.declared.mark.Acknowledgment.{Acknowledgment}
 use Rattle.cas_record.specs.Legal.{HasProposal, HasFloor, IsBegun, IsProposed, IsEnded}
 use Rattle.cas_record.specs.Logs.Happening.{Happening, Asked, Entered, Drew, Replied, marks_of}
 use Rattle.cas_record.specs.Logs.Lawful.{Cluster}
-use Rattle.cas_record.specs.Laws.{IsOpened}
+use Rattle.cas_record.specs.Laws.{HistoryIsOpened}
 use Rattle.cas_record.specs.Logs.Orderly.{IsAboveFloors, IsClear}
 use Rattle.cas_record.specs.Places.{Stands}
 use Rattle.cas_protocol.specs.Acceptors.{IsTellState, IsEmptyAt}
@@ -46,7 +46,7 @@ pub record IsOpenRound (log : List Happening) (caller call : ℕ) (key : List �
 
 -- each floor of the key is empty or opened its history, and each of these acceptors is clear of what was below it
 pub record AreFloorsClear (cluster : Cluster) (log : List Happening) (key : List ℕ) (ballot : Ballot) (by : List ℕ) : Type 0 where
-  pub empty : (floor : Ballot) → HasFloor key floor (marks_of log) → IsEmptyAt (marks_of log) key floor ⊎ IsOpened cluster log key floor
+  pub empty : (floor : Ballot) → HasFloor key floor (marks_of log) → IsEmptyAt (marks_of log) key floor ⊎ HistoryIsOpened cluster log key floor
   pub clear : (acceptor : ℕ) (floor : Ballot) → has_member by acceptor ≡ true → HasFloor key floor (marks_of log) → BallotLess floor ballot → IsClear log acceptor key floor
 
 -- what was read: the state of the greatest ballot that was told, and nothing is the empty state

@@ -24,7 +24,7 @@ use Rattle.cas_slot.specs.declared.message.Tell.{Tell}
 use Rattle.cas_slot.specs.declared.slot.Accepted.{Accepted}
 use Rattle.cas_slot.specs.Contents.{Contents, nothing}
 use Rattle.cas_slot.specs.Slot.{accepted_ballot}
-use Rattle.cas_slot.specs.Table.{Handles, IsAnswered}
+use Rattle.cas_slot.specs.Table.{Handles, IsReplyByTable}
 use Rattle.cas_record.specs.declared.answer.Answer.{Answer}
 use Rattle.cas_record.specs.declared.answer.Answer.TheVariants as answer
 use Rattle.cas_record.specs.declared.operator.Asked.{Asked as OperatorAsked}
@@ -37,13 +37,13 @@ use Rattle.cas_record.specs.Histories.Chain.{chain_of, link_of}
 use Rattle.cas_record.specs.Logs.Happening.{Happening, Marked, Asked, Drew, Entered, Replied, marks_of}
 use Rattle.cas_record.specs.Logs.Lawful.{Cluster, ClusterMeets, Lawful, AllEntered, IsRescanned, MayMarkEra}
 use Rattle.cas_record.specs.Legal.{IsLegal, HasFloor, IsProposed, IsEnded, IsAcked, IsFirstEnd, calls_of, tells_refused, tells_unsettled, harms_due, harms_of}
-use Rattle.cas_record.specs.Laws.{IsOpened}
+use Rattle.cas_record.specs.Laws.{HistoryIsOpened}
 use Rattle.cas_record.specs.Logs.Listing.{WasAbsent}
 use Rattle.cas_record.specs.Logs.Orderly.{Orderly, MayAsk, IsClear, IsAgedOut}
 use Rattle.cas_record.specs.Places.{Stands, At}
 use Rattle.cas_record.specs.Histories.Replay.{replay_from, opening_state}
 use Rattle.cas_record.specs.Logs.Witness.{small_cluster, key_a, at}
-use Rattle.cas_protocol.specs.Acceptors.{Tells, IsMadeState, IsEmptyAt, IsAskState, done_log, answered_log}
+use Rattle.cas_protocol.specs.Acceptors.{LogTells, IsMadeState, IsEmptyAt, IsAskState, done_log, answered_log}
 use Rattle.cas_protocol.specs.Desks.{IsPastAll}
 use Rattle.cas_protocol.specs.Proposers.{IsReplyTrue, IsOpenRound, IsProposedIn, AllRide, state_read}
 
@@ -180,36 +180,36 @@ pub record IsLeaving (cluster : Cluster) (log : List Happening) (proposer left :
   pub listed : (left ≡ 0) ⊎ IsListed cluster log left
 
 -- ---- what may happen
-pub data Event (cluster : Cluster) (global : GlobalState) : Type 0 where
+pub data ProtocolEvent (cluster : Cluster) (global : GlobalState) : Type 0 where
   -- a caller's next call begins
-  Begins : (caller call : ℕ) (key : List ℕ) (program : List Clause) → call ≡ suc (calls_of caller (marks_of global.log)) → Event cluster global
+  Begins : (caller call : ℕ) (key : List ℕ) (program : List Clause) → call ≡ suc (calls_of caller (marks_of global.log)) → ProtocolEvent cluster global
   -- a proposer draws the ballot after its counter
-  Draws : (proposer era counter : ℕ) (key : List ℕ) → IsPastAll cluster global.log proposer era counter key → Event cluster global
+  Draws : (proposer era counter : ℕ) (key : List ℕ) → IsPastAll cluster global.log proposer era counter key → ProtocolEvent cluster global
   -- a request is made
-  Asks : (request : Request) → IsAskable cluster global request → Event cluster global
+  Asks : (request : Request) → IsAskable cluster global request → ProtocolEvent cluster global
   -- an acceptor handles a request that was once made, and answers it
-  Answers : (request : Request) (reply : Reply) (new : Contents) → Stands (Asked request) global.log → IsAnswered request.to (global.kept request.to) request reply new → Event cluster global
+  Answers : (request : Request) (reply : Reply) (new : Contents) → Stands (Asked request) global.log → IsReplyByTable request.to (global.kept request.to) request reply new → ProtocolEvent cluster global
   -- an acceptor stopped within such a request and answers nobody, but a crash left what the answer would have made
-  StopsWithin : (request : Request) (tell : Tell) (new : Contents) → Stands (Asked request) global.log → Handles (global.kept request.to) request tell new → Event cluster global
+  StopsWithin : (request : Request) (tell : Tell) (new : Contents) → Stands (Asked request) global.log → Handles (global.kept request.to) request tell new → ProtocolEvent cluster global
   -- a proposer proposes what the program of the call makes of what its round read, or of what a promise rode on
-  Proposes : (p : Proposal) (program : List Clause) (read : Option Accepted) → Stands (Begun p.caller p.call p.key program) (marks_of global.log) → IsPrepared cluster global.log p read → Event cluster global
-  ProposesByRide : (p : Proposal) (program : List Clause) (ready : Ready) → Stands (Begun p.caller p.call p.key program) (marks_of global.log) → IsPreparedByRide cluster global p ready → Event cluster global
+  Proposes : (p : Proposal) (program : List Clause) (read : Option Accepted) → Stands (Begun p.caller p.call p.key program) (marks_of global.log) → IsPrepared cluster global.log p read → ProtocolEvent cluster global
+  ProposesByRide : (p : Proposal) (program : List Clause) (ready : Ready) → Stands (Begun p.caller p.call p.key program) (marks_of global.log) → IsPreparedByRide cluster global p ready → ProtocolEvent cluster global
   -- what was proposed is counted
-  Counts : (a : Acknowledgment) → IsAccepted cluster global.log a → Event cluster global
+  Counts : (a : Acknowledgment) → IsAccepted cluster global.log a → ProtocolEvent cluster global
   -- a call is answered Done with what was made, once that is acknowledged
   EndsDone : (made : Made) (rounds : ℕ) → Stands made global.made → IsAcked made.proposal.key made.proposal.ballot (marks_of global.log)
-      → (IsEnded made.proposal.caller made.proposal.call (marks_of global.log) → ⊥) → Event cluster global
+      → (IsEnded made.proposal.caller made.proposal.call (marks_of global.log) → ⊥) → ProtocolEvent cluster global
   -- or anything else
-  EndsElse : (caller call rounds : ℕ) (answer : Answer) → IsOtherEnd global.log caller call answer → Event cluster global
+  EndsElse : (caller call rounds : ℕ) (answer : Answer) → IsOtherEnd global.log caller call answer → ProtocolEvent cluster global
   -- a frame of a call was harmed
-  Harms : (caller call : ℕ) (down : Bool) → Event cluster global
+  Harms : (caller call : ℕ) (down : Bool) → ProtocolEvent cluster global
   -- the operator was told something
-  TellsOperator : (asked : OperatorAsked) (told : OpAnswer) → Event cluster global
+  TellsOperator : (asked : OperatorAsked) (told : OpAnswer) → ProtocolEvent cluster global
   -- a tombstone is made a floor
-  MakesFloor : (key : List ℕ) (tomb : Ballot) → MayBeFloor cluster global key tomb → Event cluster global
+  MakesFloor : (key : List ℕ) (tomb : Ballot) → MayBeFloor cluster global key tomb → ProtocolEvent cluster global
   -- a proposer enters the era after the one that it leaves, and is marked as in it
-  Enters : (proposer left : ℕ) → IsLeaving cluster global.log proposer left → Event cluster global
-  MarksEra : (proposer era : ℕ) → MayMarkEra global.log proposer era → Event cluster global
+  Enters : (proposer left : ℕ) → IsLeaving cluster global.log proposer left → ProtocolEvent cluster global
+  MarksEra : (proposer era : ℕ) → MayMarkEra global.log proposer era → ProtocolEvent cluster global
 
 abbrev pub with_mark : GlobalState → Happening → GlobalState
 with_mark global happening = record global { log = happening ∷ global.log }
@@ -218,7 +218,7 @@ abbrev pub with_proposal : GlobalState → Proposal → Outcome → GlobalState
 with_proposal global p outcome = record global { log = Marked (Proposed p) ∷ global.log; made = record { proposal = p; outcome = outcome } ∷ global.made }
 
 -- the cluster after it
-abbrev pub after : (cluster : Cluster) (global : GlobalState) → Event cluster global → GlobalState
+abbrev pub after : (cluster : Cluster) (global : GlobalState) → ProtocolEvent cluster global → GlobalState
 after cluster global (Begins caller call key program numbered) = with_mark global (Marked (Begun caller call key program))
 after cluster global (Draws proposer era counter key past) = with_mark global (Drew (record { counter = counter + 1; proposer = proposer }) key era)
 after cluster global (Asks request askable) = with_mark global (Asked request)
@@ -240,7 +240,7 @@ after cluster global (MarksEra proposer era may) = with_mark global (Marked (Era
 -- all that happened, from the opening on
 pub data Run (cluster : Cluster) : GlobalState → Type 0 where
   opened : Run cluster opening
-  then : (global : GlobalState) → Run cluster global → (event : Event cluster global) → Run cluster (after cluster global event)
+  then : (global : GlobalState) → Run cluster global → (event : ProtocolEvent cluster global) → Run cluster (after cluster global event)
 
 -- ---- the history of a cluster
 -- what was made is what the program of its call made of the state from which its proposal went on; and that is the state of its ballot
@@ -263,20 +263,20 @@ pub record Knows (cluster : Cluster) (log : List Happening) (all : List Made) : 
   pub replied : (request : Request) (reply : Reply) → Stands (Replied request reply) log → IsReplyTrue log reply
   pub drawn : (p : Proposal) → Stands (Proposed p) (marks_of log) → Stands (Drew p.ballot p.key p.era) log
   pub made : (m : Made) → Stands m all → IsMadeOf log m
-  pub floors : (key : List ℕ) (floor : Ballot) → HasFloor key floor (marks_of log) → IsEmptyAt (marks_of log) key floor ⊎ IsOpened cluster log key floor
+  pub floors : (key : List ℕ) (floor : Ballot) → HasFloor key floor (marks_of log) → IsEmptyAt (marks_of log) key floor ⊎ HistoryIsOpened cluster log key floor
   pub clear : (key : List ℕ) (floor : Ballot) → HasFloor key floor (marks_of log) → IsFloorClear cluster log key floor
 
 -- the log is lawful and each happening has its reason; it tells what each acceptor keeps; and what is known is so
 pub record HasHistory (cluster : Cluster) (global : GlobalState) : Type 0 where
   pub lawful : Lawful cluster global.log
   pub orderly : Orderly cluster global.log
-  pub tells : (acceptor : ℕ) → Tells global.log acceptor (global.kept acceptor)
+  pub tells : (acceptor : ℕ) → LogTells global.log acceptor (global.kept acceptor)
   pub knows : Knows cluster global.log global.made
 
 -- ---- laws
 -- Whatever happens, a cluster with a history has one after it.
 abbrev pub EventsKeepHistory : Type 0
-EventsKeepHistory = (cluster : Cluster) → ClusterMeets cluster → (global : GlobalState) → HasHistory cluster global → (event : Event cluster global) → HasHistory cluster (after cluster global event)
+EventsKeepHistory = (cluster : Cluster) → ClusterMeets cluster → (global : GlobalState) → HasHistory cluster global → (event : ProtocolEvent cluster global) → HasHistory cluster (after cluster global event)
 
 -- After whatever happened, from the opening on, a cluster has a history, and its record is legal.
 abbrev pub RunsAreLegal : Type 0

@@ -13,7 +13,7 @@ use Rattle.cas_record.specs.Places.{Stands, IsOlderPart, IsPrefix}
 use Rattle.cas_record.specs.Histories.Chain.{has_opening, link_of, chain_of, settled_of}
 use Rattle.cas_record.specs.Legal.{HasFloor, IsLegal}
 use Rattle.cas_record.specs.Logs.Happening.{Happening, Promised, Took, Dropped, Entered, Drew, marks_of}
-use Rattle.cas_record.specs.Logs.Lawful.{Cluster, ClusterMeets, IsWidened, HasOpening, HasFloorAbove, AllEntered, IsRescanned, IsCollected, MayLeave, MayPropose, Granted, Lawful, MayVote}
+use Rattle.cas_record.specs.Logs.Lawful.{Cluster, ClusterMeets, IsWidened, HasOpening, HasFloorAbove, AllEntered, IsRescanned, IsCollected, MayLeaveEra, MayPropose, Granted, Lawful, MayVote}
 use Rattle.cas_record.specs.Logs.Listing.{WasAbsent}
 use Rattle.cas_record.specs.Logs.Orderly.{IsRoundAsk, WasAsked, IsClear, IsNoneOrAbove, WasRead, Orderly}
 
@@ -79,7 +79,7 @@ LinksAreRead = (cluster : Cluster) (log : List Happening) → Lawful cluster log
     → (link_of (marks_of log) p ≡ p.read) ⊎ ((p.read ≡ zero_ballot) × HasFloor p.key (link_of (marks_of log) p) (marks_of log))
 
 -- the history of the key opened with this floor, and a quorum of either kind of the first era took it then
-pub record IsOpened (cluster : Cluster) (log : List Happening) (key : List ℕ) (floor : Ballot) : Type 0 where
+pub record HistoryIsOpened (cluster : Cluster) (log : List Happening) (key : List ℕ) (floor : Ballot) : Type 0 where
   pub opening : HasOpening key floor log
   pub some : BallotLess zero_ballot floor
   pub by : List ℕ
@@ -90,7 +90,7 @@ pub record IsOpened (cluster : Cluster) (log : List Happening) (key : List ℕ) 
 -- a proposal that read nothing does not go on from the floor with which the history of its key opened
 abbrev pub OpeningsAreRead : Type 0
 OpeningsAreRead = (cluster : Cluster) → ClusterMeets cluster → (log : List Happening) → Lawful cluster log → Orderly cluster log → (p : Proposal) → MayPropose cluster log p → p.read ≡ zero_ballot
-    → (floor : Ballot) → IsOpened cluster log p.key floor → link_of (marks_of log) p ≡ floor → ⊥
+    → (floor : Ballot) → HistoryIsOpened cluster log p.key floor → link_of (marks_of log) p ≡ floor → ⊥
 
 -- ---- eras
 -- once all proposers had entered an era, each key that an accept quorum of it then had no slot of, or that was rescanned,
@@ -106,12 +106,12 @@ abbrev pub ListingsGiveOpeningStones : Type 0
 ListingsGiveOpeningStones = (cluster : Cluster) → ClusterMeets cluster → (log : List Happening) → Lawful cluster log → Orderly cluster log → (era : ℕ) (by : List ℕ) → 0 < era
     → AllEntered cluster era (marks_of log) → cluster.accepts era by ≡ true
     → ((acceptor : ℕ) (key : List ℕ) → has_member by acceptor ≡ true → IsRescanned cluster era key (marks_of log) ⊎ WasAbsent cluster era log acceptor key)
-    → (key : List ℕ) (floor : Ballot) → IsOpened cluster log key floor → IsRescanned cluster era key (marks_of log) ⊎ HasFloorAbove key floor (marks_of log)
+    → (key : List ℕ) (floor : Ballot) → HistoryIsOpened cluster log key floor → IsRescanned cluster era key (marks_of log) ⊎ HasFloorAbove key floor (marks_of log)
 
 -- what may be left may be left later, as long as the proposer has not left it
 abbrev pub LeavingStays : Type 0
 LeavingStays = (cluster : Cluster) (happening : Happening) (log : List Happening) → Lawful cluster (happening ∷ log) → (proposer left : ℕ) → (happening ≡ Entered proposer (suc left) → ⊥)
-    → MayLeave cluster log proposer left → MayLeave cluster (happening ∷ log) proposer left
+    → MayLeaveEra cluster log proposer left → MayLeaveEra cluster (happening ∷ log) proposer left
 
 -- in a cluster with more members and quorums a log stays lawful, and orderly
 pub record WiderStaysLawful : Type 0 where

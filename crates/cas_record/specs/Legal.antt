@@ -155,7 +155,7 @@ abbrev pub NoneBegun : List Mark → Type 0
 NoneBegun marks = (caller call : ℕ) (key : List ℕ) (program : List Clause) → Stands (Begun caller call key program) marks → ⊥
 
 -- an opening floor: no call was begun, and the key has no floor
-pub record IsOpening (key : List ℕ) (older : List Mark) : Type 0 where
+pub record IsOpeningFloor (key : List ℕ) (older : List Mark) : Type 0 where
   pub none_begun : NoneBegun older
   pub first : {floor : Ballot} {state : State} → Stands (Floor key floor state) older → ⊥
 
@@ -166,7 +166,7 @@ pub record IsTombstone (key : List ℕ) (ballot : Ballot) (state : State) (older
 
 -- a floor opens the key's history, or is a tombstone
 abbrev pub IsFloor : List ℕ → Ballot → State → List Mark → Type 0
-IsFloor key ballot state older = IsOpening key older ⊎ IsTombstone key ballot state older
+IsFloor key ballot state older = IsOpeningFloor key older ⊎ IsTombstone key ballot state older
 
 -- ---- the whole
 pub record IsLegal (marks : List Mark) : Type 0 where

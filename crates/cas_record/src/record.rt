@@ -3,7 +3,7 @@
 ghost use Rattle.std.specs.Prelude.{◌≡◌, ◌+◌, ◌<◌, ◌≤◌, [], ◌∷◌, ◌++◌, ℕ, List, reverse, option_copied, IfSome, MatchOption, IfOk, OnOk, OnErr};
 ghost use Rattle.cas_record.specs.Book.{Book};
 ghost use Rattle.cas_record.specs.Histories.Chain.{settled_of};
-ghost use Rattle.cas_record.specs.Kept.Index.{top_at, IsAfter, IsListed, KeyLess};
+ghost use Rattle.cas_record.specs.Kept.Index.{top_at, IsAfter, HasEntryOrFloor, KeyLess};
 ghost use Rattle.cas_record.specs.Histories.Replay.{opening_state, replay_from};
 
 use crate::entry::Entry;
@@ -108,8 +108,8 @@ impl Record {
     /// The least key after this one, or the least of all where none is given, that has an entry that stands or a floor. `None` where
     /// there is none. It takes no memory.
     pub fn next_key(&self, after: Option<&Key>) -> Option<&Key>
-        ensures next { IfSome result (λ key. IsListed key.now (reverse self.now.marks) × IsAfter (option_copied after.entry) key.now) }
-        ensures least { (key : List ℕ) → IsListed key (reverse self.now.marks) → IsAfter (option_copied after.entry) key
+        ensures next { IfSome result (λ key. HasEntryOrFloor key.now (reverse self.now.marks) × IsAfter (option_copied after.entry) key.now) }
+        ensures least { (key : List ℕ) → HasEntryOrFloor key (reverse self.now.marks) → IsAfter (option_copied after.entry) key
             → MatchOption result ⊥ (λ next. KeyLess key next.now → ⊥) }
     {
         let from = first_after(&self.tables.rows, &self.marks, after, &self.tables.hints);

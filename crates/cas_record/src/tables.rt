@@ -7,7 +7,7 @@ ghost use Rattle.cas_record.specs.declared.mark.Mark.{Mark};
 ghost use Rattle.cas_change.specs.declared.program.Clause.{Clause};
 ghost use Rattle.cas_change.specs.declared.state.State.{State};
 ghost use Rattle.cas_record.specs.Histories.Chain.{floor_below, settled_of};
-ghost use Rattle.cas_record.specs.Kept.Index.{floor_at, link_by, next_at, standing_at, IsListed, IsRowOf};
+ghost use Rattle.cas_record.specs.Kept.Index.{floor_at, link_by, next_at, standing_at, HasEntryOrFloor, IsRowOf};
 ghost use Rattle.cas_record.specs.Kept.Tables.{AreUnlisted, IsNextListed, IsRowFor, IsTablesOf, HasRoomFor};
 
 use crate::entry::Entry;
@@ -251,7 +251,7 @@ impl Tables {
 
     /// Whether the row's key has an entry that stands, or a floor.
     fn is_listed(&self, row: Row) -> bool
-        ensures { (key : List ℕ) (marks : List Mark) → IsTablesOf self.now marks → IsRowOf key (reverse marks) row → IsTrue result ↔ IsListed key (reverse marks) }
+        ensures { (key : List ℕ) (marks : List Mark) → IsTablesOf self.now marks → IsRowOf key (reverse marks) row → IsTrue result ↔ HasEntryOrFloor key (reverse marks) }
     {
         let top = row.top.unwrap_or(Ballot::ZERO);
         row.floor.is_some() || self.standing(Some(row), top).is_some()

@@ -13,7 +13,7 @@ use Rattle.cas_slot.specs.declared.message.Tell.{Tell}
 use Rattle.cas_round.specs.declared.verdict.RoundVerdict.{RoundVerdict}
 use Rattle.cas_round.specs.declared.verdict.RoundVerdict.TheVariants.{Quorum, Met, Aged, Full, Short}
 use Rattle.cas_round.specs.Replies.{heard, is_prepare, is_accept, is_promise, is_acceptance, confirmers_of, met_by, age_by, mets_of, ages_of, fulls_of, accepteds_of}
-use Rattle.cas_round.specs.Round.{IsGreatest, AgeAtMost, IsNoLess, AcceptedAtMost, GreatestOf, IsVerdict}
+use Rattle.cas_round.specs.Round.{IsGreatest, AgeAtMost, IsNoLess, AcceptedAtMost, GreatestOf, IsRoundVerdict}
 use Rattle.cas_base.proofs.Bools.{some_is}
 use Rattle.cas_round.specs.Laws.{SameReplies, OneVerdict, OneRead}
 use Rattle.cas_round.proofs.Lists.{Has, has, contains, IsWithin, within_filter, within_map, same_any, nothing_within}
@@ -60,7 +60,7 @@ differ : (a b : Bool) → a ≡ b → a ≡ true → b ≡ false → ⊥
 differ a b e p q = cc (e, p, q)
 
 one : (members : List ℕ) (need : ℕ) (confirms : Tell → Bool) (xs ys : List Reply) → SameTold confirms xs ys
-    → (v w : RoundVerdict) → IsVerdict members need confirms xs v → IsVerdict members need confirms ys w → v ≡ w
+    → (v w : RoundVerdict) → IsRoundVerdict members need confirms xs v → IsRoundVerdict members need confirms ys w → v ≡ w
 one members need confirms xs ys same Quorum Quorum p q = refl
 one members need confirms xs ys same Quorum other p q = absurd (differ _ _ (quorum_same members need confirms xs ys same) p q.0)
 one members need confirms xs ys same (Met b) Quorum p q = absurd (differ _ _ (sym (quorum_same members need confirms xs ys same)) q p.0)

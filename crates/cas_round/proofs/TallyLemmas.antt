@@ -15,7 +15,7 @@ use Rattle.cas_slot.specs.declared.message.Tell.TheVariants as tell
 use Rattle.cas_round.specs.declared.tally.Tally.{Tally}
 use Rattle.cas_round.specs.declared.verdict.RoundVerdict.TheVariants.{Short}
 use Rattle.cas_round.specs.Replies.{confirmers_of, mets_of, ages_of, fulls_of}
-use Rattle.cas_round.specs.Round.{IsTallyOf, IsVerdict, GreatestOf, AgeAtMost, IsNoLess}
+use Rattle.cas_round.specs.Round.{IsTallyOf, IsRoundVerdict, GreatestOf, AgeAtMost, IsNoLess}
 use Rattle.cas_round.specs.Tally.{no_tally, refused_after, verdict_by, unless_met, unless_aged, unless_full}
 use Rattle.cas_round.proofs.Greatest.{met_more, age_more, full_more}
 
@@ -77,14 +77,14 @@ short : (members : List ℕ) (need : ℕ) (confirms : Tell → Bool) (replies : 
     → has_quorum need members (confirmers_of confirms replies) ≡ false
     → (met : Option Ballot) → GreatestOf BallotAtMost (mets_of replies) met → (aged : Option ℕ) → GreatestOf AgeAtMost (ages_of replies) aged
     → (full : Option ℕ) → GreatestOf IsNoLess (fulls_of replies) full
-    → IsVerdict members need confirms replies (unless_met met (unless_aged aged (unless_full full (Short (count_in members tally.confirmed) need))))
+    → IsRoundVerdict members need confirms replies (unless_met met (unless_aged aged (unless_full full (Short (count_in members tally.confirmed) need))))
 short members need confirms replies tally h e (Some met) m aged a full f = (e, m)
 short members need confirms replies tally h e None m (Some aged) a full f = (e, m, a)
 short members need confirms replies tally h e None m None a (Some full) f = (e, m, a, f)
 short members need confirms replies tally h e None m None a None f = (e, m, a, f, ap (count_in members) h.confirmed, refl)
 
 pub verdict : (members : List ℕ) (need : ℕ) (confirms : Tell → Bool) (replies : List Reply) (tally : Tally) → IsTallyOf confirms replies tally
-    → (quorum : Bool) → has_quorum need members (confirmers_of confirms replies) ≡ quorum → IsVerdict members need confirms replies (verdict_by tally quorum members need)
+    → (quorum : Bool) → has_quorum need members (confirmers_of confirms replies) ≡ quorum → IsRoundVerdict members need confirms replies (verdict_by tally quorum members need)
 verdict members need confirms replies tally h true e = e
 verdict members need confirms replies tally h false e = short members need confirms replies tally h e tally.met h.met tally.aged h.aged tally.full h.full
 

@@ -35,25 +35,25 @@ AcceptedAtMost a b = BallotAtMost a.ballot b.ballot
 -- ---- the verdict
 -- of the replies that were heard: a quorum, or the greatest ballot met, or the greatest age told, or the least acceptor
 -- that was full, or how many of the members confirmed
-abbrev pub IsVerdict : List ℕ → ℕ → (Tell → Bool) → List Reply → RoundVerdict → Type 0
-IsVerdict members need confirms replies Quorum = has_quorum need members (confirmers_of confirms replies) ≡ true
-IsVerdict members need confirms replies (Met ballot) =
+abbrev pub IsRoundVerdict : List ℕ → ℕ → (Tell → Bool) → List Reply → RoundVerdict → Type 0
+IsRoundVerdict members need confirms replies Quorum = has_quorum need members (confirmers_of confirms replies) ≡ true
+IsRoundVerdict members need confirms replies (Met ballot) =
     (has_quorum need members (confirmers_of confirms replies) ≡ false) × IsGreatest BallotAtMost (mets_of replies) ballot
-IsVerdict members need confirms replies (Aged least) =
+IsRoundVerdict members need confirms replies (Aged least) =
     (has_quorum need members (confirmers_of confirms replies) ≡ false) × (mets_of replies ≡ []) × IsGreatest AgeAtMost (ages_of replies) least
-IsVerdict members need confirms replies (Full acceptor) =
+IsRoundVerdict members need confirms replies (Full acceptor) =
     (has_quorum need members (confirmers_of confirms replies) ≡ false) × (mets_of replies ≡ []) × (ages_of replies ≡ [])
     × IsGreatest IsNoLess (fulls_of replies) acceptor
-IsVerdict members need confirms replies (Short got needed) =
+IsRoundVerdict members need confirms replies (Short got needed) =
     (has_quorum need members (confirmers_of confirms replies) ≡ false) × (mets_of replies ≡ []) × (ages_of replies ≡ []) × (fulls_of replies ≡ [])
     × (got ≡ count_in members (confirmers_of confirms replies)) × (needed ≡ need)
 
 -- the verdict of a prepare phase, and of an accept phase
 abbrev pub IsPrepareVerdict : Era → Ballot → List Reply → RoundVerdict → Type 0
-IsPrepareVerdict era ballot replies verdict = IsVerdict era.prep era.need_prep is_promise (heard is_prepare ballot replies) verdict
+IsPrepareVerdict era ballot replies verdict = IsRoundVerdict era.prep era.need_prep is_promise (heard is_prepare ballot replies) verdict
 
 abbrev pub IsAcceptVerdict : Era → Ballot → List Reply → RoundVerdict → Type 0
-IsAcceptVerdict era ballot replies verdict = IsVerdict era.acc era.need_acc is_acceptance (heard is_accept ballot replies) verdict
+IsAcceptVerdict era ballot replies verdict = IsRoundVerdict era.acc era.need_acc is_acceptance (heard is_accept ballot replies) verdict
 
 -- ---- what was read
 -- the greatest of a list, or nothing where the list is empty

@@ -10,7 +10,7 @@ use Rattle.cas_record.specs.declared.answer.Answer.{Answer}
 use Rattle.cas_record.specs.declared.answer.Answer.TheVariants as answer
 use Rattle.cas_record.specs.declared.mark.Mark.{Mark}
 use Rattle.cas_record.specs.Histories.Chain.{keep_always}
-use Rattle.cas_session_text.specs.Contents.{Contents, IsContents, StandsFor, after_reply}
+use Rattle.cas_session_text.specs.Contents.{SessionContents, IsContents, StandsFor, after_reply}
 use Rattle.cas_session.specs.declared.request.SessionAct.{SessionAct}
 use Rattle.cas_session.specs.declared.request.SessionAnswer.{SessionAnswer}
 use Rattle.cas_session.specs.declared.request.SessionAnswer.TheVariants.{NotSession, Tired}
@@ -18,17 +18,17 @@ use Rattle.cas_session.specs.declared.decision.Decision.{Decision}
 use Rattle.cas_session.specs.declared.decision.Decision.TheVariants.{Answered, Proposes}
 use Rattle.cas_session.specs.declared.attempts.Ending.{Ending}
 use Rattle.cas_session.specs.declared.attempts.Ending.TheVariants.{Ends, Again}
-use Rattle.cas_session.specs.Calls.{Call, Changes, Makes, none, first}
+use Rattle.cas_session.specs.Calls.{Call, Changes, MakesCalls, none, first}
 use Rattle.cas_session.specs.Request.{Request, request_of, decided, reply_to, change_to, ProposesFitting}
-use Rattle.cas_session.specs.Serving.{is_done, ends_by, ends_with, without_memory, reads, proposes, GoesOn, finds_no_memory, finds_no_session, finds_answer, changes, Attempts, has_no_memory, reads_nothing, reads_state, Serves, is_answered, is_tired, tries_again, WasServed, WasTried, HasGoneOn}
+use Rattle.cas_session.specs.Serving.{is_done, ends_by, ends_with, without_memory, reads, proposes, AttemptGoesOn, finds_no_memory, finds_no_session, finds_answer, changes, Attempts, has_no_memory, reads_nothing, reads_state, ServesRequest, is_answered, is_tired, tries_again, WasServed, WasTried, HasGoneOn}
 
 -- ---- what a state stands for
-pub none_stands : (state : State) (found : Option Contents) → MatchOption found ((contents : Contents) → StandsFor state contents → ⊥) (λ s. IsContents s × StandsFor state s) → found ≡ None
-    → (contents : Contents) → StandsFor state contents → ⊥
+pub none_stands : (state : State) (found : Option SessionContents) → MatchOption found ((contents : SessionContents) → StandsFor state contents → ⊥) (λ s. IsContents s × StandsFor state s) → found ≡ None
+    → (contents : SessionContents) → StandsFor state contents → ⊥
 none_stands state None m e = m
 none_stands state (Some s) m e = absurd cc
 
-pub some_stands : (state : State) (found : Option Contents) (session : Contents) → MatchOption found ((contents : Contents) → StandsFor state contents → ⊥) (λ s. IsContents s × StandsFor state s)
+pub some_stands : (state : State) (found : Option SessionContents) (session : SessionContents) → MatchOption found ((contents : SessionContents) → StandsFor state contents → ⊥) (λ s. IsContents s × StandsFor state s)
     → found ≡ Some session → StandsFor state session
 some_stands state None session m e = absurd cc
 some_stands state (Some s) session m e = let same : s ≡ session = cc (e) in subst (StandsFor state) same m.1
@@ -38,11 +38,11 @@ pub gone_memory : {request : Request} {key : List ℕ} {pending : Bool} {state :
     → HasGoneOn request key pending state marks marks ending
 gone_memory {request} {key} {pending} {state} {marks} e = subst (λ x. HasGoneOn request key pending state marks marks x) (sym e) (record { calls = []; made = none; goes_on = finds_no_memory })
 
-pub gone_no_session : {request : Request} {key : List ℕ} {pending : Bool} {state : State} {marks : List Mark} → ((contents : Contents) → StandsFor state contents → ⊥)
+pub gone_no_session : {request : Request} {key : List ℕ} {pending : Bool} {state : State} {marks : List Mark} → ((contents : SessionContents) → StandsFor state contents → ⊥)
     → HasGoneOn request key pending state marks marks (Ends NotSession)
 gone_no_session n = record { calls = []; made = none; goes_on = finds_no_session n }
 
-pub gone_answer : {key : List ℕ} {pending : Bool} {state : State} {marks : List Mark} {told : SessionAnswer} (caller number known : ℕ) (act : SessionAct) (contents : Contents) (decision : Decision)
+pub gone_answer : {key : List ℕ} {pending : Bool} {state : State} {marks : List Mark} {told : SessionAnswer} (caller number known : ℕ) (act : SessionAct) (contents : SessionContents) (decision : Decision)
     → known ≡ caller → StandsFor state contents → decision ≡ decided (request_of known number act) contents → decision ≡ Answered told
     → HasGoneOn (request_of caller number act) key pending state marks marks (Ends told)
 gone_answer caller number known act contents decision same stands d e = record {
@@ -51,7 +51,7 @@ gone_answer caller number known act contents decision same stands d e = record {
   goes_on = finds_answer contents stands (ap (λ n. decided (request_of n number act) contents) (sym same) ∙ sym d ∙ e);
 }
 
-pub gone_change : {key : List ℕ} {pending : Bool} {state : State} {old new : List Mark} {ending : Ending} (caller number known : ℕ) (act : SessionAct) (contents : Contents) (decision : Decision) (left : ℤ) (program : List Clause) (told : Answer)
+pub gone_change : {key : List ℕ} {pending : Bool} {state : State} {old new : List Mark} {ending : Ending} (caller number known : ℕ) (act : SessionAct) (contents : SessionContents) (decision : Decision) (left : ℤ) (program : List Clause) (told : Answer)
     → known ≡ caller → StandsFor state contents → decision ≡ decided (request_of known number act) contents → decision ≡ Proposes left
     → program ≡ change_to state (after_reply (reply_to (request_of known number act) left) contents) → Changes caller key program old new told → ending ≡ ends_with left told pending
     → HasGoneOn (request_of caller number act) key pending state old new ending
@@ -97,15 +97,15 @@ tried_state {key} {pending} {old} {mid} {new} {ending} caller number then_caller
     record { calls = reads (answer.Done state took ballot) ∷ went.calls; made = first read went.made; tried = reads_state went.goes_on }
 
 -- ---- several attempts
-makes_both : {caller : ℕ} {key : List ℕ} {old mid new : List Mark} {calls more : List Call} → Makes caller key old calls mid → Makes caller key mid more new → Makes caller key old (calls ++ more) new
+makes_both : {caller : ℕ} {key : List ℕ} {old mid new : List Mark} {calls more : List Call} → MakesCalls caller key old calls mid → MakesCalls caller key mid more new → MakesCalls caller key old (calls ++ more) new
 makes_both none m = m
 makes_both (first c rest) m = first c (makes_both rest m)
 
 -- these calls were made, and what is served by at most so many more attempts is served by all
 pub record SoFar (request : Request) (key : List ℕ) (tries : ℕ) (old now : List Mark) (left : ℕ) (pending : Bool) : Type 0 where
   pub calls : List Call
-  pub made : Makes request.caller key old calls now
-  pub serves : (more : List Call) (told : SessionAnswer) → Serves request left pending more told → Serves request tries false (calls ++ more) told
+  pub made : MakesCalls request.caller key old calls now
+  pub serves : (more : List Call) (told : SessionAnswer) → ServesRequest request left pending more told → ServesRequest request tries false (calls ++ more) told
 
 pub none_yet : (request : Request) (key : List ℕ) (tries : ℕ) (old : List Mark) → SoFar request key tries old old tries false
 none_yet request key tries old = record { calls = []; made = none; serves = λ more told s. s }
@@ -122,7 +122,7 @@ go_again {request} {key} {tries} {old} {now} {next} {pending} left rest last the
     record {
       calls = s.calls ++ t.calls;
       made = makes_both s.made t.made;
-      serves = λ more told served. subst (λ (cs : List Call). Serves request tries false cs told) (sym (append_assoc s.calls t.calls more))
+      serves = λ more told served. subst (λ (cs : List Call). ServesRequest request tries false cs told) (sym (append_assoc s.calls t.calls more))
           (s.serves (t.calls ++ more) told (tries_again t.tried served));
     }
 

@@ -23,12 +23,12 @@ own_marks caller [] = []
 own_marks caller (mark ∷ older) = if is_of_caller caller mark then mark ∷ own_marks caller older else own_marks caller older
 
 -- the mark tells of that call, and of neither its beginning nor its end
-pub data IsWithin (call : ℕ) : Mark → Type 0 where
-  was_proposed : {p : Proposal} → p.call ≡ call → IsWithin call (Proposed p)
-  was_harmed : {caller : ℕ} {down : Bool} → IsWithin call (Harmed caller call down)
+pub data IsMarkWithin (call : ℕ) : Mark → Type 0 where
+  was_proposed : {p : Proposal} → p.call ≡ call → IsMarkWithin call (Proposed p)
+  was_harmed : {caller : ℕ} {down : Bool} → IsMarkWithin call (Harmed caller call down)
 
 -- a call of the caller began after all that was seen, and has ended with this answer: it is the newest mark
-pub record IsAnswered (caller : ℕ) (key : List ℕ) (program : List Clause) (old new : List Mark) (answer : Answer) : Type 0 where
+pub record CallIsAnswered (caller : ℕ) (key : List ℕ) (program : List Clause) (old new : List Mark) (answer : Answer) : Type 0 where
   pub call : ℕ
   pub rounds : ℕ
   pub within : List Mark
@@ -37,20 +37,20 @@ pub record IsAnswered (caller : ℕ) (key : List ℕ) (program : List Clause) (o
   pub seen : IsOlderPart old before
   -- between what was seen and its beginning the caller made no mark, and then marks of this call alone
   pub none_before : own_marks caller before ≡ own_marks caller old
-  pub own_within : All (IsWithin call) (own_marks caller within)
+  pub own_within : All (IsMarkWithin call) (own_marks caller within)
   -- it made one try
   pub one_try : {met : Ballot} → answer ≡ Conflict met → rounds ≡ 1
 
 -- a call is not begun: the record has more than 999,000 marks, or there is no memory
-pub record IsRefused (caller : ℕ) (old new : List Mark) (answer : Answer) : Type 0 where
+pub record CallIsRefused (caller : ℕ) (old new : List Mark) (answer : Answer) : Type 0 where
   pub why : ((answer ≡ RecordFull) × (999000 < length new)) ⊎ (answer ≡ NoMemory false)
   pub seen : IsOlderPart old new
   pub none_made : own_marks caller new ≡ own_marks caller old
 
 -- what a call for this change does to what the caller sees of the record
 pub data Changes (caller : ℕ) (key : List ℕ) (program : List Clause) (old new : List Mark) (answer : Answer) : Type 0 where
-  is_answered : IsAnswered caller key program old new answer → Changes caller key program old new answer
-  is_refused : IsRefused caller old new answer → Changes caller key program old new answer
+  is_answered : CallIsAnswered caller key program old new answer → Changes caller key program old new answer
+  is_refused : CallIsRefused caller old new answer → Changes caller key program old new answer
 
 -- ---- several calls
 -- a program, and what the call for it was answered
@@ -59,7 +59,7 @@ pub record Call : Type 0 where
   pub answer : Answer
 
 -- the caller made these calls for changes of the key, one after another, and no other
-pub data Makes (caller : ℕ) (key : List ℕ) : List Mark → List Call → List Mark → Type 0 where
-  none : {marks : List Mark} → Makes caller key marks [] marks
+pub data MakesCalls (caller : ℕ) (key : List ℕ) : List Mark → List Call → List Mark → Type 0 where
+  none : {marks : List Mark} → MakesCalls caller key marks [] marks
   first : {old mid new : List Mark} {call : Call} {calls : List Call} → Changes caller key call.program old mid call.answer
-      → Makes caller key mid calls new → Makes caller key old (call ∷ calls) new
+      → MakesCalls caller key mid calls new → MakesCalls caller key old (call ∷ calls) new

@@ -17,7 +17,7 @@ use Rattle.cas_session.specs.declared.request.SessionAnswer.{SessionAnswer}
 use Rattle.cas_session.specs.declared.request.SessionAnswer.TheVariants.{Done, Stale, Gap, Unfit}
 use Rattle.cas_session.specs.declared.decision.Decision.{Decision}
 use Rattle.cas_session.specs.declared.decision.Decision.TheVariants.{Answered, Proposes}
-use Rattle.cas_session_text.specs.Contents.{Contents, contents_text, reply_of}
+use Rattle.cas_session_text.specs.Contents.{SessionContents, contents_text, reply_of}
 
 -- the value that an act leaves; none where a sum is outside i64
 abbrev pub value_after : SessionAct → ℤ → Option ℤ
@@ -57,7 +57,7 @@ decided_by request value (Some last) =
 
 -- what is decided on a request: the one that came last is answered as it was, an older one is stale, and of those that have not come
 -- the next one is proposed, if its value fits, and any other leaves a gap
-abbrev pub decided : Request → Contents → Decision
+abbrev pub decided : Request → SessionContents → Decision
 decided request contents = decided_by request contents.value (reply_of request.caller contents.replies)
 
 -- a value that is proposed is an i64
@@ -79,5 +79,5 @@ abbrev pub one_clause : Guard → Act → List Clause
 one_clause guard act = record { guard = guard; act = act } ∷ []
 
 -- the program that puts the text of these contents in place of exactly that state
-abbrev pub change_to : State → Contents → List Clause
+abbrev pub change_to : State → SessionContents → List Clause
 change_to state contents = one_clause (guard_for state) (PutText (contents_text contents))

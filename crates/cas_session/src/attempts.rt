@@ -2,7 +2,7 @@
 
 ghost use Rattle.std.specs.Prelude.{◌≡◌, ◌≤◌, [], ◌∷◌, List, ℕ, IfOk, MatchOption};
 ghost use Rattle.cas_record.specs.Legal.{IsLegal, tells_unsettled};
-ghost use Rattle.cas_session_text.specs.Contents.{Contents, IsContents, IsReply, StandsFor, after_reply, contents_text};
+ghost use Rattle.cas_session_text.specs.Contents.{SessionContents, IsContents, IsLastReply, StandsFor, after_reply, contents_text};
 ghost use Rattle.cas_session.specs.Request.{request_of, one_clause, guard_for, change_to};
 ghost use Rattle.cas_session.specs.Serving.{HasGoneOn, WasTried, may_follow, ends_by, ends_with, without_memory};
 
@@ -91,7 +91,7 @@ fn go_on<C: Changer>(
 /// The session that the state stands for. `Ok(None)` comes exactly where it stands for none. Only memory can fail.
 fn session_of(alloc: Global, state: &State) -> Result<Option<Session>, AllocError>
     ensures { IfOk result (λ found. MatchOption found
-        ((contents : Contents) → StandsFor state.now contents → ⊥)
+        ((contents : SessionContents) → StandsFor state.now contents → ⊥)
         (λ session. IsContents session × StandsFor state.now session)) }
 {
     match state {
@@ -114,7 +114,7 @@ fn change_to(
     mut session: Session,
     reply: LastReply,
 ) -> Result<Program, AllocError>
-    requires { IsReply reply }
+    requires { IsLastReply reply }
     ensures { IfOk result (λ program. program ≡ change_to state.now (after_reply reply session)) }
 {
     session.tell(reply)?;

@@ -23,7 +23,7 @@ use Rattle.cas_record.specs.Legal.{IsLegal, DoesStand, WasBegun, IsBegun, tells_
 use Rattle.cas_record.proofs.PlaceLemmas.{stands_deeper, stands_later, stands_at, at_part, part_at}
 use Rattle.cas_record.proofs.Histories.Calls.{IsCounted, begun_once}
 use Rattle.cas_session_text.specs.declared.reply.LastReply.{LastReply}
-use Rattle.cas_session_text.specs.Contents.{Contents, StandsFor, no_requests, reply_of, after_reply}
+use Rattle.cas_session_text.specs.Contents.{SessionContents, StandsFor, no_requests, reply_of, after_reply}
 use Rattle.cas_session.specs.declared.request.SessionAct.{SessionAct}
 use Rattle.cas_session.specs.declared.request.SessionAnswer.{SessionAnswer}
 use Rattle.cas_session.specs.declared.request.SessionAnswer.TheVariants.{Done, Stale, Gap, Unfit as DoesNotFit, NotSession, Tired, Stopped}
@@ -31,9 +31,9 @@ use Rattle.cas_session.specs.declared.decision.Decision.{Decision}
 use Rattle.cas_session.specs.declared.decision.Decision.TheVariants.{Answered, Proposes}
 use Rattle.cas_session.specs.declared.attempts.Ending.{Ending}
 use Rattle.cas_session.specs.declared.attempts.Ending.TheVariants.{Ends, Again}
-use Rattle.cas_session.specs.Calls.{Call, Changes, is_answered, is_refused, IsAnswered, Makes, none, first}
+use Rattle.cas_session.specs.Calls.{Call, Changes, is_answered, is_refused, CallIsAnswered, MakesCalls, none, first}
 use Rattle.cas_session.specs.Request.{Request, value_after, decided, decided_by, decided_new, decided_next, reply_to, change_to}
-use Rattle.cas_session.specs.Serving.{may_follow, ends_by, ends_with, without_memory, GoesOn, finds_no_memory, finds_no_session, finds_answer, changes, Attempts, has_no_memory, reads_nothing, reads_state, Serves, is_answered as answers, is_tired, tries_again, WasServed}
+use Rattle.cas_session.specs.Serving.{may_follow, ends_by, ends_with, without_memory, AttemptGoesOn, finds_no_memory, finds_no_session, finds_answer, changes, Attempts, has_no_memory, reads_nothing, reads_state, ServesRequest, is_answered as answers, is_tired, tries_again, WasServed}
 use Rattle.cas_session_laws.specs.History.{IsRequest, IsOfSession, IsSessionKey, ActsFor, HasActed, Acting}
 use Rattle.cas_session_laws.specs.Laws.{OpensWith, IsDone}
 use Rattle.cas_session_laws.proofs.Histories.{Found, found, Explained, was_told, has_acted, explained, reply_of-caller}
@@ -86,7 +86,7 @@ done_with left (answer.NoMemory proposed) pending fresh reply e = absurd (cc (e)
 
 -- ---- what is decided of a request that has come
 -- the caller was told this last, and it is answered again
-pub record WasToldBefore (request : Request) (contents : Contents) (reply : ℤ) (fresh : Bool) : Type 0 where
+pub record WasToldBefore (request : Request) (contents : SessionContents) (reply : ℤ) (fresh : Bool) : Type 0 where
   pub told : reply_of request.caller contents.replies ≡ Some (reply_to request reply)
   pub not_fresh : fresh ≡ false
 
@@ -127,7 +127,7 @@ by-answered request value (Some last) reply fresh e =
           ]
     ]
 
-told_before : (request : Request) (contents : Contents) (reply : ℤ) (fresh : Bool) → decided request contents ≡ Answered (Done reply fresh) → WasToldBefore request contents reply fresh
+told_before : (request : Request) (contents : SessionContents) (reply : ℤ) (fresh : Bool) → decided request contents ≡ Answered (Done reply fresh) → WasToldBefore request contents reply fresh
 told_before request contents reply fresh e =
     let l = by-answered request contents.value (reply_of request.caller contents.replies) reply fresh e in
     let caller : l.last.caller ≡ request.caller = reply_of-caller request.caller contents.replies l.last l.is_last in
@@ -137,31 +137,31 @@ told_before request contents reply fresh e =
 
 -- ---- the call that answered
 pub data Answering (request : Request) (key : List ℕ) (reply : ℤ) (fresh : Bool) (new : List Mark) : Type 0 where
-  by_change : (state : State) (contents : Contents) {old : List Mark} {reached : State} {clause : ℕ} {ballot : Ballot} → StandsFor state contents
+  by_change : (state : State) (contents : SessionContents) {old : List Mark} {reached : State} {clause : ℕ} {ballot : Ballot} → StandsFor state contents
       → decided request contents ≡ Proposes reply → fresh ≡ true
       → Changes request.caller key (change_to state (after_reply (reply_to request reply) contents)) old new (answer.Done reached (ByClause clause) ballot)
       → Answering request key reply fresh new
-  by_read : {old : List Mark} {state : State} {took : Took} {ballot : Ballot} {contents : Contents} → StandsFor state contents
+  by_read : {old : List Mark} {state : State} {took : Took} {ballot : Ballot} {contents : SessionContents} → StandsFor state contents
       → WasToldBefore request contents reply fresh → Changes request.caller key keep_always old new (answer.Done state took ballot)
       → Answering request key reply fresh new
 
-made_none : {caller : ℕ} {key : List ℕ} {old new : List Mark} → Makes caller key old [] new → old ≡ new
+made_none : {caller : ℕ} {key : List ℕ} {old new : List Mark} → MakesCalls caller key old [] new → old ≡ new
 made_none none = refl
 
 record MadeOne (caller : ℕ) (key : List ℕ) (old : List Mark) (call : Call) (calls : List Call) (new : List Mark) : Type 0 where
   mid : List Mark
   changes : Changes caller key call.program old mid call.answer
-  rest : Makes caller key mid calls new
+  rest : MakesCalls caller key mid calls new
 
-made_one : {caller : ℕ} {key : List ℕ} {old new : List Mark} {call : Call} {calls : List Call} → Makes caller key old (call ∷ calls) new → MadeOne caller key old call calls new
+made_one : {caller : ℕ} {key : List ℕ} {old new : List Mark} {call : Call} {calls : List Call} → MakesCalls caller key old (call ∷ calls) new → MadeOne caller key old call calls new
 made_one (first {mid = mid} c rest) = record { mid = mid; changes = c; rest = rest }
 
 record MadeBoth (caller : ℕ) (key : List ℕ) (old : List Mark) (calls more : List Call) (new : List Mark) : Type 0 where
   mid : List Mark
-  front : Makes caller key old calls mid
-  back : Makes caller key mid more new
+  front : MakesCalls caller key old calls mid
+  back : MakesCalls caller key mid more new
 
-made_both : {caller : ℕ} {key : List ℕ} {new : List Mark} (calls more : List Call) (old : List Mark) → Makes caller key old (calls ++ more) new → MadeBoth caller key old calls more new
+made_both : {caller : ℕ} {key : List ℕ} {new : List Mark} (calls more : List Call) (old : List Mark) → MakesCalls caller key old (calls ++ more) new → MadeBoth caller key old calls more new
 made_both [] more old m = record { mid = old; front = none; back = m }
 made_both (call ∷ calls) more old m =
     let one = made_one m in
@@ -169,14 +169,14 @@ made_both (call ∷ calls) more old m =
     record { mid = rest.mid; front = first one.changes rest.front; back = rest.back }
 
 -- the only call
-made_last : {caller : ℕ} {key : List ℕ} {old new : List Mark} {call : Call} → Makes caller key old (call ∷ []) new → Changes caller key call.program old new call.answer
+made_last : {caller : ℕ} {key : List ℕ} {old new : List Mark} {call : Call} → MakesCalls caller key old (call ∷ []) new → Changes caller key call.program old new call.answer
 made_last {caller} {key} {old} {new} {call} m =
     let one = made_one m in
     subst (λ (marks : List Mark). Changes caller key call.program old marks call.answer) (made_none one.rest) one.changes
 
 answered_on : (request : Request) (key : List ℕ) (reply : ℤ) (fresh pending : Bool) {state : State} {took : Took} {ballot : Ballot} {more : List Call} {ending : Ending} {old new : List Mark}
-    → GoesOn request pending state more ending → ending ≡ Ends (Done reply fresh)
-    → Makes request.caller key old (record { program = keep_always; answer = answer.Done state took ballot } ∷ more) new → Answering request key reply fresh new
+    → AttemptGoesOn request pending state more ending → ending ≡ Ends (Done reply fresh)
+    → MakesCalls request.caller key old (record { program = keep_always; answer = answer.Done state took ballot } ∷ more) new → Answering request key reply fresh new
 answered_on request key reply fresh pending finds_no_memory e m = absurd (cc (e))
 answered_on request key reply fresh pending (finds_no_session n) e m = absurd (cc (e))
 answered_on request key reply fresh pending (finds_answer contents {told} s d) e m =
@@ -191,13 +191,13 @@ answered_on request key reply fresh pending {state} {new = new} (changes content
     (subst (λ (l : ℤ). Changes request.caller key (change_to state (after_reply (reply_to request l) contents)) one.mid new told) w.same c))
 
 answered_by : (request : Request) (key : List ℕ) (reply : ℤ) (fresh pending : Bool) {calls : List Call} {ending : Ending} {old new : List Mark}
-    → Attempts request pending calls ending → ending ≡ Ends (Done reply fresh) → Makes request.caller key old calls new → Answering request key reply fresh new
+    → Attempts request pending calls ending → ending ≡ Ends (Done reply fresh) → MakesCalls request.caller key old calls new → Answering request key reply fresh new
 answered_by request key reply fresh pending has_no_memory e m = absurd (cc (e))
 answered_by request key reply fresh pending (reads_nothing {told} n) e m = absurd (not_by told pending fresh reply e)
 answered_by request key reply fresh pending (reads_state g) e m = answered_on request key reply fresh pending g e m
 
 pub answering : (request : Request) (key : List ℕ) (reply : ℤ) (fresh : Bool) {tries : ℕ} {pending : Bool} {calls : List Call} {told : SessionAnswer} {old new : List Mark}
-    → Serves request tries pending calls told → told ≡ Done reply fresh → Makes request.caller key old calls new → Answering request key reply fresh new
+    → ServesRequest request tries pending calls told → told ≡ Done reply fresh → MakesCalls request.caller key old calls new → Answering request key reply fresh new
 answering request key reply fresh (answers {pending = pending} a) e m = answered_by request key reply fresh pending a (ap (λ (t : SessionAnswer). Ends t) e) m
 answering request key reply fresh (is_tired a) e m = absurd (cc (e))
 answering request key reply fresh (tries_again {calls = calls} {more = more} a rest) e m = answering request key reply fresh rest e (made_both calls more _ m).back
@@ -297,7 +297,7 @@ as_asked request other reply left start history e h =
 opens_empty : (request : Request) (reply : ℤ) (start : State) → start ≡ Empty → OpensWith request reply start → ⊥
 opens_empty request reply start e o =
     let none_yet : o.contents ≡ no_requests = subst (λ (s : State). StandsFor s o.contents) e o.stands_for in
-    let nothing : reply_of request.caller no_requests.replies ≡ Some (reply_to request reply) = ap (λ (c : Contents). reply_of request.caller c.replies) (sym none_yet) ∙ o.told in
+    let nothing : reply_of request.caller no_requests.replies ≡ Some (reply_to request reply) = ap (λ (c : SessionContents). reply_of request.caller c.replies) (sym none_yet) ∙ o.told in
     absurd (cc (nothing))
 
 done_by_change : (request : Request) (reply : ℤ) (fresh : Bool) (key : List ℕ) (marks : List Mark) → HasActed request reply (opening_state key marks) (settled_of key marks) → IsDone request reply fresh key marks

@@ -11,7 +11,7 @@ use Rattle.cas_change.specs.Outcome.{outcome_of}
 use Rattle.cas_record.specs.declared.entry.Entry.{Entry}
 use Rattle.cas_record.specs.Histories.Replay.{replay_from}
 use Rattle.cas_session_text.specs.declared.reply.LastReply.{LastReply}
-use Rattle.cas_session_text.specs.Contents.{Contents, StandsFor, reply_of, with_reply, after_reply}
+use Rattle.cas_session_text.specs.Contents.{SessionContents, StandsFor, reply_of, with_reply, after_reply}
 use Rattle.cas_session_text.proofs.Replies.{reply_of-told, reply_of-other}
 use Rattle.cas_session.specs.Request.{Request, value_after, last_number, reply_to}
 use Rattle.cas_session_laws.specs.History.{IsOfSession, ActsFor, Acting, none, stays, acts, IsSameRequest, AreApart, value_by, HasActed}
@@ -52,7 +52,7 @@ above_more told replies rises (request ∷ requests) each = (one, above_more tol
           omega (arith, each.0, last)
     ]
 
-pub all_above : {state : State} {history : List Entry} {requests : List Request} → Acting state history requests → (contents : Contents) → StandsFor state contents
+pub all_above : {state : State} {history : List Entry} {requests : List Request} → Acting state history requests → (contents : SessionContents) → StandsFor state contents
     → AllByRecursion (IsAbove contents.replies) requests
 all_above none contents s = tt
 all_above (stays {state} {entry} {later} {requests} same rest) contents s = all_above rest contents s
@@ -64,7 +64,7 @@ all_above (acts {state} {entry} {later} {request} {left} {requests} a rest) cont
     let state_is : (outcome_of entry.program state).state ≡ by.after = ap (λ (o : Outcome). o.state) by.outcome in
     let after : StandsFor (outcome_of entry.program state).state (after_reply told a.contents) = subst (λ t. StandsFor t (after_reply told a.contents)) (sym state_is) by.stands_for in
     let more = all_above rest (after_reply told a.contents) after in
-    subst (λ (c : Contents). AllByRecursion (IsAbove c.replies) (request ∷ requests)) one
+    subst (λ (c : SessionContents). AllByRecursion (IsAbove c.replies) (request ∷ requests)) one
     (omega (arith, next.number), above_more told a.contents.replies (omega (arith, next.number)) requests more)
 
 none_again : (told : LastReply) (replies : List LastReply) (request : Request) → request.caller ≡ told.caller → request.number ≡ told.number → (requests : List Request)
@@ -90,11 +90,11 @@ acts_once (acts {state} {entry} {later} {request} {left} {requests} a rest) =
 
 -- ---- values
 pub record Folds (requests : List Request) (value : ℤ) (state : State) : Type 0 where
-  pub last : Contents
+  pub last : SessionContents
   pub stands_for : StandsFor state last
   pub folds : value_by requests value ≡ Some last.value
 
-pub folds_of : {state : State} {history : List Entry} {requests : List Request} → Acting state history requests → (contents : Contents) → StandsFor state contents
+pub folds_of : {state : State} {history : List Entry} {requests : List Request} → Acting state history requests → (contents : SessionContents) → StandsFor state contents
     → Folds requests contents.value (replay_from state history)
 folds_of none contents s = record { last = contents; stands_for = s; folds = refl }
 folds_of (stays {state} {entry} {later} {requests} same rest) contents s =
@@ -107,7 +107,7 @@ folds_of (acts {state} {entry} {later} {request} {left} {requests} a rest) conte
     let state_is : (outcome_of entry.program state).state ≡ by.after = ap (λ (o : Outcome). o.state) by.outcome in
     let after : StandsFor (outcome_of entry.program state).state (after_reply told a.contents) = subst (λ t. StandsFor t (after_reply told a.contents)) (sym state_is) by.stands_for in
     let more = folds_of rest (after_reply told a.contents) after in
-    let value : value_after request.act contents.value ≡ Some left = ap (λ (c : Contents). value_after request.act c.value) (sym one) ∙ next.value in
+    let value : value_after request.act contents.value ≡ Some left = ap (λ (c : SessionContents). value_after request.act c.value) (sym one) ∙ next.value in
     record {
       last = more.last;
       stands_for = more.stands_for;
@@ -127,7 +127,7 @@ reply_of-caller caller (reply ∷ replies) told e = elim (cases_Bool (reply.call
 
 -- a reply that stands after a history was there at its start, or its request has acted
 pub data Explained (caller : ℕ) (told : LastReply) (start : State) (history : List Entry) : Type 0 where
-  was_told : (contents : Contents) → StandsFor start contents → reply_of caller contents.replies ≡ Some told → Explained caller told start history
+  was_told : (contents : SessionContents) → StandsFor start contents → reply_of caller contents.replies ≡ Some told → Explained caller told start history
   has_acted : {request : Request} {left : ℤ} → reply_to request left ≡ told → HasActed request left start history → Explained caller told start history
 
 later_acted : {request : Request} {left : ℤ} (state : State) (entry : Entry) (later : List Entry) → HasActed request left (outcome_of entry.program state).state later → HasActed request left state (entry ∷ later)
@@ -139,7 +139,7 @@ later_acted state entry later h = record {
   acted = h.acted;
 }
 
-pub explained : (state : State) (history : List Entry) → AllByRecursion IsOfSession history → (contents : Contents) → StandsFor (replay_from state history) contents
+pub explained : (state : State) (history : List Entry) → AllByRecursion IsOfSession history → (contents : SessionContents) → StandsFor (replay_from state history) contents
     → (caller : ℕ) (told : LastReply) → reply_of caller contents.replies ≡ Some told → Explained caller told state history
 explained state [] each contents s caller told e = was_told contents s e
 explained state (entry ∷ later) each contents s caller told e =
@@ -148,14 +148,14 @@ explained state (entry ∷ later) each contents s caller told e =
       | was_told held stood told_then ↦ first held stood told_then (step_of state entry each.0)
     ]
   where
-    first : (held : Contents) → StandsFor (outcome_of entry.program state).state held → reply_of caller held.replies ≡ Some told → Step state entry → Explained caller told state (entry ∷ later)
+    first : (held : SessionContents) → StandsFor (outcome_of entry.program state).state held → reply_of caller held.replies ≡ Some told → Step state entry → Explained caller told state (entry ∷ later)
     first held stood told_then (kept same) = was_told held (subst (λ t. StandsFor t held) same stood) told_then
     first held stood told_then (acted {request} {left} a) =
         let by = left_by a in
         let mine : LastReply = reply_to request left in
         let state_is : (outcome_of entry.program state).state ≡ by.after = ap (λ (o : Outcome). o.state) by.outcome in
         let one : held ≡ after_reply mine a.contents = stands_once by.after held (after_reply mine a.contents) (subst (λ t. StandsFor t held) state_is stood) by.stands_for in
-        let found_then : reply_of caller (with_reply mine a.contents.replies) ≡ Some told = ap (λ (c : Contents). reply_of caller c.replies) (sym one) ∙ told_then in
+        let found_then : reply_of caller (with_reply mine a.contents.replies) ≡ Some told = ap (λ (c : SessionContents). reply_of caller c.replies) (sym one) ∙ told_then in
         elim (cases_eq request.caller caller) [
           | inl same ↦
               let both : Some mine ≡ Some told = sym (reply_of-told mine a.contents.replies) ∙ ap (λ c. reply_of c (with_reply mine a.contents.replies)) same ∙ found_then in

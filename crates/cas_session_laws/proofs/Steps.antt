@@ -19,7 +19,7 @@ use Rattle.cas_change.specs.declared.outcome.Took.TheVariants.{Clause as ByClaus
 use Rattle.cas_record.specs.declared.entry.Entry.{Entry}
 use Rattle.cas_record.specs.Histories.Chain.{keep_always}
 use Rattle.cas_session_text.specs.declared.reply.LastReply.{LastReply}
-use Rattle.cas_session_text.specs.Contents.{Contents, IsReply, IsContents, StandsFor, no_requests, contents_text, reply_of, after_reply}
+use Rattle.cas_session_text.specs.Contents.{SessionContents, IsLastReply, IsContents, StandsFor, no_requests, contents_text, reply_of, after_reply}
 use Rattle.cas_session_text.proofs.Replies.{IsContents-after}
 use Rattle.cas_session_text.proofs.Texts.{contents_text-once}
 use Rattle.cas_session.specs.declared.request.SessionAct.{SessionAct}
@@ -34,19 +34,19 @@ use Rattle.cas_session_laws.specs.History.{IsRequest, IsChangeFor, IsOfSession, 
 lawful_empty : IsContents no_requests
 lawful_empty = record { value_fits = omega arith; each = tt; rising = tt }
 
-pub lawful-stands : (state : State) (contents : Contents) → StandsFor state contents → IsContents contents
+pub lawful-stands : (state : State) (contents : SessionContents) → StandsFor state contents → IsContents contents
 lawful-stands Empty contents e = subst IsContents (sym e) lawful_empty
 lawful-stands (Held version (Text text)) contents s = s.0
 lawful-stands (Held version (Number number)) contents s = absurd s
 
-pub stands_once : (state : State) (a b : Contents) → StandsFor state a → StandsFor state b → a ≡ b
+pub stands_once : (state : State) (a b : SessionContents) → StandsFor state a → StandsFor state b → a ≡ b
 stands_once Empty a b p q = p ∙ sym q
 stands_once (Held version (Text text)) a b p q = contents_text-once a b p.0 q.0 (p.1 ∙ sym q.1)
 stands_once (Held version (Number number)) a b p q = absurd p
 
 -- ---- what is decided of the request that is next
 -- it is one above the last, and leaves the value that its act gives
-pub record IsNext (request : Request) (contents : Contents) (left : ℤ) : Type 0 where
+pub record IsNext (request : Request) (contents : SessionContents) (left : ℤ) : Type 0 where
   pub number : request.number ≡ last_number (reply_of request.caller contents.replies) + 1
   pub value : value_after request.act contents.value ≡ Some left
 
@@ -82,7 +82,7 @@ next-by request value (Some last) left e =
           ]
     ]
 
-pub is_next : (request : Request) (contents : Contents) (left : ℤ) → decided request contents ≡ Proposes left → IsNext request contents left
+pub is_next : (request : Request) (contents : SessionContents) (left : ℤ) → decided request contents ≡ Proposes left → IsNext request contents left
 is_next request contents left e =
     let parts = next-by request contents.value (reply_of request.caller contents.replies) left e in
     record { number = parts.0; value = parts.1 }
@@ -104,7 +104,7 @@ left_fits (Add addend) value left fits e = elim (cases_Bool (fits_i64 (value +�
 ]
 left_fits (Put number) value left fits e = let same : number ≡ left = cc (e) in subst (FitsSigned w64) same fits
 
-pub lawful-reply : (request : Request) (contents : Contents) (left : ℤ) → IsRequest request → IsNext request contents left → IsReply (reply_to request left)
+pub lawful-reply : (request : Request) (contents : SessionContents) (left : ℤ) → IsRequest request → IsNext request contents left → IsLastReply (reply_to request left)
 lawful-reply request contents left lawful next = record {
   caller = lawful.caller;
   numbered = lawful.numbered;
@@ -147,7 +147,7 @@ makes-change made text state = elim (cases_Bool (holds (guard_for made) state)) 
 ]
 
 -- the guard holds of a state that stands for what it was made for
-guard_stands : (made state : State) (contents : Contents) → StandsFor made contents → holds (guard_for made) state ≡ true
+guard_stands : (made state : State) (contents : SessionContents) → StandsFor made contents → holds (guard_for made) state ≡ true
     → (guard_for made ≡ guard_for state) × StandsFor state contents
 guard_stands Empty Empty contents s t = (refl, s)
 guard_stands Empty (Held w (Number n)) contents s t = absurd cc
@@ -160,7 +160,7 @@ guard_stands (Held v (Text x)) (Held w (Text y)) contents s t =
 guard_stands (Held v (Number n)) state contents s t = absurd s
 
 -- what was put stands for what was printed
-put_stands : (state after : State) (contents : Contents) → IsContents contents → after_put (Text (contents_text contents)) state ≡ Some after → StandsFor after contents
+put_stands : (state after : State) (contents : SessionContents) → IsContents contents → after_put (Text (contents_text contents)) state ≡ Some after → StandsFor after contents
 put_stands Empty after contents lawful e =
     let same : Held 0 (Text (contents_text contents)) ≡ after = cc (e) in
     subst (λ s. StandsFor s contents) same (lawful, refl)
@@ -178,12 +178,12 @@ put_stands (Held v body) after contents lawful e =
 
 -- ---- one entry
 -- the entry acted, and left a state that stands for the contents with the reply
-pub record HasLeft (request : Request) (state : State) (left : ℤ) (contents : Contents) (entry : Entry) : Type 0 where
+pub record HasLeft (request : Request) (state : State) (left : ℤ) (contents : SessionContents) (entry : Entry) : Type 0 where
   pub after : State
   pub outcome : outcome_of entry.program state ≡ record { state = after; took = ByClause 0 }
   pub stands_for : StandsFor after (after_reply (reply_to request left) contents)
 
-lawful-after : (request : Request) (state : State) (contents : Contents) (left : ℤ) (program : List Clause) → IsChangeFor request state contents left program
+lawful-after : (request : Request) (state : State) (contents : SessionContents) (left : ℤ) (program : List Clause) → IsChangeFor request state contents left program
     → IsContents (after_reply (reply_to request left) contents)
 lawful-after request state contents left program change =
     IsContents-after (reply_to request left) contents (lawful-reply request contents left change.lawful (is_next request contents left change.next)) (lawful-stands state contents change.stands_for)
@@ -191,7 +191,7 @@ lawful-after request state contents left program change =
 pub left_by : {request : Request} {state : State} {left : ℤ} {entry : Entry} (acts : ActsFor request state left entry) → HasLeft request state left acts.contents entry
 left_by {request} {state} {left} {entry} acts = by_outcome (makes-change state text state)
   where
-    told : Contents
+    told : SessionContents
     told = after_reply (reply_to request left) acts.contents
 
     text : List ℕ
@@ -212,7 +212,7 @@ pub data Step (state : State) (entry : Entry) : Type 0 where
   acted : {request : Request} {left : ℤ} → ActsFor request state left entry → Step state entry
 
 -- where the guard of a change holds, it acts
-acts_put : {request : Request} {made : State} {contents : Contents} {left : ℤ} (state : State) (entry : Entry) → request.caller ≡ entry.caller → IsChangeFor request made contents left entry.program
+acts_put : {request : Request} {made : State} {contents : SessionContents} {left : ℤ} (state : State) (entry : Entry) → request.caller ≡ entry.caller → IsChangeFor request made contents left entry.program
     → holds (guard_for made) state ≡ true → (outcome_of entry.program state).took ≡ ByClause 0 → ActsFor request state left entry
 acts_put {request} {made} {contents} {left} state entry same change guard took =
     let stands = guard_stands made state contents change.stands_for guard in
@@ -238,7 +238,7 @@ step_of state entry (changes {request = request} {state = made} {contents = cont
         (acts_put state entry same change guard (ap (λ (p : List Clause). (outcome_of p state).took) change.change ∙ ap (λ (o : Outcome). o.took) outcome))
 
 -- a change whose clause was taken acted
-pub acts_where_taken : (request : Request) (made state : State) (contents : Contents) (left : ℤ) (entry : Entry) (clause : ℕ) → request.caller ≡ entry.caller
+pub acts_where_taken : (request : Request) (made state : State) (contents : SessionContents) (left : ℤ) (entry : Entry) (clause : ℕ) → request.caller ≡ entry.caller
     → IsChangeFor request made contents left entry.program → (outcome_of entry.program state).took ≡ ByClause clause → ActsFor request state left entry
 acts_where_taken request made state contents left entry clause same change took = by_outcome (makes-change made (contents_text (after_reply (reply_to request left) contents)) state)
   where

@@ -17,7 +17,7 @@ use Rattle.cas_change.specs.declared.outcome.Took.TheVariants.{Clause as ByClaus
 use Rattle.cas_record.specs.declared.answer.Answer.{Answer}
 use Rattle.cas_record.specs.declared.answer.Answer.TheVariants as answer
 use Rattle.cas_record.specs.Histories.Chain.{keep_always}
-use Rattle.cas_session_text.specs.Contents.{Contents, StandsFor, contents_text, after_reply}
+use Rattle.cas_session_text.specs.Contents.{SessionContents, StandsFor, contents_text, after_reply}
 use Rattle.cas_session.specs.declared.request.SessionAnswer.{SessionAnswer}
 use Rattle.cas_session.specs.declared.request.SessionAnswer.TheVariants.{Done, Stopped}
 use Rattle.cas_session.specs.declared.decision.Decision.{Decision}
@@ -26,11 +26,11 @@ use Rattle.cas_session.specs.declared.attempts.Ending.{Ending}
 use Rattle.cas_session.specs.declared.attempts.Ending.TheVariants.{Ends, Again}
 use Rattle.cas_session.specs.Calls.{Call}
 use Rattle.cas_session.specs.Request.{Request, decided, reply_to, guard_for, change_to, one_clause}
-use Rattle.cas_session.specs.Serving.{is_done, ends_by, ends_with, without_memory, reads, proposes, GoesOn, finds_no_memory, finds_no_session, finds_answer, changes, Attempts, has_no_memory, reads_nothing, reads_state, Serves, is_answered, is_tired, tries_again}
-use Rattle.cas_session_laws.specs.Laws.{MayPut, IsDoneOn, done_on, no_memory, IsDoneOrNoMemory, was_done, has_none}
+use Rattle.cas_session.specs.Serving.{is_done, ends_by, ends_with, without_memory, reads, proposes, AttemptGoesOn, finds_no_memory, finds_no_session, finds_answer, changes, Attempts, has_no_memory, reads_nothing, reads_state, ServesRequest, is_answered, is_tired, tries_again}
+use Rattle.cas_session_laws.specs.Laws.{MayPut, IsDoneOn, done_on, no_memory, RequestIsDoneOrNoMemory, was_done, has_none}
 use Rattle.cas_session_laws.proofs.Steps.{stands_once, outcome_held}
 
-own_guard : (state : State) (contents : Contents) → StandsFor state contents → holds (guard_for state) state ≡ true
+own_guard : (state : State) (contents : SessionContents) → StandsFor state contents → holds (guard_for state) state ≡ true
 own_guard Empty contents s = refl
 own_guard (Held version (Text text)) contents s = (bytes_decides text text).1 refl
 own_guard (Held version (Number number)) contents s = absurd s
@@ -42,13 +42,13 @@ may_put (Held version body) text may =
     ap (λ b. (outcome_by 0 (Held version body) (cond b (Some next) None)).took) (lt-ltb version (2 ^ 64 - 1) may)
 
 -- a change of the state that it was made for acts
-acts_on_own : (state : State) (contents : Contents) (text : List ℕ) → StandsFor state contents → MayPut state → (outcome_of (one_clause (guard_for state) (PutText text)) state).took ≡ ByClause 0
+acts_on_own : (state : State) (contents : SessionContents) (text : List ℕ) → StandsFor state contents → MayPut state → (outcome_of (one_clause (guard_for state) (PutText text)) state).took ≡ ByClause 0
 acts_on_own state contents text s may = ap (λ (o : Outcome). o.took) (outcome_held state text state (own_guard state contents s)) ∙ may_put state text may
 
 pub record IsOver (left : ℤ) (ending : Ending) : Type 0 where
   pub told : SessionAnswer
   pub ends : ending ≡ Ends told
-  pub done : IsDoneOrNoMemory left told
+  pub done : RequestIsDoneOrNoMemory left told
 
 with_done : (left : ℤ) (state : State) (took : Took) (ballot : Ballot) (pending : Bool) → took ≡ ByClause 0 → ends_with left (answer.Done state took ballot) pending ≡ Ends (Done left true)
 with_done left state took ballot pending e = ap (λ (t : Took). ends_with left (answer.Done state t ballot) pending) e
@@ -68,8 +68,8 @@ changed left state program told pending took (no_memory {proposed} e) =
       done = has_none refl;
     }
 
-goes_on : (request : Request) (pending : Bool) (state : State) (contents : Contents) (left : ℤ) {more : List Call} {ending : Ending} → StandsFor state contents → MayPut state → decided request contents ≡ Proposes left
-    → GoesOn request pending state more ending → ((front back : List Call) (call : Call) → more ≡ front ++ call ∷ back → IsDoneOn state call) → IsOver left ending
+goes_on : (request : Request) (pending : Bool) (state : State) (contents : SessionContents) (left : ℤ) {more : List Call} {ending : Ending} → StandsFor state contents → MayPut state → decided request contents ≡ Proposes left
+    → AttemptGoesOn request pending state more ending → ((front back : List Call) (call : Call) → more ≡ front ++ call ∷ back → IsDoneOn state call) → IsOver left ending
 goes_on request pending state contents left s may d finds_no_memory each = record { told = Stopped (answer.NoMemory false) pending; ends = refl; done = has_none refl }
 goes_on request pending state contents left s may d (finds_no_session n) each = absurd (n contents s)
 goes_on request pending state contents left s may d (finds_answer other {told} t e) each =
@@ -84,7 +84,7 @@ goes_on request pending state contents left s may d (changes other {left = l} {t
     subst (λ (v : ℤ). IsOver v (ends_with l told pending)) value
     (changed l state program told pending (acts_on_own state contents (contents_text (after_reply (reply_to request l) other)) s may) (each [] [] (proposes program told) refl))
 
-tried : (request : Request) (pending : Bool) (state : State) (contents : Contents) (left : ℤ) {calls : List Call} {ending : Ending} → StandsFor state contents → MayPut state → decided request contents ≡ Proposes left
+tried : (request : Request) (pending : Bool) (state : State) (contents : SessionContents) (left : ℤ) {calls : List Call} {ending : Ending} → StandsFor state contents → MayPut state → decided request contents ≡ Proposes left
     → Attempts request pending calls ending → ((front back : List Call) (call : Call) → calls ≡ front ++ call ∷ back → IsDoneOn state call) → IsOver left ending
 tried request pending state contents left s may d has_no_memory each = record { told = Stopped (answer.NoMemory false) pending; ends = refl; done = has_none refl }
 tried request pending state contents left s may d (reads_nothing {told} n) each = by_call (each [] [] (reads told) refl)
@@ -99,17 +99,17 @@ tried request pending state contents left s may d (reads_state {state = seen} {t
     by_call : IsDoneOn state (reads (answer.Done seen took ballot)) → IsOver left ending
     by_call (done_on e) =
         let same : seen ≡ state = cc (e) in
-        goes_on request pending state contents left s may d (subst (λ (t : State). GoesOn request pending t more ending) same g)
+        goes_on request pending state contents left s may d (subst (λ (t : State). AttemptGoesOn request pending t more ending) same g)
         (λ front back call e2. each (reads (answer.Done seen took ballot) ∷ front) back call (ap (λ (cs : List Call). reads (answer.Done seen took ballot) ∷ cs) e2))
     by_call (no_memory e) = absurd (cc (e))
 
-pub undisturbed : (request : Request) (state : State) (contents : Contents) (left : ℤ) {tries : ℕ} {pending : Bool} {calls : List Call} {told : SessionAnswer} → StandsFor state contents → MayPut state
-    → decided request contents ≡ Proposes left → Serves request tries pending calls told
-    → ((front back : List Call) (call : Call) → calls ≡ front ++ call ∷ back → IsDoneOn state call) → IsDoneOrNoMemory left told
+pub undisturbed : (request : Request) (state : State) (contents : SessionContents) (left : ℤ) {tries : ℕ} {pending : Bool} {calls : List Call} {told : SessionAnswer} → StandsFor state contents → MayPut state
+    → decided request contents ≡ Proposes left → ServesRequest request tries pending calls told
+    → ((front back : List Call) (call : Call) → calls ≡ front ++ call ∷ back → IsDoneOn state call) → RequestIsDoneOrNoMemory left told
 undisturbed request state contents left s may d (is_answered {pending = pending} {told = told} a) each =
     let over = tried request pending state contents left s may d a each in
     let same : over.told ≡ told = cc (over.ends) in
-    subst (IsDoneOrNoMemory left) same over.done
+    subst (RequestIsDoneOrNoMemory left) same over.done
 undisturbed request state contents left s may d (is_tired {pending = pending} a) each =
     let over = tried request pending state contents left s may d a each in
     absurd (cc (over.ends))

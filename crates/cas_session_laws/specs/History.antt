@@ -13,7 +13,7 @@ use Rattle.cas_record.specs.declared.mark.Mark.TheVariants.{Begun}
 use Rattle.cas_record.specs.Places.{Stands}
 use Rattle.cas_record.specs.Histories.Chain.{keep_always}
 use Rattle.cas_record.specs.Histories.Replay.{replay_from}
-use Rattle.cas_session_text.specs.Contents.{Contents, IsCaller, StandsFor, after_reply}
+use Rattle.cas_session_text.specs.Contents.{SessionContents, IsCaller, StandsFor, after_reply}
 use Rattle.cas_session.specs.declared.request.SessionAct.{SessionAct}
 use Rattle.cas_session.specs.declared.request.SessionAct.TheVariants.{Add, Put}
 use Rattle.cas_session.specs.declared.decision.Decision.TheVariants.{Proposes}
@@ -31,7 +31,7 @@ pub record IsRequest (request : Request) : Type 0 where
   pub act_fits : FitsSigned w64 (number_in request.act)
 
 -- the program changes this state, which stands for these contents, for the request, which is next and leaves this value
-pub record IsChangeFor (request : Request) (state : State) (contents : Contents) (left : ℤ) (program : List Clause) : Type 0 where
+pub record IsChangeFor (request : Request) (state : State) (contents : SessionContents) (left : ℤ) (program : List Clause) : Type 0 where
   pub lawful : IsRequest request
   pub stands_for : StandsFor state contents
   pub next : decided request contents ≡ Proposes left
@@ -40,7 +40,7 @@ pub record IsChangeFor (request : Request) (state : State) (contents : Contents)
 -- the entry keeps the state, or changes some state for a request of its caller
 pub data IsOfSession (entry : Entry) : Type 0 where
   keeps : entry.program ≡ keep_always → IsOfSession entry
-  changes : {request : Request} {state : State} {contents : Contents} {left : ℤ} → request.caller ≡ entry.caller
+  changes : {request : Request} {state : State} {contents : SessionContents} {left : ℤ} → request.caller ≡ entry.caller
       → IsChangeFor request state contents left entry.program → IsOfSession entry
 
 -- each call that was begun for the key keeps it, or changes it for a request of its caller
@@ -51,7 +51,7 @@ IsSessionKey key marks = (caller call : ℕ) (program : List Clause) → Stands 
 -- the entry acts on this state for the request, and leaves this value
 pub record ActsFor (request : Request) (state : State) (left : ℤ) (entry : Entry) : Type 0 where
   pub same_caller : request.caller ≡ entry.caller
-  pub contents : Contents
+  pub contents : SessionContents
   pub change : IsChangeFor request state contents left entry.program
   pub took : (outcome_of entry.program state).took ≡ ByClause 0
 

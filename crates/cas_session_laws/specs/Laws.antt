@@ -10,14 +10,14 @@ use Rattle.cas_record.specs.declared.mark.Mark.{Mark}
 use Rattle.cas_record.specs.Histories.Chain.{settled_of}
 use Rattle.cas_record.specs.Histories.Replay.{replay_from, opening_state}
 use Rattle.cas_record.specs.Legal.{IsLegal}
-use Rattle.cas_session_text.specs.Contents.{Contents, StandsFor, reply_of}
+use Rattle.cas_session_text.specs.Contents.{SessionContents, StandsFor, reply_of}
 use Rattle.cas_session.specs.declared.request.SessionAct.{SessionAct}
 use Rattle.cas_session.specs.declared.request.SessionAnswer.{SessionAnswer}
 use Rattle.cas_session.specs.declared.request.SessionAnswer.TheVariants.{Done, Stopped}
 use Rattle.cas_session.specs.declared.decision.Decision.TheVariants.{Proposes}
 use Rattle.cas_session.specs.Calls.{Call}
 use Rattle.cas_session.specs.Request.{Request, decided, reply_to}
-use Rattle.cas_session.specs.Serving.{Serves, WasServed}
+use Rattle.cas_session.specs.Serving.{ServesRequest, WasServed}
 use Rattle.cas_session_laws.specs.History.{IsRequest, IsSessionKey, Acting, AreApart, value_by, HasActed}
 
 -- the history that stands of a session's key tells which requests acted
@@ -32,12 +32,12 @@ EachActsOnce = (start : State) (history : List Entry) (requests : List Request) 
 -- the value after a history is that at its start, changed by the requests that acted
 abbrev pub ValuesAreFolds : Type 0
 ValuesAreFolds = (start : State) (history : List Entry) (requests : List Request) → Acting start history requests
-    → (contents : Contents) → StandsFor start contents
-    → (last : Contents) × StandsFor (replay_from start history) last × (value_by requests contents.value ≡ Some last.value)
+    → (contents : SessionContents) → StandsFor start contents
+    → (last : SessionContents) × StandsFor (replay_from start history) last × (value_by requests contents.value ≡ Some last.value)
 
 -- the contents with which the key's history opened have this as what the caller was told last
 pub record OpensWith (request : Request) (reply : ℤ) (start : State) : Type 0 where
-  pub contents : Contents
+  pub contents : SessionContents
   pub stands_for : StandsFor start contents
   pub told : reply_of request.caller contents.replies ≡ Some (reply_to request reply)
 
@@ -67,13 +67,13 @@ pub data IsDoneOn (state : State) (call : Call) : Type 0 where
   no_memory : {proposed : Bool} → call.answer ≡ answer.NoMemory proposed → IsDoneOn state call
 
 -- the request was done by this call, or there was no memory
-pub data IsDoneOrNoMemory (left : ℤ) (told : SessionAnswer) : Type 0 where
-  was_done : told ≡ Done left true → IsDoneOrNoMemory left told
-  has_none : {proposed pending : Bool} → told ≡ Stopped (answer.NoMemory proposed) pending → IsDoneOrNoMemory left told
+pub data RequestIsDoneOrNoMemory (left : ℤ) (told : SessionAnswer) : Type 0 where
+  was_done : told ≡ Done left true → RequestIsDoneOrNoMemory left told
+  has_none : {proposed pending : Bool} → told ≡ Stopped (answer.NoMemory proposed) pending → RequestIsDoneOrNoMemory left told
 
 -- where each call of a request is done on one state, at which the request is next and fits, the request is done or there is no memory
 abbrev pub UndisturbedIsDone : Type 0
-UndisturbedIsDone = (request : Request) (tries : ℕ) (pending : Bool) (calls : List Call) (told : SessionAnswer) → Serves request tries pending calls told
-    → (state : State) (contents : Contents) (left : ℤ) → StandsFor state contents → MayPut state → decided request contents ≡ Proposes left
+UndisturbedIsDone = (request : Request) (tries : ℕ) (pending : Bool) (calls : List Call) (told : SessionAnswer) → ServesRequest request tries pending calls told
+    → (state : State) (contents : SessionContents) (left : ℤ) → StandsFor state contents → MayPut state → decided request contents ≡ Proposes left
     → ((front back : List Call) (call : Call) → calls ≡ front ++ call ∷ back → IsDoneOn state call)
-    → IsDoneOrNoMemory left told
+    → RequestIsDoneOrNoMemory left told

@@ -7,7 +7,7 @@ use Rattle.std.proofs.lemmas.List.{drop_all, set_split}
 use Rattle.std.proofs.lemmas.List.Sums.{prefix_len_stops}
 use Rattle.std.proofs.lemmas.Bool.{cases_lt, cases_eq, lt-ltb, le-ltb, eq-eqb, eqb-true, eqb-false, ne_eqb, ltb-false}
 use Rattle.cas_session_text.specs.declared.reply.LastReply.{LastReply}
-use Rattle.cas_session_text.specs.Contents.{Contents, IsReply, IsContents, AreRisingAbove, reply_of, told_at, with_reply, after_reply}
+use Rattle.cas_session_text.specs.Contents.{SessionContents, IsLastReply, IsContents, AreRisingAbove, reply_of, told_at, with_reply, after_reply}
 
 -- ---- the caller's place
 with-below : (told reply : LastReply) (replies : List LastReply) → reply.caller < told.caller → with_reply told (reply ∷ replies) ≡ reply ∷ with_reply told replies
@@ -106,10 +106,10 @@ insert_place told replies at place f =
     (with_reply-insert told replies told (told_elsewhere replies (below_len told.caller replies) told.caller told elsewhere))
 
 -- ---- what stays lawful
-each-with : (told : LastReply) (replies : List LastReply) → IsReply told → AllByRecursion IsReply replies → AllByRecursion IsReply (with_reply told replies)
+each-with : (told : LastReply) (replies : List LastReply) → IsLastReply told → AllByRecursion IsLastReply replies → AllByRecursion IsLastReply (with_reply told replies)
 each-with told [] is each = (is, tt)
 each-with told (reply ∷ replies) is each =
-    let P : List LastReply → Type 0 = AllByRecursion IsReply in
+    let P : List LastReply → Type 0 = AllByRecursion IsLastReply in
     elim (place_of told reply) [
       | below lt ↦ subst P (sym (with-below told reply replies lt)) (each.0, each-with told replies is each.1)
       | same e ↦ subst P (sym (with-same told reply replies e)) (is, each.1)
@@ -126,7 +126,7 @@ rising-with low told (reply ∷ replies) lower rising =
       | above gt ↦ subst P (sym (with-above told reply replies gt)) (lower, (gt, rising.1))
     ]
 
-pub IsContents-told : (told : LastReply) (contents : Contents) → IsReply told → IsContents contents → IsContents (record contents { replies = with_reply told contents.replies })
+pub IsContents-told : (told : LastReply) (contents : SessionContents) → IsLastReply told → IsContents contents → IsContents (record contents { replies = with_reply told contents.replies })
 IsContents-told told contents is lawful = record {
   value_fits = lawful.value_fits;
   each = each-with told contents.replies is lawful.each;
@@ -134,12 +134,12 @@ IsContents-told told contents is lawful = record {
 }
 
 -- whether there was memory for it or not
-pub lawful_either : {A E : Type 0} (told : LastReply) (contents : Contents) (replies : List LastReply) (r : Result A E) → OnOk r (replies ≡ with_reply told contents.replies) → OnErr r (replies ≡ contents.replies)
-    → IsReply told → IsContents contents → IsContents (record { value = contents.value; replies = replies })
+pub lawful_either : {A E : Type 0} (told : LastReply) (contents : SessionContents) (replies : List LastReply) (r : Result A E) → OnOk r (replies ≡ with_reply told contents.replies) → OnErr r (replies ≡ contents.replies)
+    → IsLastReply told → IsContents contents → IsContents (record { value = contents.value; replies = replies })
 lawful_either told contents replies (Ok x) new old is lawful = subst (λ (rs : List LastReply). IsContents (record { value = contents.value; replies = rs })) (sym new) (IsContents-told told contents is lawful)
 lawful_either told contents replies (Err e) new old is lawful = subst (λ (rs : List LastReply). IsContents (record { value = contents.value; replies = rs })) (sym old) lawful
 
-pub IsContents-after : (told : LastReply) (contents : Contents) → IsReply told → IsContents contents → IsContents (after_reply told contents)
+pub IsContents-after : (told : LastReply) (contents : SessionContents) → IsLastReply told → IsContents contents → IsContents (after_reply told contents)
 IsContents-after told contents is lawful = record {
   value_fits = is.reply_fits;
   each = each-with told contents.replies is lawful.each;

@@ -15,7 +15,7 @@ use Rattle.std.proofs.lemmas.Str.Parse.{IsNumeralModel, numerals_by_value, tells
 use lib.Signed.{mag}
 use Rattle.cas_session_text.specs.declared.reply.LastReply.{LastReply}
 use Rattle.cas_session_text.specs.declared.reply.TheConstants.{MOST_CALLERS}
-use Rattle.cas_session_text.specs.Contents.{Contents, IsReply, IsContents, AreRisingAbove, reply_word, next_reply_text, contents_text, lacks}
+use Rattle.cas_session_text.specs.Contents.{SessionContents, IsLastReply, IsContents, AreRisingAbove, reply_word, next_reply_text, contents_text, lacks}
 
 -- ---- what a byte before which a text is cut is not part of
 digits_lack : (stop : ℕ) → is_ascii_digit stop ≡ false → (digits : List ℕ) → all_ascii_digits digits ≡ true → lacks stop digits ≡ true
@@ -37,11 +37,11 @@ lacks-signed stop (negsuc n) other no_minus fits = and_from _ _ (ap not no_minus
 lacks-append : (stop : ℕ) (one two : List ℕ) → lacks stop one ≡ true → lacks stop two ≡ true → lacks stop (one ++ two) ≡ true
 lacks-append stop one two p q = list_all-append _ one two ∙ and_from _ _ p q
 
-caller_fits : (reply : LastReply) → IsReply reply → reply.caller < 2 ^ 64
+caller_fits : (reply : LastReply) → IsLastReply reply → reply.caller < 2 ^ 64
 caller_fits reply is = omega (arith, is.caller.known)
 
 -- no space stands in what one caller was told
-pub lacks-reply : (reply : LastReply) → IsReply reply → lacks 32 (reply_word reply) ≡ true
+pub lacks-reply : (reply : LastReply) → IsLastReply reply → lacks 32 (reply_word reply) ≡ true
 lacks-reply reply is =
     let value : List ℕ = signed_decimal reply.reply in
     let two : List ℕ = codes ":" ++ value in
@@ -99,7 +99,7 @@ length-number n fits = length-decimal-le 20 n (omega arith) (omega arith) fits
 length-value : (z : ℤ) → FitsSigned w64 z → length (signed_decimal z) ≤ 20
 length-value z fits = length_signed_le 19 z (omega (arith, mag_fits z fits)) (mag_fits z fits)
 
-length-reply : (reply : LastReply) → IsReply reply → length (next_reply_text reply) ≤ 64
+length-reply : (reply : LastReply) → IsLastReply reply → length (next_reply_text reply) ≤ 64
 length-reply reply is =
     let value : List ℕ = signed_decimal reply.reply in
     let number : List ℕ = decimal reply.number in
@@ -110,13 +110,13 @@ length-reply reply is =
     omega (arith, two, three, four, length-value reply.reply is.reply_fits, length-number reply.number is.number_fits, length-number reply.caller (caller_fits reply is))
 
 -- the more callers were told something, the fewer are left
-length-replies : (low : ℕ) (replies : List LastReply) → AllByRecursion IsReply replies → AreRisingAbove low replies → low ≤ MOST_CALLERS → length (flat_map next_reply_text replies) + 64 * low ≤ 1024
+length-replies : (low : ℕ) (replies : List LastReply) → AllByRecursion IsLastReply replies → AreRisingAbove low replies → low ≤ MOST_CALLERS → length (flat_map next_reply_text replies) + 64 * low ≤ 1024
 length-replies low [] each rising most = omega arith
 length-replies low (reply ∷ replies) each rising most =
     let rest = length-replies reply.caller replies each.1 rising.1 each.0.caller.known in
     omega (arith, rest, rising.0, length-reply reply each.0, length-append (next_reply_text reply) (flat_map next_reply_text replies))
 
-pub text_fits : (contents : Contents) → IsContents contents → length (contents_text contents) ≤ 4000
+pub text_fits : (contents : SessionContents) → IsContents contents → length (contents_text contents) ≤ 4000
 text_fits contents is = omega (arith, length-append (signed_decimal contents.value) (flat_map next_reply_text contents.replies), length-value contents.value is.value_fits, length-replies 0 contents.replies is.each is.rising (omega arith))
 
 -- ---- one text, one session
@@ -129,7 +129,7 @@ cut_once stop a b c d same p q e =
     let backs : stop ∷ c ≡ stop ∷ d = sym (drop_at a (stop ∷ c) (length a) refl) ∙ ap (drop (length a)) e ∙ drop_at b (stop ∷ d) (length a) (sym one) in
     (fronts, cc (backs))
 
-pub reply_word-once : (a b : LastReply) → IsReply a → IsReply b → reply_word a ≡ reply_word b → a ≡ b
+pub reply_word-once : (a b : LastReply) → IsLastReply a → IsLastReply b → reply_word a ≡ reply_word b → a ≡ b
 reply_word-once a b p q e =
     let first = cut_once 58 (decimal a.caller) (decimal b.caller) (decimal a.number ++ (codes ":" ++ signed_decimal a.reply)) (decimal b.number ++ (codes ":" ++ signed_decimal b.reply)) refl
     (lacks-decimal 58 a.caller refl (caller_fits a p)) (lacks-decimal 58 b.caller refl (caller_fits b q)) e in
@@ -147,7 +147,7 @@ cut_word v w a b p q e =
     let n : List ℕ → ℕ = λ t. prefix_len (λ byte. not (byte == 32)) t in
     (sym (word_first v a p) ∙ ap (λ t. take (n t) t) e ∙ word_first w b q, sym (replies_behind v a p) ∙ ap (λ t. drop (n t) t) e ∙ replies_behind w b q)
 
-replies_once : (a b : List LastReply) → AllByRecursion IsReply a → AllByRecursion IsReply b → flat_map next_reply_text a ≡ flat_map next_reply_text b → a ≡ b
+replies_once : (a b : List LastReply) → AllByRecursion IsLastReply a → AllByRecursion IsLastReply b → flat_map next_reply_text a ≡ flat_map next_reply_text b → a ≡ b
 replies_once [] [] p q e = refl
 replies_once [] (y ∷ b) p q e = absurd cc
 replies_once (x ∷ a) [] p q e = absurd cc
@@ -158,7 +158,7 @@ replies_once (x ∷ a) (y ∷ b) p q e =
     λ i. first i ∷ rest i
 
 -- no two sessions have one text
-pub contents_text-once : (a b : Contents) → IsContents a → IsContents b → contents_text a ≡ contents_text b → a ≡ b
+pub contents_text-once : (a b : SessionContents) → IsContents a → IsContents b → contents_text a ≡ contents_text b → a ≡ b
 contents_text-once a b p q e =
     let parts = cut_word (signed_decimal a.value) (signed_decimal b.value) a.replies b.replies (lacks-signed 32 a.value refl refl p.value_fits) (lacks-signed 32 b.value refl refl q.value_fits) e in
     let value : a.value ≡ b.value = signed_decimal_injective a.value b.value (mag_fits a.value p.value_fits) (mag_fits b.value q.value_fits) parts.0 in

@@ -10,7 +10,7 @@ use Rattle.cas_session_text.specs.declared.reply.LastReply.{LastReply}
 use Rattle.cas_session_text.specs.declared.reply.TheConstants.{MOST_CALLERS}
 
 -- a value, and what callers were told last
-pub record Contents : Type 0 where
+pub record SessionContents : Type 0 where
   pub value : ℤ
   pub replies : List LastReply
 
@@ -19,7 +19,7 @@ pub record IsCaller (caller : ℕ) : Type 0 where
   pub known : caller ≤ MOST_CALLERS
 
 -- what a caller may have been told: requests are numbered from 1
-pub record IsReply (reply : LastReply) : Type 0 where
+pub record IsLastReply (reply : LastReply) : Type 0 where
   pub caller : IsCaller reply.caller
   pub numbered : 1 ≤ reply.number
   pub number_fits : reply.number < 2 ^ 64
@@ -30,13 +30,13 @@ abbrev pub AreRisingAbove : ℕ → List LastReply → Type 0
 AreRisingAbove low [] = ⊤
 AreRisingAbove low (reply ∷ replies) = (low < reply.caller) × AreRisingAbove reply.caller replies
 
-pub record IsContents (contents : Contents) : Type 0 where
+pub record IsContents (contents : SessionContents) : Type 0 where
   pub value_fits : FitsSigned w64 contents.value
-  pub each : AllByRecursion IsReply contents.replies
+  pub each : AllByRecursion IsLastReply contents.replies
   pub rising : AreRisingAbove 0 contents.replies
 
 -- what an empty register stands for
-abbrev pub no_requests : Contents
+abbrev pub no_requests : SessionContents
 no_requests = record { value = pos 0; replies = [] }
 
 -- ---- the text
@@ -47,7 +47,7 @@ abbrev pub next_reply_text : LastReply → List ℕ
 next_reply_text reply = codes " " ++ reply_word reply
 
 -- the value, and each reply behind a space
-abbrev pub contents_text : Contents → List ℕ
+abbrev pub contents_text : SessionContents → List ℕ
 contents_text contents = signed_decimal contents.value ++ flat_map next_reply_text contents.replies
 
 -- whether no byte of these is that one
@@ -55,7 +55,7 @@ abbrev pub lacks : ℕ → List ℕ → Bool
 lacks stop bytes = list_all (λ byte. not (byte == stop)) bytes
 
 -- the state stands for these contents: it is empty and they are those of no requests, or it holds their text
-abbrev pub StandsFor : State → Contents → Type 0
+abbrev pub StandsFor : State → SessionContents → Type 0
 StandsFor Empty contents = contents ≡ no_requests
 StandsFor (Held version (Text text)) contents = IsContents contents × (contents_text contents ≡ text)
 StandsFor (Held version (Number number)) contents = ⊥
@@ -81,5 +81,5 @@ with_reply told (reply ∷ replies) =
     else (if reply.caller == told.caller then told ∷ replies else told ∷ reply ∷ replies)
 
 -- the contents after a caller was told this, which is the value then
-abbrev pub after_reply : LastReply → Contents → Contents
+abbrev pub after_reply : LastReply → SessionContents → SessionContents
 after_reply told contents = record { value = told.reply; replies = with_reply told contents.replies }

@@ -4,7 +4,7 @@ ghost use Rattle.std.specs.Prelude.{◌≡◌, ◌≤◌, length, ◌++◌, ◌�
 ghost use Rattle.std.specs.Fmt.{signed_decimal};
 ghost use Rattle.std.specs.List.{flat_map, prefix_len};
 ghost use Rattle.cas_session_text.specs.declared.reply.LastReply.{LastReply};
-ghost use Rattle.cas_session_text.specs.Contents.{Contents, IsReply, IsContents, reply_word, next_reply_text, contents_text, lacks, no_requests, reply_of, told_at, with_reply};
+ghost use Rattle.cas_session_text.specs.Contents.{SessionContents, IsLastReply, IsContents, reply_word, next_reply_text, contents_text, lacks, no_requests, reply_of, told_at, with_reply};
 
 use crate::reply::{LastReply, MOST_CALLERS};
 use cas_change_text::decimal::{read_i64, read_u64};
@@ -25,9 +25,9 @@ pub struct Session {
 }
 
 impl Model for Session {
-    ghost use Rattle.cas_session_text.specs.Contents.{Contents, IsContents};
+    ghost use Rattle.cas_session_text.specs.Contents.{SessionContents, IsContents};
 
-    ghost Value = { Contents };
+    ghost Value = { SessionContents };
 
     ghost view = { λ session. record { value = session.value; replies = session.replies.items } };
 
@@ -63,7 +63,7 @@ impl Session {
     ///
     /// Only memory can fail, and then nothing changes.
     pub fn tell(&mut self, reply: LastReply) -> Result<(), AllocError>
-        requires { IsReply reply }
+        requires { IsLastReply reply }
         ensures told { OnOk result
             (self.new ≡ record self.old { replies = with_reply reply self.old.replies }) }
         ensures unchanged { OnErr result (self.new ≡ self.old) }
@@ -93,7 +93,7 @@ impl Session {
     pub fn read(alloc: Global, text: &[u8]) -> Result<Option<Session>, AllocError>
         // What was read has this text, and is all that has it.
         ensures found { IfOk result (λ read. MatchOption read
-            ((contents : Contents) → IsContents contents → contents_text contents ≡ text.now → ⊥)
+            ((contents : SessionContents) → IsContents contents → contents_text contents ≡ text.now → ⊥)
             (λ session. IsContents session × (contents_text session ≡ text.now))) }
     {
         let Some(session) = read_loosely(alloc, text)? else {
@@ -194,8 +194,8 @@ fn split_at_colon(bytes: &[u8]) -> (&[u8], &[u8])
 
 /// What a word tells that a caller was told last. The numbers may have needless zeros.
 fn read_reply(word: &[u8]) -> Option<LastReply>
-    ensures lawful { IfSome result IsReply }
-    ensures again { (reply : LastReply) → IsReply reply → reply_word reply ≡ word.now
+    ensures lawful { IfSome result IsLastReply }
+    ensures again { (reply : LastReply) → IsLastReply reply → reply_word reply ≡ word.now
         → result ≡ Some reply }
 {
     let (caller, rest) = split_at_colon(word);
@@ -208,8 +208,8 @@ fn read_reply(word: &[u8]) -> Option<LastReply>
 
 /// The reply that one word of a number each tells, where they are in range.
 fn reply_by(caller: u64, number: u64, reply: i64) -> Option<LastReply>
-    ensures lawful { IfSome result IsReply }
-    ensures again { (told : LastReply) → IsReply told → told.caller ≡ caller
+    ensures lawful { IfSome result IsLastReply }
+    ensures again { (told : LastReply) → IsLastReply told → told.caller ≡ caller
         → told.number ≡ number → told.reply ≡ reply → result ≡ Some told }
 {
     if 1 <= caller && caller <= u64::from(MOST_CALLERS) && 1 <= number {
@@ -263,7 +263,7 @@ fn tell_words(session: &mut Session, text: &[u8]) -> Result<bool, AllocError>
 /// The session that this text tells, where its numbers may have needless zeros and its callers may stand in any order. The text of a
 /// session is read as that session.
 fn read_loosely(alloc: Global, text: &[u8]) -> Result<Option<Session>, AllocError>
-    ensures { IfOk result (λ read. (contents : Contents) → IsContents contents
+    ensures { IfOk result (λ read. (contents : SessionContents) → IsContents contents
         → contents_text contents ≡ text.now
         → read ≡ Some contents) }
 {

@@ -19,12 +19,12 @@ abbrev pub IsOldOrNew : Contents → Contents → Left → Type 0
 IsOldOrNew old new left = (left ≡ Ok old) ⊎ (left ≡ Ok new)
 
 -- A crash at any moment since old leaves what has P.
-pub record LeavesOnly {S : Type 0} (moment : S → ℕ) (left_since : S → ℕ → Left → Type 0) (old new : S) (P : Left → Type 0) : Type 0 where
+pub record ShelfLeavesOnly {S : Type 0} (moment : S → ℕ) (left_since : S → ℕ → Left → Type 0) (old new : S) (P : Left → Type 0) : Type 0 where
   pub later : moment old ≤ moment new
   pub each : (left : Left) → left_since new (moment old) left → P left
 
 -- Nothing is pending after a crash: it left one of those that it might leave, and a further crash leaves just that again.
-pub record IsSettled (might_leave may_leave : Left → Type 0) : Type 0 where
+pub record NothingIsPending (might_leave may_leave : Left → Type 0) : Type 0 where
   pub left : Left
   pub was_possible : might_leave left
   pub nothing_else : (other : Left) → may_leave other → other ≡ left

@@ -32,8 +32,8 @@ abbrev pub IsRepeat : Contents → List ℕ → Ballot → Type 0
 IsRepeat contents key ballot = IsSomeAnd (accepted_at contents key) (λ accepted. accepted.ballot ≡ ballot)
 
 -- the empty state was accepted for a key at this ballot, and nothing greater was promised
-abbrev pub IsTombstone : Contents → List ℕ → Ballot → Type 0
-IsTombstone contents key tomb =
+abbrev pub IsAcceptedTombstone : Contents → List ℕ → Ballot → Type 0
+IsAcceptedTombstone contents key tomb =
     IsSomeAnd (accepted_at contents key) (λ accepted. (accepted.ballot ≡ tomb) × (accepted.state ≡ Empty)) × BallotAtMost (promised_at contents key) tomb
 
 -- From old, a request whose age is not too low may be told this, and leave new.
@@ -53,8 +53,8 @@ Answers old (ask.Accept key ballot era ride state) tell.Full new = BallotAtMost 
 Answers old (ask.Ages tag least) tell.AgesSet new = new ≡ with_raised old least
 Answers old (ask.Remove key tomb) tell.Removed new =
     ((kept_at old key ≡ None) × (new ≡ old))
-    ⊎ (IsTombstone old key tomb × (new ≡ without_kept old key))
-Answers old (ask.Remove key tomb) tell.Kept new = IsSome (kept_at old key) × ¬ (IsTombstone old key tomb) × (new ≡ old)
+    ⊎ (IsAcceptedTombstone old key tomb × (new ≡ without_kept old key))
+Answers old (ask.Remove key tomb) tell.Kept new = IsSome (kept_at old key) × ¬ (IsAcceptedTombstone old key tomb) × (new ≡ old)
 Answers old (ask.List tag after) (tell.Listed told keys more) new =
     (told ≡ after) × (keys ≡ take 4 (keys_above old.slots after)) × (IsTrue more ↔ (4 < length (keys_above old.slots after))) × (new ≡ old)
 Answers old (ask.Probe tag key) (tell.Probed promise accepted) new = (promise ≡ promised_at old key) × (accepted ≡ accepted_at old key) × (new ≡ old)
@@ -67,7 +67,7 @@ Handles old request (tell.Aged least) new = (least ≡ least_age old.ages reques
 Handles old request answer new = (least_age old.ages request.from ≤ request.age) × Answers old request.ask answer new
 
 -- a reply of the acceptor of that number, by the table
-pub record IsAnswered (id : ℕ) (old : Contents) (request : Request) (reply : Reply) (new : Contents) : Type 0 where
+pub record IsReplyByTable (id : ℕ) (old : Contents) (request : Request) (reply : Reply) (new : Contents) : Type 0 where
   pub from : reply.from ≡ id
   pub to : reply.to ≡ request.from
   pub phase : reply.phase ≡ phase_of request.ask

@@ -5,7 +5,7 @@ ghost use Rattle.std.specs.Option.{option_copied};
 ghost use Rattle.cas_slot.specs.Slots.{keys_above, IsFullFor};
 ghost use Rattle.cas_slot.specs.Contents.{Contents, nothing, kept_at, with_kept, without_kept, with_raised};
 ghost use Rattle.cas_slot.specs.Limits.{SlotBallotsFit, AllBallotsFit};
-ghost use Rattle.cas_slot.specs.Shelf.{Left, OnlyLeaves, IsOldOrNew, LeavesOnly, IsSettled, HasShelfCause, IsNeitherFullNorForeign};
+ghost use Rattle.cas_slot.specs.Shelf.{Left, OnlyLeaves, IsOldOrNew, ShelfLeavesOnly, NothingIsPending, HasShelfCause, IsNeitherFullNorForeign};
 
 use crate::ages::Ages;
 use crate::fault::ShelfFault;
@@ -60,15 +60,15 @@ pub trait Shelf {
         ensures err { OnErr result (contents self.new ≡ contents self.old) }
         ensures foreign { tells → (at : ℕ) → IsErrOf result (ShelfFault.Foreign at) → may_leave self.old (Err at) }
         ensures up { OnOk result (is_up self.new) }
-        ensures any_moment { tells → LeavesOnly moment left_since self.old self.new (may_leave self.old) }
+        ensures any_moment { tells → ShelfLeavesOnly moment left_since self.old self.new (may_leave self.old) }
         ensures not_full { IsErrOf result ShelfFault.Full → ⊥ }
         ensures cause { HasShelfCause result (fault_count self.old) (fault_count self.new) };
 
     /// Crashes. Nothing is pending then: it left one of those that a crash might leave, and a further crash leaves that again.
     /// The shelf is reopened before it is changed.
     fn crash(&mut self)
-        ensures settled { tells → IsSettled (may_leave self.old) (may_leave self.new) }
-        ensures any_moment { tells → LeavesOnly moment left_since self.old self.new (may_leave self.old) }
+        ensures settled { tells → NothingIsPending (may_leave self.old) (may_leave self.new) }
+        ensures any_moment { tells → ShelfLeavesOnly moment left_since self.old self.new (may_leave self.old) }
         ensures never_falls { fault_count self.old ≤ fault_count self.new };
 
     /// A copy of the slot of the key, if there is one.
@@ -96,9 +96,9 @@ pub trait Shelf {
         ensures up_still { IsErrOf result ShelfFault.NoMemory → is_up self.new }
         ensures full { IsErrOf result ShelfFault.Full ↔ IsFullFor (contents self.old).slots key.now }
         ensures up_when_full { IsErrOf result ShelfFault.Full → is_up self.new }
-        ensures untouched_when_full { tells → IsErrOf result ShelfFault.Full → LeavesOnly moment left_since self.old self.new (λ left. left ≡ Ok (contents self.old)) }
+        ensures untouched_when_full { tells → IsErrOf result ShelfFault.Full → ShelfLeavesOnly moment left_since self.old self.new (λ left. left ≡ Ok (contents self.old)) }
         ensures not_foreign { (at : ℕ) → IsErrOf result (ShelfFault.Foreign at) → ⊥ }
-        ensures any_moment { tells → LeavesOnly moment left_since self.old self.new (IsOldOrNew (contents self.old) (with_kept (contents self.old) key.now slot)) }
+        ensures any_moment { tells → ShelfLeavesOnly moment left_since self.old self.new (IsOldOrNew (contents self.old) (with_kept (contents self.old) key.now slot)) }
         ensures cause { HasShelfCause result (fault_count self.old) (fault_count self.new) };
 
     /// Removes the slot of the key; where there is none, nothing changes. A crash within the call leaves what was there before
@@ -111,7 +111,7 @@ pub trait Shelf {
         ensures up { OnOk result (is_up self.new) }
         ensures up_still { IsErrOf result ShelfFault.NoMemory → is_up self.new }
         ensures other { IsNeitherFullNorForeign result }
-        ensures any_moment { tells → LeavesOnly moment left_since self.old self.new (IsOldOrNew (contents self.old) (without_kept (contents self.old) key.now)) }
+        ensures any_moment { tells → ShelfLeavesOnly moment left_since self.old self.new (IsOldOrNew (contents self.old) (without_kept (contents self.old) key.now)) }
         ensures cause { HasShelfCause result (fault_count self.old) (fault_count self.new) };
 
     /// Raises each proposer's least age to the greater of the two. A crash within the call leaves what was there before or
@@ -124,7 +124,7 @@ pub trait Shelf {
         ensures up { OnOk result (is_up self.new) }
         ensures up_still { IsErrOf result ShelfFault.NoMemory → is_up self.new }
         ensures other { IsNeitherFullNorForeign result }
-        ensures any_moment { tells → LeavesOnly moment left_since self.old self.new (IsOldOrNew (contents self.old) (with_raised (contents self.old) least.now)) }
+        ensures any_moment { tells → ShelfLeavesOnly moment left_since self.old self.new (IsOldOrNew (contents self.old) (with_raised (contents self.old) least.now)) }
         ensures cause { HasShelfCause result (fault_count self.old) (fault_count self.new) };
 
     /// How often the shelf's disk has failed.

@@ -7,16 +7,16 @@ use Rattle.cas_record.specs.Logs.Orderly.{IsAboveFloors}
 use Rattle.cas_record.specs.Places.{Stands}
 use Rattle.cas_slot.specs.Shelf.{Left}
 use Rattle.cas_disk_shelf.specs.Image.{left_on}
-use Rattle.cas_disk_shelf.specs.Shelf.{disk_of, MayLeave}
+use Rattle.cas_disk_shelf.specs.Shelf.{disk_of, ShelfMayLeave}
 use Rattle.cas_disk_shelf.specs.declared.shelf.DiskShelf.{DiskShelf}
 use Rattle.cas_model.specs.View.{Meaning, View}
-use Rattle.cas_model.specs.Laws.{IsKept}
+use Rattle.cas_model.specs.Laws.{AcknowledgedIsKept}
 use Rattle.cas_store.specs.Kept.{AreKept}
 use Rattle.cas_store.specs.Store.{acceptor_disks}
 use Rattle.cas_store.proofs.Standing.{at_mapped}
 
-pub kept_on_disks : {D : Type 0} (m : Meaning (DiskShelf D) D) (may_leave : D → List ℕ → Type 0) (view : View (DiskShelf D) D) → ((shelf : DiskShelf D) (left : Left) → MayLeave may_leave shelf left → m.shelves.may_leave shelf left)
-    → ((a : Acknowledgment) → Stands (Acked a) (reverse view.marks) → IsAboveFloors (reverse view.marks) a.key a.ballot → IsKept m view a) → AreKept may_leave (reverse view.marks) (acceptor_disks view.acceptors)
+pub kept_on_disks : {D : Type 0} (m : Meaning (DiskShelf D) D) (may_leave : D → List ℕ → Type 0) (view : View (DiskShelf D) D) → ((shelf : DiskShelf D) (left : Left) → ShelfMayLeave may_leave shelf left → m.shelves.may_leave shelf left)
+    → ((a : Acknowledgment) → Stands (Acked a) (reverse view.marks) → IsAboveFloors (reverse view.marks) a.key a.ballot → AcknowledgedIsKept m view a) → AreKept may_leave (reverse view.marks) (acceptor_disks view.acceptors)
 kept_on_disks {D} m may_leave view reads kept a stands above id disk member at image may =
     let found = at_mapped (λ (x : AcceptorView (DiskShelf D)). disk_of x.shelf) view.acceptors id disk at in
     let by = (kept a stands above).kept id found.0 member found.1 in

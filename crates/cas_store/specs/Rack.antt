@@ -21,25 +21,25 @@ rack_meaning D = record { tells = D.tells; seen = D.seen; may_leave = D.may_leav
 
 -- ---- one disk
 -- it was asked for its length: its content stayed, and its count of faults did not fall
-pub record IsAsked {D : Type 0} (m : RackMeaning D) (old new : D) : Type 0 where
+pub record IsAskedForLength {D : Type 0} (m : RackMeaning D) (old new : D) : Type 0 where
   pub kept : m.tells → Keeps (m.seen old) (m.seen new) (m.may_leave old) (m.may_leave new)
   pub never_falls : m.faults old ≤ m.faults new
 
 -- and it is empty
 pub record IsFoundEmpty {D : Type 0} (m : RackMeaning D) (old new : D) : Type 0 where
-  pub asked : IsAsked m old new
+  pub asked : IsAskedForLength m old new
   pub empty : m.tells → m.seen new ≡ []
 
 -- what that fault says of the disk of this number
-abbrev pub IsFaultOf : {D : Type 0} → RackMeaning D → ℕ → D → RackFault → D → Type 0
-IsFaultOf m number old (NotEmpty disk) new = (disk ≡ number) × (m.tells → m.seen new ≢ [])
-IsFaultOf m number old (DiskFault disk) new = (disk ≡ number) × Rose (m.faults old) (m.faults new)
-IsFaultOf m number old NoMemory new = Unit {0}
+abbrev pub IsRackFaultOf : {D : Type 0} → RackMeaning D → ℕ → D → RackFault → D → Type 0
+IsRackFaultOf m number old (NotEmpty disk) new = (disk ≡ number) × (m.tells → m.seen new ≢ [])
+IsRackFaultOf m number old (DiskFault disk) new = (disk ≡ number) × Rose (m.faults old) (m.faults new)
+IsRackFaultOf m number old NoMemory new = Unit {0}
 
 -- it was asked, and is not known to be empty
 pub record IsWhyNot {D : Type 0} (m : RackMeaning D) (number : ℕ) (old : D) (fault : RackFault) (new : D) : Type 0 where
-  pub asked : IsAsked m old new
-  pub cause : IsFaultOf m number old fault new
+  pub asked : IsAskedForLength m old new
+  pub cause : IsRackFaultOf m number old fault new
 
 -- ---- disks in a row
 -- those at the places below this one were asked and are empty, and no other was reached

@@ -14,7 +14,7 @@ use Rattle.cas_turn.specs.declared.view.Stage.TheVariants.{Idle, Waiting, Holdin
 use Rattle.cas_turn.specs.declared.view.Known.{Known}
 use Rattle.cas_turn.specs.declared.view.View.{View}
 use Rattle.cas_turn.specs.declared.view.View.TheVariants.{Opens, Tells, Sits, Gathers}
-use Rattle.cas_turn.specs.Seen.{Begins, HasSeen, longer_of}
+use Rattle.cas_turn.specs.Seen.{Begins, HasSeenOwn, longer_of}
 use Rattle.cas_turn.specs.Rule.{Moment, tickets_of, numbers_of, sat, IsHolder, home_of, Knows, IsUngiven, Learned, LearnedFits, Fits, Kept}
 use Rattle.cas_turn.specs.Steps.{Sat, known_of, stage_of, newcomer, without_next, next_seat, note_of, told, gathered, settled, Heard, them_of}
 use Rattle.cas_turn.proofs.Rows.{sum_two}
@@ -161,13 +161,13 @@ module _ {V I : Type 0} (list : V → List I) (owner : I → Option ℕ) (part :
       let total = r.numbers in absurd (omega arith)
 
   pub closes : (id : ℕ) (them : List (Known I)) (ws : List ℕ) (xs : List (Option V)) → length them ≡ seats → Final (Seen Rule id (Gathers them)) ws xs
-      → (v : V) × (get_elem? xs 0 ≡ some (Some v)) × (made_for v ≡ seats) × All (λ k. HasSeen owner k.number k.seen (list v) × (part v k.number ≡ k.own)) them
+      → (v : V) × (get_elem? xs 0 ≡ some (Some v)) × (made_for v ≡ seats) × All (λ k. HasSeenOwn owner k.number k.seen (list v) × (part v k.number ≡ k.own)) them
   closes id them ws xs all end = let s : St = end.0 in let r : Rule s = end.1.0 in let at : get_elem? s.views id ≡ some (Gathers them) = end.1.1 in let m = r.moment in
       let home : s.homes ≡ some (Some m.now) ∷ [] = r.homes ∙ ap (λ b. home_of b m.now ∷ []) (nobody_holds s r id them at all m.out refl) in (
         m.now,
         end.4 0 (Some m.now) (ap (λ hs. get_elem? hs 0) home),
         r.for_seats,
-        All-weaker (λ k. Knows list owner part made_for m.now m.desk id k) (λ k. HasSeen owner k.number k.seen (list m.now) × (part m.now k.number ≡ k.own)) (λ k g. (g.stands.has_seen, g.own_part)) them (r.each_seat id (Gathers them) at),
+        All-weaker (λ k. Knows list owner part made_for m.now m.desk id k) (λ k. HasSeenOwn owner k.number k.seen (list m.now) × (part m.now k.number ≡ k.own)) (λ k g. (g.stands.has_seen, g.own_part)) them (r.each_seat id (Gathers them) at),
       )
 
   -- the same at views that are known by equations
@@ -202,5 +202,5 @@ module _ {V I : Type 0} (list : V → List I) (owner : I → Option ℕ) (part :
   gathers_at id other v w k is seat = subst (λ (x : D × D). Joins Rule id x.0 other x.1 (gathered x.0 x.1) (Tells [])) (λ i. (sym is i, sym seat i)) (gathers id other (them_of v) k)
 
   pub closes_at : (id : ℕ) (v : D) (ws : List ℕ) (xs : List (Option V)) → v ≡ Gathers (them_of v) → length (them_of v) ≡ seats → Final (Seen Rule id v) ws xs
-      → (u : V) × (get_elem? xs 0 ≡ some (Some u)) × (made_for u ≡ seats) × All (λ k. HasSeen owner k.number k.seen (list u) × (part u k.number ≡ k.own)) (them_of v)
+      → (u : V) × (get_elem? xs 0 ≡ some (Some u)) × (made_for u ≡ seats) × All (λ k. HasSeenOwn owner k.number k.seen (list u) × (part u k.number ≡ k.own)) (them_of v)
   closes_at id v ws xs is all end = closes id (them_of v) ws xs all (subst (λ (x : D). Final (Seen Rule id x) ws xs) is end)

@@ -2,7 +2,7 @@
 use Rattle.std.proofs.Common.{◌≡◌, ℕ, ◌<◌, ◌≤◌, ◌≢◌, Bool, true, false, if◌then◌else◌, nat_lt, List, [], ◌∷◌, ◌++◌, length, drop, refl, sym, ap, ◌∙◌, subst, arith, append_assoc, ltb-true, ltb-false}
 use Rattle.std.specs.Prelude.{Option, Some}
 use Rattle.std.proofs.lemmas.List.Elements.{All-append, All-nil, All-cons, All-head, All-tail, All-weaker}
-use Rattle.cas_turn.specs.Seen.{Begins, NoneOwned, HasSeen, OnlyOwnedBy, added_to, longer_of}
+use Rattle.cas_turn.specs.Seen.{Begins, NoneOwned, HasSeenOwn, OnlyOwnedBy, added_to, longer_of}
 
 module _ {I : Type 0} where
   append_nil : (l : List I) → l ++ [] ≡ l
@@ -56,16 +56,16 @@ module _ {I : Type 0} (owner : I → Option ℕ) (n : ℕ) where
   none_split [] b none = (All-nil others, none)
   none_split (x ∷ a) b none = let r = none_split a b (All-tail others x (a ++ b) none) in (All-cons others x a (All-head others x (a ++ b) none) r.0, r.1)
 
-  pub sees_self : (l : List I) → HasSeen owner n l l
+  pub sees_self : (l : List I) → HasSeenOwn owner n l l
   sees_self l = record { behind = []; whole = append_nil l; none_own = All-nil others }
 
-  pub sees_nothing : (l : List I) → NoneOwned owner n l → HasSeen owner n [] l
+  pub sees_nothing : (l : List I) → NoneOwned owner n l → HasSeenOwn owner n [] l
   sees_nothing l none = record { behind = l; whole = refl; none_own = none }
 
-  pub sees_begins : (a l : List I) → HasSeen owner n a l → Begins a l
+  pub sees_begins : (a l : List I) → HasSeenOwn owner n a l → Begins a l
   sees_begins a l h = record { behind = h.behind; whole = h.whole }
 
-  pub sees_grown : (a l new : List I) → HasSeen owner n a l → NoneOwned owner n new → HasSeen owner n a (l ++ new)
+  pub sees_grown : (a l new : List I) → HasSeenOwn owner n a l → NoneOwned owner n new → HasSeenOwn owner n a (l ++ new)
   sees_grown a l new h none = record {
     behind = h.behind ++ new;
     whole = sym (append_assoc a h.behind new) ∙ ap (λ t. t ++ new) h.whole;
@@ -73,7 +73,7 @@ module _ {I : Type 0} (owner : I → Option ℕ) (n : ℕ) where
   }
 
   -- where both begin one list and a is the shorter
-  sees_between : (a b l : List I) → HasSeen owner n a l → Begins b l → length a ≤ length b → HasSeen owner n a b × HasSeen owner n b l
+  sees_between : (a b l : List I) → HasSeenOwn owner n a l → Begins b l → length a ≤ length b → HasSeenOwn owner n a b × HasSeenOwn owner n b l
   sees_between a b l h g shorter = let r = rejoin a b h.behind g.behind (h.whole ∙ sym g.whole) shorter in
       let parts = none_split r.0 g.behind (subst (NoneOwned owner n) r.2 h.none_own) in
       (record { behind = r.0; whole = r.1; none_own = parts.0 }, record { behind = g.behind; whole = g.whole; none_own = parts.1 })
@@ -81,11 +81,11 @@ module _ {I : Type 0} (owner : I → Option ℕ) (n : ℕ) where
   begins_between : (a b l : List I) → Begins a l → Begins b l → length a ≤ length b → Begins a b
   begins_between a b l h g shorter = let r = rejoin a b h.behind g.behind (h.whole ∙ sym g.whole) shorter in record { behind = r.0; whole = r.1 }
 
-  pub sees_longer : (mine theirs l : List I) → HasSeen owner n mine l → Begins theirs l → HasSeen owner n (longer_of mine theirs) l
-  sees_longer mine theirs l h g = longer_cases mine theirs (λ x. HasSeen owner n x l) (λ less. (sees_between mine theirs l h g (omega arith)).1) (λ _. h)
+  pub sees_longer : (mine theirs l : List I) → HasSeenOwn owner n mine l → Begins theirs l → HasSeenOwn owner n (longer_of mine theirs) l
+  sees_longer mine theirs l h g = longer_cases mine theirs (λ x. HasSeenOwn owner n x l) (λ less. (sees_between mine theirs l h g (omega arith)).1) (λ _. h)
 
-  pub learns : (mine theirs l : List I) → HasSeen owner n mine l → Begins theirs l → HasSeen owner n mine (longer_of mine theirs) × Begins theirs (longer_of mine theirs)
-  learns mine theirs l h g = longer_cases mine theirs (λ x. HasSeen owner n mine x × Begins theirs x) (λ less. ((sees_between mine theirs l h g (omega arith)).0, begins_self theirs))
+  pub learns : (mine theirs l : List I) → HasSeenOwn owner n mine l → Begins theirs l → HasSeenOwn owner n mine (longer_of mine theirs) × Begins theirs (longer_of mine theirs)
+  learns mine theirs l h g = longer_cases mine theirs (λ x. HasSeenOwn owner n mine x × Begins theirs x) (λ less. ((sees_between mine theirs l h g (omega arith)).0, begins_self theirs))
       (λ more. (sees_self mine, begins_between theirs mine l g (sees_begins mine l h) more))
 
   -- what n alone may own, nobody else owns

@@ -14,7 +14,7 @@ use Rattle.cas_turn.specs.declared.view.Stage.TheVariants.{Idle, Waiting, Holdin
 use Rattle.cas_turn.specs.declared.view.Known.{Known}
 use Rattle.cas_turn.specs.declared.view.View.{View}
 use Rattle.cas_turn.specs.declared.view.View.TheVariants.{Opens, Tells, Sits, Gathers}
-use Rattle.cas_turn.specs.Seen.{Begins, HasSeen, OnlyOwnedBy, added_to}
+use Rattle.cas_turn.specs.Seen.{Begins, HasSeenOwn, OnlyOwnedBy, added_to}
 use Rattle.cas_turn.specs.Rule.{Moment, tickets_of, numbers_of, stage_weight, sat, IsHolder, home_of, Stands, Knows, Fits, words_of, Kept}
 use Rattle.cas_turn.specs.Steps.{Sat, known_of, known_from, idle, waiting, holding, ticket_in, IsHolding, Grew, drew, looked, measured, published, left_turn}
 use Rattle.cas_turn.proofs.Rows.{set_there, one_more, mod_small}
@@ -156,7 +156,7 @@ module _ {V I : Type 0} (list : V → List I) (owner : I → Option ℕ) (part :
     elsewhere j n other here same = other (sym here ∙ (ap m.desk same ∙ at))
 
     stands_on : (j n : ℕ) (seen : List I) → j ≢ me → Stands list owner part made_for m.now m.desk j n seen → Stands list owner part made_for w m.desk j n seen
-    stands_on j n seen other f = record { at_desk = f.at_desk; has_seen = subst (HasSeen owner n seen) whole (sees_grown owner n seen (list m.now) new f.has_seen (none_else owner mine n (elsewhere j n other f.at_desk) new only)) }
+    stands_on j n seen other f = record { at_desk = f.at_desk; has_seen = subst (HasSeenOwn owner n seen) whole (sees_grown owner n seen (list m.now) new f.has_seen (none_else owner mine n (elsewhere j n other f.at_desk) new only)) }
 
     abbrev grown : Moment V
     grown = record { now = w; out = m.out; drawn = m.drawn; served = m.served; queue = m.queue; desk = m.desk }

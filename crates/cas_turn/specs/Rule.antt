@@ -8,7 +8,7 @@ use Rattle.cas_turn.specs.declared.view.Stage.TheVariants.{Idle, Waiting, Holdin
 use Rattle.cas_turn.specs.declared.view.Known.{Known}
 use Rattle.cas_turn.specs.declared.view.View.{View}
 use Rattle.cas_turn.specs.declared.view.View.TheVariants.{Opens, Tells, Sits, Gathers}
-use Rattle.cas_turn.specs.Seen.{Begins, HasSeen, longer_of}
+use Rattle.cas_turn.specs.Seen.{Begins, HasSeenOwn, longer_of}
 
 -- how a turn stands between two steps
 pub record Moment (V : Type 0) : Type 0 where
@@ -62,7 +62,7 @@ module _ {V I : Type 0} (list : V → List I) (owner : I → Option ℕ) (part :
   -- the seat `me` has the number n, which has seen this much of the list
   pub record Stands (now : V) (desk : ℕ → ℕ) (me n : ℕ) (seen : List I) : Type 0 where
     pub at_desk : desk n ≡ me
-    pub has_seen : HasSeen owner n seen (list now)
+    pub has_seen : HasSeenOwn owner n seen (list now)
 
   -- the seat `me` has a number, which knows this
   pub record Knows (now : V) (desk : ℕ → ℕ) (me : ℕ) (k : Known I) : Type 0 where
@@ -96,7 +96,7 @@ module _ {V I : Type 0} (list : V → List I) (owner : I → Option ℕ) (part :
   -- what two lists, its own and a note's, have made a seat see
   pub record Learned (n : ℕ) (mine theirs seen : List I) : Type 0 where
     pub longer : seen ≡ longer_of mine theirs
-    pub from_mine : HasSeen owner n mine seen
+    pub from_mine : HasSeenOwn owner n mine seen
     pub from_theirs : Begins theirs seen
 
   -- what is true of the two lists, if a note was taken in

@@ -11,7 +11,7 @@ abbrev pub NoneOwned : {I : Type 0} → (I → Option ℕ) → ℕ → List I �
 NoneOwned owner n items = All (λ i. owner i ≢ Some n) items
 
 -- items begins with seen, and behind that stands no item that n owns
-pub record HasSeen {I : Type 0} (owner : I → Option ℕ) (n : ℕ) (seen items : List I) : Type 0 where
+pub record HasSeenOwn {I : Type 0} (owner : I → Option ℕ) (n : ℕ) (seen items : List I) : Type 0 where
   pub behind : List I
   pub whole : seen ++ behind ≡ items
   pub none_own : NoneOwned owner n behind

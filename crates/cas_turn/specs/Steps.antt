@@ -8,7 +8,7 @@ use Rattle.cas_turn.specs.declared.view.Stage.TheVariants.{Idle, Waiting, Holdin
 use Rattle.cas_turn.specs.declared.view.Known.{Known}
 use Rattle.cas_turn.specs.declared.view.View.{View}
 use Rattle.cas_turn.specs.declared.view.View.TheVariants.{Opens, Tells, Sits, Gathers}
-use Rattle.cas_turn.specs.Seen.{Begins, HasSeen, OnlyOwnedBy, added_to, longer_of}
+use Rattle.cas_turn.specs.Seen.{Begins, HasSeenOwn, OnlyOwnedBy, added_to, longer_of}
 use Rattle.cas_turn.specs.Rule.{sat, Learned}
 use Rattle.cas_turn.specs.Sitting.{Sitting}
 
@@ -130,7 +130,7 @@ module _ {V I : Type 0} (list : V → List I) (owner : I → Option ℕ) (part :
   -- the seat has the value v, which begins with what it had seen, has its own part as it was left, and is for as many seats
   pub record Took (me me' : Sat V I) (v : V) : Type 0 where
     pub holds : me' ≡ holding (known_from (known_of me.0) v) (ticket_in me) v (Some v)
-    pub has_seen : HasSeen owner (known_of me.0).number (known_of me.0).seen (list v)
+    pub has_seen : HasSeenOwn owner (known_of me.0).number (known_of me.0).seen (list v)
     pub own_part : part v (known_of me.0).number ≡ (known_of me.0).own
     pub for_seats : made_for v ≡ (known_of me.0).seats
 
@@ -148,7 +148,7 @@ module _ {V I : Type 0} (list : V → List I) (owner : I → Option ℕ) (part :
   -- a seat with what it had seen has now seen the longer of that and of what the note brought
   pub record Heard (theirs : List I) (me me' : Sat V I) : Type 0 where
     pub seat : me' ≡ (sat (record (known_of me.0) { seen = longer_of (known_of me.0).seen theirs }) (stage_of me.0), me.1)
-    pub has_seen : HasSeen owner (known_of me.0).number (known_of me.0).seen (longer_of (known_of me.0).seen theirs)
+    pub has_seen : HasSeenOwn owner (known_of me.0).number (known_of me.0).seen (longer_of (known_of me.0).seen theirs)
     pub begins : Begins theirs (longer_of (known_of me.0).seen theirs)
 
   -- what the holder finds

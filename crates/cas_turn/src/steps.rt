@@ -1,7 +1,7 @@
 //! The steps of a seat at the table, one function each, and what a hold and a meeting make of them.
 ghost use Rattle.std.specs.Prelude.{◌≡◌, ℕ, ◌+◌, ◌<◌, ◌≤◌, ◌^◌, List, [], ◌∷◌, length, Some, None};
 ghost use Rattle.cas_turn.specs.declared.view.Stage.TheVariants.{Holding};
-ghost use Rattle.cas_turn.specs.Seen.{HasSeen};
+ghost use Rattle.cas_turn.specs.Seen.{HasSeenOwn};
 ghost use Rattle.cas_turn.specs.Steps.{IsPlaceOf, IsSamePlace, IsWaiting, IsHolding, IsSettled, Took, Grew, Heard, known_of, known_from, stage_of, ticket_in, idle, holding};
 
 use crate::grows::Grows;
@@ -110,7 +110,7 @@ pub(crate) fn take_turn<V: Grows, R: Wait>(rt: &R, top: &Top<V>, place: &mut Pla
     requires idle { place.old.me ≡ idle (known_of place.old.me.0) }
     ensures same { IsSamePlace place.old place.new }
     ensures holds { place.new.me ≡ holding (known_from V.list V.owner V.part V.seats (known_of place.old.me.0) result) (ticket_in place.new.me) result None }
-    ensures seen { HasSeen V.owner (known_of place.old.me.0).number (known_of place.old.me.0).seen (V.list result) }
+    ensures seen { HasSeenOwn V.owner (known_of place.old.me.0).number (known_of place.old.me.0).seen (V.list result) }
     ensures own { V.part result (known_of place.old.me.0).number ≡ (known_of place.old.me.0).own }
     ensures seats { V.seats result ≡ (known_of place.old.me.0).seats }
 {

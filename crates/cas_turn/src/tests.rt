@@ -1,6 +1,6 @@
 //! Threads that count under one turn, each with a seat of its own.
 ghost use Rattle.std.specs.Prelude.{◌≡◌, ℕ, ◌<◌, ◌≤◌, ◌++◌, length, List, [], All, None, IfOk};
-ghost use Rattle.cas_turn.specs.Seen.{HasSeen};
+ghost use Rattle.cas_turn.specs.Seen.{HasSeenOwn};
 
 use crate::{Grows, Seat, Turn};
 use std::alloc::{AllocError, Global};
@@ -161,7 +161,7 @@ fn length_of<V: Grows, R: Wait>(rt: &R, turn: &Turn<V>, seat: &mut Seat<V>) -> u
     requires idle { seat.old.holds ≡ None }
     requires lawful { V.may_add [] }
     ensures seat { (seat.new.turn ≡ seat.old.turn) × (seat.new.holds ≡ None) × (seat.new.number ≡ seat.old.number) }
-    ensures seen { HasSeen V.owner seat.old.number seat.old.seen seat.new.seen }
+    ensures seen { HasSeenOwn V.owner seat.old.number seat.old.seen seat.new.seen }
     ensures length { result ≡ length seat.new.seen }
 {
     let value = turn.hold(rt, seat);

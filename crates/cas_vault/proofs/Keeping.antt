@@ -6,7 +6,7 @@ use Rattle.std.proofs.lemmas.Bool.{ltb-true}
 use Rattle.std.proofs.lemmas.List.{nil_from_length}
 use Rattle.cas_base.proofs.Bools.{some_is}
 use Rattle.cas_disk.specs.Disk.{Only, LeavesOnly}
-use Rattle.cas_cells.specs.Format.{StandsFor, head_in, count_told, cells_on, payload_at, payload_place, place_of, payload_in, frame_at, cell_place, half_size, is_open}
+use Rattle.cas_cells.specs.Format.{IsImageOf, head_in, count_told, cells_on, payload_at, payload_place, place_of, payload_in, frame_at, cell_place, half_size, is_open}
 use Rattle.cas_cells.specs.Held.{IsRow}
 use Rattle.cas_cells.specs.Cells as cells
 use Rattle.cas_cells.specs.declared.cells.Cells.{Cells}
@@ -16,8 +16,8 @@ use Rattle.cas_cells.specs.declared.fault.CellFault.TheVariants.{DiskFault, Fore
 use Rattle.cas_vault.specs.ErrorOf.{error_of}
 use Rattle.cas_vault.specs.declared.error.VaultError.{VaultError}
 use Rattle.cas_vault.specs.declared.error.VaultError.TheVariants.{NoMemory}
-use Rattle.cas_vault.specs.Codec.{IsKept, spelling, Spells}
-use Rattle.cas_vault.specs.Vault.{disk_of, KeptOn, IsBeforeOrAfter, Stands, IsPast, kept_to_draw}
+use Rattle.cas_vault.specs.Codec.{RecordFits, spelling, SpellsRecord}
+use Rattle.cas_vault.specs.Vault.{disk_of, KeptOn, KeepsBeforeOrAfter, VaultStands, IsPast, kept_to_draw}
 use Rattle.cas_vault.specs.declared.kept.Kept.{Kept}
 use Rattle.cas_vault.specs.declared.vault.Vault.{Vault}
 use Rattle.cas_vault.proofs.Spellings.{same_spelling}
@@ -52,11 +52,11 @@ only_cell (Some head ∷ rest) kept is held =
 
 module _ {D : Type 0} (tells : Type 0) (seen : D → List ℕ) (may_leave : D → List ℕ → Type 0) where
   -- cells in use that hold a record keep it in every image
-  pub cells_keep : (row : Cells D) (kept : Kept) → IsKept kept → cells.Stands tells seen may_leave row → cells.cells_of row ≡ Some (spelling kept) ∷ [] → tells → (c : List ℕ) → may_leave (cells.disk_of row) c → KeptOn kept c
-  cells_keep row kept fits is held t c left = record { fits = fits; row = subst (λ (l : List (Option (List ℕ))). StandsFor l c) held (crash_leaves tells seen may_leave row is t c left) }
+  pub cells_keep : (row : Cells D) (kept : Kept) → RecordFits kept → cells.CellsStand tells seen may_leave row → cells.cells_of row ≡ Some (spelling kept) ∷ [] → tells → (c : List ℕ) → may_leave (cells.disk_of row) c → KeptOn kept c
+  cells_keep row kept fits is held t c left = record { fits = fits; row = subst (λ (l : List (Option (List ℕ))). IsImageOf l c) held (crash_leaves tells seen may_leave row is t c left) }
 
   -- a vault is in use where its cells are and hold its record
-  pub in_use : (vault : Vault D) → cells.Stands tells seen may_leave vault.cells → cells.cells_of vault.cells ≡ Some (spelling vault.kept) ∷ [] → IsKept vault.kept → vault.counter ≤ 2 ^ 48 → Stands tells seen may_leave vault
+  pub in_use : (vault : Vault D) → cells.CellsStand tells seen may_leave vault.cells → cells.cells_of vault.cells ≡ Some (spelling vault.kept) ∷ [] → RecordFits vault.kept → vault.counter ≤ 2 ^ 48 → VaultStands tells seen may_leave vault
   in_use vault row held fits counter = record {
     row = row;
     held = held;
@@ -66,16 +66,16 @@ module _ {D : Type 0} (tells : Type 0) (seen : D → List ℕ) (may_leave : D �
   }
 
   -- so it is where its cells were left as they were
-  pub still_in_use : (old new : Vault D) → Stands tells seen may_leave old → cells.Stands tells seen may_leave new.cells → cells.cells_of new.cells ≡ cells.cells_of old.cells → new.kept ≡ old.kept → new.counter ≡ old.counter → Stands tells seen may_leave new
+  pub still_in_use : (old new : Vault D) → VaultStands tells seen may_leave old → cells.CellsStand tells seen may_leave new.cells → cells.cells_of new.cells ≡ cells.cells_of old.cells → new.kept ≡ old.kept → new.counter ≡ old.counter → VaultStands tells seen may_leave new
   still_in_use old new is row same kept counter =
       let held = same ∙ is.held ∙ ap (λ (k : Kept). Some (spelling k) ∷ []) (sym kept) in
-      in_use new row held (subst IsKept (sym kept) is.fits) (omega (arith, counter, is.counter))
+      in_use new row held (subst RecordFits (sym kept) is.fits) (omega (arith, counter, is.counter))
 
   -- A change after which the bound is not lower, and the counter neither, keeps the vault past what it was past.
-  pub past_along : (moment : D → ℕ) (left_since : D → ℕ → List ℕ → Type 0) (old new : Vault D) (after : Kept) (n : ℕ) → Stands tells seen may_leave old → tells
+  pub past_along : (moment : D → ℕ) (left_since : D → ℕ → List ℕ → Type 0) (old new : Vault D) (after : Kept) (n : ℕ) → VaultStands tells seen may_leave old → tells
       → may_leave (disk_of old) (seen (disk_of old))
       → ((t : ℕ) (c : List ℕ) → t ≤ moment (disk_of new) → may_leave (disk_of new) c → left_since (disk_of new) t c)
-      → LeavesOnly moment left_since (disk_of old) (disk_of new) (IsBeforeOrAfter old.kept after) → old.kept.bound ≤ after.bound → old.counter ≤ new.counter
+      → LeavesOnly moment left_since (disk_of old) (disk_of new) (KeepsBeforeOrAfter old.kept after) → old.kept.bound ≤ after.bound → old.counter ≤ new.counter
       → IsPast may_leave n old → IsPast may_leave n new
   past_along moment left_since old new after n is t stays now run higher counter past =
       let here = past.images (seen (disk_of old)) stays in
@@ -111,7 +111,7 @@ pub head_is : (row : List (Option (List ℕ))) (payload : List ℕ) → IsRow ro
 head_is row payload is held = some_is payload (head_in row) (held (head_in row) (row_head row is))
 
 -- a row whose cell 0 spells a record is that cell alone
-pub row_read : (row : List (Option (List ℕ))) (payload : List ℕ) (kept : Kept) → IsRow row → ((p : List ℕ) → slice_get row 0 ≡ Some (Some p) → Some payload ≡ Some p) → Spells payload kept → row ≡ Some (spelling kept) ∷ []
+pub row_read : (row : List (Option (List ℕ))) (payload : List ℕ) (kept : Kept) → IsRow row → ((p : List ℕ) → slice_get row 0 ≡ Some (Some p) → Some payload ≡ Some p) → SpellsRecord payload kept → row ≡ Some (spelling kept) ∷ []
 row_read row payload kept is held spells = only_cell row kept is (sym (head_is row payload is held) ∙ spells.bytes_are)
 
 -- and a disk of that row has it in its cell 0
@@ -147,5 +147,5 @@ past_image may_leave old new seen n image only counter past =
     }
 
 -- a disk that stands for a row of a record alone keeps it
-pub row_keeps : (row : List (Option (List ℕ))) (kept : Kept) (disk : List ℕ) → IsKept kept → row ≡ Some (spelling kept) ∷ [] → StandsFor row disk → KeptOn kept disk
-row_keeps row kept disk fits is stands = record { fits = fits; row = subst (λ (l : List (Option (List ℕ))). StandsFor l disk) is stands }
+pub row_keeps : (row : List (Option (List ℕ))) (kept : Kept) (disk : List ℕ) → RecordFits kept → row ≡ Some (spelling kept) ∷ [] → IsImageOf row disk → KeptOn kept disk
+row_keeps row kept disk fits is stands = record { fits = fits; row = subst (λ (l : List (Option (List ℕ))). IsImageOf l disk) is stands }

@@ -9,7 +9,7 @@ use Rattle.std.proofs.Math.ListN.{get_or-append}
 use Rattle.std.proofs.lemmas.Nat.{be_bytes_4, be_bytes_8, from_be_bytes-to_be_bytes_4, from_be_bytes-to_be_bytes_8}
 use Rattle.std.proofs.Math.Nat.{div-eq_of_lt}
 use Rattle.cas_base.proofs.Bytes.{IsBytes}
-use Rattle.cas_vault.specs.Codec.{IsKept, spelling, Spells, BeginsOne, IsFirstWrong}
+use Rattle.cas_vault.specs.Codec.{RecordFits, spelling, SpellsRecord, BeginsOne, IsFirstWrongByte}
 use Rattle.cas_vault.specs.Places.{head, may_stand, AllStand}
 use Rattle.cas_vault.specs.declared.kept.Kept.{Kept}
 
@@ -74,7 +74,7 @@ either_zero a b (inr is) = grind (arith, nat_tests)
 low_byte : (n j : ℕ) → InNumber n → byte_at j (2 ^ 48) ≡ 0 → (nat_eq (byte_at 6 n) 0 || nat_eq (byte_at j n) 0) ≡ true
 low_byte n j is zero_there = either_zero (byte_at 6 n) (byte_at j n) (⊎_elim (λ none. inl none) (λ last. inr (ap (byte_at j) last ∙ zero_there)) is.rest)
 
-spelled_stands : (kept : Kept) → IsKept kept → EachStands (spelling kept)
+spelled_stands : (kept : Kept) → RecordFits kept → EachStands (spelling kept)
 spelled_stands kept fits =
     let b = in_number_of kept.bound fits.bound in
     let a = in_number_of kept.age fits.age in
@@ -219,7 +219,7 @@ head_there bytes long each = ext_get_or 0 (take 9 bytes) head (omega (arith, len
     get_or-take 9 bytes i 0 below ∙ stands_in_head bytes i below (each i (omega (arith, below))))
 
 -- bytes that may all stand spell the record that is in them
-pub stands_spelled : (bytes : List ℕ) → IsBytes bytes → length bytes ≡ 29 → EachStands bytes → Spells bytes (kept_in bytes)
+pub stands_spelled : (bytes : List ℕ) → IsBytes bytes → length bytes ≡ 29 → EachStands bytes → SpellsRecord bytes (kept_in bytes)
 stands_spelled bytes fits long each =
     let bound = be_bytes_8 (take 8 (drop 9 bytes)) _ (length-part bytes 9 8 (omega arith)) (IsBytes-part bytes 9 8 fits) refl in
     let age = be_bytes_8 (take 8 (drop 17 bytes)) _ (length-part bytes 17 8 (omega arith)) (IsBytes-part bytes 17 8 fits) refl in
@@ -312,21 +312,21 @@ none_behind bytes = refl
 -- ---- one record
 
 -- what was written is read again
-pub read_back : (kept : Kept) → IsKept kept → kept_in (spelling kept) ≡ kept
+pub read_back : (kept : Kept) → RecordFits kept → kept_in (spelling kept) ≡ kept
 read_back kept fits = λ t. record {
   bound = from_be_bytes-to_be_bytes_8 kept.bound (omega (arith, fits.bound)) t;
   age = from_be_bytes-to_be_bytes_8 kept.age (omega (arith, fits.age)) t;
   era = from_be_bytes-to_be_bytes_4 kept.era fits.era t;
 }
 
-pub same_spelling : (kept kept' : Kept) → IsKept kept → IsKept kept' → spelling kept ≡ spelling kept' → kept ≡ kept'
+pub same_spelling : (kept kept' : Kept) → RecordFits kept → RecordFits kept' → spelling kept ≡ spelling kept' → kept ≡ kept'
 same_spelling kept kept' fits fits' same = sym (read_back kept fits) ∙ ap kept_in same ∙ read_back kept' fits'
 
-pub same_record : (bytes : List ℕ) (kept kept' : Kept) → Spells bytes kept → Spells bytes kept' → kept ≡ kept'
+pub same_record : (bytes : List ℕ) (kept kept' : Kept) → SpellsRecord bytes kept → SpellsRecord bytes kept' → kept ≡ kept'
 same_record bytes kept kept' is is' = same_spelling kept kept' is.fits is'.fits (sym is.bytes_are ∙ is'.bytes_are)
 
 -- in a record nothing is wrong
-pub not_wrong : (bytes : List ℕ) (kept : Kept) (at : ℕ) → Spells bytes kept → IsFirstWrong bytes at → ⊥
+pub not_wrong : (bytes : List ℕ) (kept : Kept) (at : ℕ) → SpellsRecord bytes kept → IsFirstWrongByte bytes at → ⊥
 not_wrong bytes kept at is wrong =
     let long : length bytes ≡ 29 = ap (λ (l : List ℕ). length l) is.bytes_are ∙ length-spelling kept in
     elim (cases_lt at (length bytes)) [
@@ -339,10 +339,10 @@ not_wrong bytes kept at is wrong =
     ]
 
 -- the record that was read part by part
-pub spelled_by_parts : (bytes : List ℕ) (bound age era : ℕ) → IsBytes bytes → AllStand bytes → bound ≡ (kept_in bytes).bound → age ≡ (kept_in bytes).age → era ≡ (kept_in bytes).era → Spells bytes (record { bound = bound; age = age; era = era })
+pub spelled_by_parts : (bytes : List ℕ) (bound age era : ℕ) → IsBytes bytes → AllStand bytes → bound ≡ (kept_in bytes).bound → age ≡ (kept_in bytes).age → era ≡ (kept_in bytes).era → SpellsRecord bytes (record { bound = bound; age = age; era = era })
 spelled_by_parts bytes bound age era fits all is_bound is_age is_era =
     let same : kept_in bytes ≡ record { bound = bound; age = age; era = era } = λ t. record { bound = sym is_bound t; age = sym is_age t; era = sym is_era t } in
-    subst (λ (k : Kept). Spells bytes k) same (stands_spelled bytes fits all.long all.each)
+    subst (λ (k : Kept). SpellsRecord bytes k) same (stands_spelled bytes fits all.long all.each)
 
 -- the bytes from a place on
 pub rest_from : (bytes : List ℕ) (start : ℕ) → take (length bytes - start) (drop start bytes) ≡ drop start bytes

@@ -1,8 +1,8 @@
 -- What a vault shows, and what of it stands on its disk.
 use Rattle.std.specs.Prelude.{◌≡◌, ◌⊎◌, ℕ, ◌+◌, ◌^◌, ◌≤◌, min, max, nat_lt, if◌then◌else◌, List, [], ◌∷◌, Some, None}
-use Rattle.cas_cells.specs.Format.{StandsFor, foreign_at, payload_at, payload_place}
+use Rattle.cas_cells.specs.Format.{IsImageOf, foreign_at, payload_at, payload_place}
 use Rattle.cas_cells.specs.Cells as cells
-use Rattle.cas_vault.specs.Codec.{IsKept, spelling, IsFirstWrong}
+use Rattle.cas_vault.specs.Codec.{RecordFits, spelling, IsFirstWrongByte}
 use Rattle.cas_vault.specs.declared.kept.Kept.{Kept}
 use Rattle.cas_vault.specs.declared.vault.Vault.{Vault}
 
@@ -24,18 +24,18 @@ fresh = record { bound = 0; age = 0; era = 0 }
 
 -- a disk is a vault's and keeps this
 pub record KeptOn (kept : Kept) (disk : List ℕ) : Type 0 where
-  pub fits : IsKept kept
-  pub row : StandsFor (Some (spelling kept) ∷ []) disk
+  pub fits : RecordFits kept
+  pub row : IsImageOf (Some (spelling kept) ∷ []) disk
 
 -- a disk keeps what was kept before a change or what is kept after it
-abbrev pub IsBeforeOrAfter : Kept → Kept → List ℕ → Type 0
-IsBeforeOrAfter before after disk = KeptOn before disk ⊎ KeptOn after disk
+abbrev pub KeepsBeforeOrAfter : Kept → Kept → List ℕ → Type 0
+KeepsBeforeOrAfter before after disk = KeptOn before disk ⊎ KeptOn after disk
 
 -- a vault is in use: its counter is within its end, and where the disk tells its content, a crash leaves what the vault keeps
-pub record Stands {D : Type 0} (tells : Type 0) (seen : D → List ℕ) (may_leave : D → List ℕ → Type 0) (vault : Vault D) : Type 0 where
-  pub row : cells.Stands tells seen may_leave vault.cells
+pub record VaultStands {D : Type 0} (tells : Type 0) (seen : D → List ℕ) (may_leave : D → List ℕ → Type 0) (vault : Vault D) : Type 0 where
+  pub row : cells.CellsStand tells seen may_leave vault.cells
   pub held : cells.cells_of vault.cells ≡ Some (spelling vault.kept) ∷ []
-  pub fits : IsKept vault.kept
+  pub fits : RecordFits vault.kept
   pub counter : vault.counter ≤ 2 ^ 48
   pub images : tells → (c : List ℕ) → may_leave (disk_of vault) c → KeptOn vault.kept c
 
@@ -61,4 +61,4 @@ kept_in_era number kept = record kept { era = number }
 -- a sound row, one that no record has in the payload of cell 0.
 abbrev pub IsForeignAt : List ℕ → ℕ → Type 0
 IsForeignAt disk at = (foreign_at disk ≡ Some at)
-    ⊎ ((place : ℕ) × (payload : List ℕ) × (wrong : ℕ) × (foreign_at disk ≡ None) × (payload_at 0 disk 0 ≡ Some payload) × (payload_place 0 disk 0 ≡ Some place) × IsFirstWrong payload wrong × (at ≡ place + wrong))
+    ⊎ ((place : ℕ) × (payload : List ℕ) × (wrong : ℕ) × (foreign_at disk ≡ None) × (payload_at 0 disk 0 ≡ Some payload) × (payload_place 0 disk 0 ≡ Some place) × IsFirstWrongByte payload wrong × (at ≡ place + wrong))

@@ -1,7 +1,7 @@
 //! How a vault's record is written and read.
 ghost use Rattle.std.specs.Prelude.{◌≡◌, ◌≤◌, ◌<◌, ◌+◌, length, take, IfOk, IfErr, MatchOption, Ok, true, ℕ};
 ghost use Rattle.std.specs.Int.{w32, w64, from_be_bytes};
-ghost use Rattle.cas_vault.specs.Codec.{spelling, Spells, IsFirstWrong};
+ghost use Rattle.cas_vault.specs.Codec.{spelling, SpellsRecord, IsFirstWrongByte};
 ghost use Rattle.cas_vault.specs.Places.{in_number, may_stand, AllStand};
 ghost use Rattle.cas_vault.specs.declared.kept.Kept.{Kept};
 
@@ -29,9 +29,9 @@ pub fn spell(kept: &Kept) -> [u8; 29]
 /// The record that these bytes spell. `Err` tells the place of the first byte that no record has there, or the length of bytes
 /// that end too early.
 pub fn read(bytes: &[u8]) -> Result<Kept, usize>
-    ensures found { IfOk result (λ kept. Spells bytes.now kept) }
-    ensures only { (kept : Kept) → Spells bytes.now kept → result ≡ Ok kept }
-    ensures wrong { IfErr result (IsFirstWrong bytes.now) }
+    ensures found { IfOk result (λ kept. SpellsRecord bytes.now kept) }
+    ensures only { (kept : Kept) → SpellsRecord bytes.now kept → result ≡ Ok kept }
+    ensures wrong { IfErr result (IsFirstWrongByte bytes.now) }
 {
     match first_wrong(bytes) {
         Some(place) => Err(place),
@@ -45,7 +45,7 @@ pub fn read(bytes: &[u8]) -> Result<Kept, usize>
 
 /// The place of the first byte that no record has there.
 fn first_wrong(bytes: &[u8]) -> Option<usize>
-    ensures { MatchOption result (AllStand bytes.now) (IsFirstWrong bytes.now) }
+    ensures { MatchOption result (AllStand bytes.now) (IsFirstWrongByte bytes.now) }
 {
     for place in 0..bytes.len() {
         if !may_stand(bytes, place) {

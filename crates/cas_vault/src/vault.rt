@@ -1,7 +1,7 @@
 //! A vault on a disk.
 ghost use Rattle.std.specs.Prelude.{◌≡◌, ◌+◌, ◌^◌, ◌≤◌, ◌↔◌, ℕ, List, max, IfOk, OnOk, OnErr, IsErrOf};
 ghost use Rattle.cas_disk.specs.Disk.{LeavesOnly, ContinuesOnly, Only, Elapses};
-ghost use Rattle.cas_vault.specs.Codec.{IsKept};
+ghost use Rattle.cas_vault.specs.Codec.{RecordFits};
 ghost use Rattle.cas_vault.specs.Error.{HasVaultCause, IsNotForeign};
 ghost use Rattle.cas_vault.specs.declared.kept.Kept.{Kept};
 
@@ -31,7 +31,7 @@ pub struct Vault<V: Disk> {
 }
 
 impl<V: Disk> Vault<V> {
-    ghost use Rattle.cas_vault.specs.Vault.{disk_of, counter_of, kept_of, fresh, kept_to_draw, kept_one_older, kept_in_era, KeptOn, IsBeforeOrAfter, Stands, IsPast, IsForeignAt};
+    ghost use Rattle.cas_vault.specs.Vault.{disk_of, counter_of, kept_of, fresh, kept_to_draw, kept_one_older, kept_in_era, KeptOn, KeepsBeforeOrAfter, VaultStands, IsPast, IsForeignAt};
 
     /// A vault on this disk. It touches nothing, and is started or reopened before it is used.
     pub fn over(alloc: Global, disk: V) -> Vault<V>
@@ -61,7 +61,7 @@ impl<V: Disk> Vault<V> {
         ensures kept { OnOk result (kept_of self.new ≡ fresh) }
         ensures same_counter { OnErr result (counter_of self.new ≡ counter_of self.old) }
         ensures same { OnErr result (kept_of self.new ≡ kept_of self.old) }
-        ensures stands { OnOk result (Stands V.tells V.seen V.may_leave self.new) }
+        ensures stands { OnOk result (VaultStands V.tells V.seen V.may_leave self.new) }
         ensures not_spent { IsErrOf result VaultError.Spent → ⊥ }
         ensures not_foreign { IsNotForeign result }
         ensures cause { HasVaultCause result (V.fault_count (disk_of self.old)) (V.fault_count (disk_of self.new)) }
@@ -89,7 +89,7 @@ impl<V: Disk> Vault<V> {
 
         ensures counter { OnOk result (counter_of self.new ≡ (kept_of self.new).bound) }
         ensures reopened { V.tells → OnOk result (KeptOn (kept_of self.new) (V.seen (disk_of self.new))) }
-        ensures stands { OnOk result (Stands V.tells V.seen V.may_leave self.new) }
+        ensures stands { OnOk result (VaultStands V.tells V.seen V.may_leave self.new) }
         ensures past { V.tells → (n : ℕ) → IsPast V.may_leave n self.old → IsPast V.may_leave n self.new }
 
         ensures foreign { V.tells → (at : ℕ) → IsErrOf result (VaultError.Foreign at) → IsForeignAt (V.seen (disk_of self.new)) at }
@@ -123,20 +123,20 @@ impl<V: Disk> Vault<V> {
     /// above it, or 2^48, is on the disk before it is given. `Spent` comes exactly where the counter is 2^48. After an `Err` what is
     /// seen is as before.
     pub fn draw(&mut self) -> Result<u64, VaultError>
-        requires { Stands V.tells V.seen V.may_leave self.old }
+        requires { VaultStands V.tells V.seen V.may_leave self.old }
         ensures number { IfOk result (λ n. n ≡ counter_of self.old + 1) }
         ensures counter { OnOk result (counter_of self.new ≡ counter_of self.old + 1) }
         ensures kept { OnOk result (kept_of self.new ≡ kept_to_draw (counter_of self.old) (kept_of self.old)) }
-        ensures stands { OnOk result (Stands V.tells V.seen V.may_leave self.new) }
+        ensures stands { OnOk result (VaultStands V.tells V.seen V.may_leave self.new) }
 
         // The vault is then past the number, and still past each number that it was past.
         ensures past { V.tells → IfOk result (λ n. IsPast V.may_leave n self.new) }
         ensures still_past { V.tells → (n : ℕ) → IsPast V.may_leave n self.old → IsPast V.may_leave n self.new }
-        ensures any_moment { V.tells → LeavesOnly V.moment V.left_since (disk_of self.old) (disk_of self.new) (IsBeforeOrAfter (kept_of self.old) (kept_to_draw (counter_of self.old) (kept_of self.old))) }
+        ensures any_moment { V.tells → LeavesOnly V.moment V.left_since (disk_of self.old) (disk_of self.new) (KeepsBeforeOrAfter (kept_of self.old) (kept_to_draw (counter_of self.old) (kept_of self.old))) }
 
         ensures spent { IsErrOf result VaultError.Spent ↔ (counter_of self.old ≡ 2 ^ 48) }
-        ensures after_spent { IsErrOf result VaultError.Spent → Stands V.tells V.seen V.may_leave self.new }
-        ensures after_no_memory { IsErrOf result VaultError.NoMemory → Stands V.tells V.seen V.may_leave self.new }
+        ensures after_spent { IsErrOf result VaultError.Spent → VaultStands V.tells V.seen V.may_leave self.new }
+        ensures after_no_memory { IsErrOf result VaultError.NoMemory → VaultStands V.tells V.seen V.may_leave self.new }
         ensures not_foreign { IsNotForeign result }
         ensures same_counter { OnErr result (counter_of self.new ≡ counter_of self.old) }
         ensures same { OnErr result (kept_of self.new ≡ kept_of self.old) }
@@ -157,7 +157,7 @@ impl<V: Disk> Vault<V> {
         ensures counter { counter_of self.new ≡ max (counter_of self.old) counter }
         ensures kept { kept_of self.new ≡ kept_of self.old }
         ensures disk { disk_of self.new ≡ disk_of self.old }
-        ensures stands { Stands V.tells V.seen V.may_leave self.old → Stands V.tells V.seen V.may_leave self.new }
+        ensures stands { VaultStands V.tells V.seen V.may_leave self.old → VaultStands V.tells V.seen V.may_leave self.new }
         ensures still_past { (n : ℕ) → IsPast V.may_leave n self.old → IsPast V.may_leave n self.new }
     {
         self.counter = self.counter.max(counter);
@@ -166,20 +166,20 @@ impl<V: Disk> Vault<V> {
     /// Raises the age by one, and answers it. In the same change the bound rises to the counter, where that is above it. `Spent` comes
     /// exactly where the age is 2^48. After an `Err` what is seen is as before.
     pub fn raise_age(&mut self) -> Result<u64, VaultError>
-        requires { Stands V.tells V.seen V.may_leave self.old }
+        requires { VaultStands V.tells V.seen V.may_leave self.old }
         ensures age { IfOk result (λ age. age ≡ (kept_of self.old).age + 1) }
         ensures kept { OnOk result (kept_of self.new ≡ kept_one_older (counter_of self.old) (kept_of self.old)) }
         ensures counter { counter_of self.new ≡ counter_of self.old }
-        ensures stands { OnOk result (Stands V.tells V.seen V.may_leave self.new) }
+        ensures stands { OnOk result (VaultStands V.tells V.seen V.may_leave self.new) }
 
         // The vault is then past its counter, and still past each number that it was past.
         ensures past { V.tells → OnOk result (IsPast V.may_leave (counter_of self.old) self.new) }
         ensures still_past { V.tells → (n : ℕ) → IsPast V.may_leave n self.old → IsPast V.may_leave n self.new }
-        ensures any_moment { V.tells → LeavesOnly V.moment V.left_since (disk_of self.old) (disk_of self.new) (IsBeforeOrAfter (kept_of self.old) (kept_one_older (counter_of self.old) (kept_of self.old))) }
+        ensures any_moment { V.tells → LeavesOnly V.moment V.left_since (disk_of self.old) (disk_of self.new) (KeepsBeforeOrAfter (kept_of self.old) (kept_one_older (counter_of self.old) (kept_of self.old))) }
 
         ensures spent { IsErrOf result VaultError.Spent ↔ ((kept_of self.old).age ≡ 2 ^ 48) }
-        ensures after_spent { IsErrOf result VaultError.Spent → Stands V.tells V.seen V.may_leave self.new }
-        ensures after_no_memory { IsErrOf result VaultError.NoMemory → Stands V.tells V.seen V.may_leave self.new }
+        ensures after_spent { IsErrOf result VaultError.Spent → VaultStands V.tells V.seen V.may_leave self.new }
+        ensures after_no_memory { IsErrOf result VaultError.NoMemory → VaultStands V.tells V.seen V.may_leave self.new }
         ensures not_foreign { IsNotForeign result }
         ensures same { OnErr result (kept_of self.new ≡ kept_of self.old) }
         ensures cause { HasVaultCause result (V.fault_count (disk_of self.old)) (V.fault_count (disk_of self.new)) }
@@ -198,14 +198,14 @@ impl<V: Disk> Vault<V> {
 
     /// Enters the era of this number. After an `Err` what is seen is as before.
     pub fn enter_era(&mut self, number: u32) -> Result<(), VaultError>
-        requires { Stands V.tells V.seen V.may_leave self.old }
+        requires { VaultStands V.tells V.seen V.may_leave self.old }
         ensures kept { OnOk result (kept_of self.new ≡ kept_in_era number (kept_of self.old)) }
         ensures counter { counter_of self.new ≡ counter_of self.old }
-        ensures stands { OnOk result (Stands V.tells V.seen V.may_leave self.new) }
+        ensures stands { OnOk result (VaultStands V.tells V.seen V.may_leave self.new) }
         ensures still_past { V.tells → (n : ℕ) → IsPast V.may_leave n self.old → IsPast V.may_leave n self.new }
-        ensures any_moment { V.tells → LeavesOnly V.moment V.left_since (disk_of self.old) (disk_of self.new) (IsBeforeOrAfter (kept_of self.old) (kept_in_era number (kept_of self.old))) }
+        ensures any_moment { V.tells → LeavesOnly V.moment V.left_since (disk_of self.old) (disk_of self.new) (KeepsBeforeOrAfter (kept_of self.old) (kept_in_era number (kept_of self.old))) }
         ensures not_spent { IsErrOf result VaultError.Spent → ⊥ }
-        ensures after_no_memory { IsErrOf result VaultError.NoMemory → Stands V.tells V.seen V.may_leave self.new }
+        ensures after_no_memory { IsErrOf result VaultError.NoMemory → VaultStands V.tells V.seen V.may_leave self.new }
         ensures not_foreign { IsNotForeign result }
         ensures same { OnErr result (kept_of self.new ≡ kept_of self.old) }
         ensures cause { HasVaultCause result (V.fault_count (disk_of self.old)) (V.fault_count (disk_of self.new)) }
@@ -267,14 +267,14 @@ impl<V: Disk> Vault<V> {
 
     // Sees to it that the bound is not below this number, which comes next.
     fn cover(&mut self, number: u64) -> Result<(), VaultError>
-        requires stands { Stands V.tells V.seen V.may_leave self.old }
+        requires stands { VaultStands V.tells V.seen V.may_leave self.old }
         requires next { number ≡ counter_of self.old + 1 }
         requires fits { number ≤ 2 ^ 48 }
         ensures kept { OnOk result (kept_of self.new ≡ kept_to_draw (counter_of self.old) (kept_of self.old)) }
         ensures counter { counter_of self.new ≡ counter_of self.old }
-        ensures stands { OnOk result (Stands V.tells V.seen V.may_leave self.new) }
-        ensures any_moment { V.tells → LeavesOnly V.moment V.left_since (disk_of self.old) (disk_of self.new) (IsBeforeOrAfter (kept_of self.old) (kept_to_draw (counter_of self.old) (kept_of self.old))) }
-        ensures after_no_memory { IsErrOf result VaultError.NoMemory → Stands V.tells V.seen V.may_leave self.new }
+        ensures stands { OnOk result (VaultStands V.tells V.seen V.may_leave self.new) }
+        ensures any_moment { V.tells → LeavesOnly V.moment V.left_since (disk_of self.old) (disk_of self.new) (KeepsBeforeOrAfter (kept_of self.old) (kept_to_draw (counter_of self.old) (kept_of self.old))) }
+        ensures after_no_memory { IsErrOf result VaultError.NoMemory → VaultStands V.tells V.seen V.may_leave self.new }
         ensures not_spent { IsErrOf result VaultError.Spent → ⊥ }
         ensures not_foreign { IsNotForeign result }
         ensures same { OnErr result (kept_of self.new ≡ kept_of self.old) }
@@ -292,13 +292,13 @@ impl<V: Disk> Vault<V> {
 
     // Changes what is kept. The disk need not keep what was before this.
     fn keep(&mut self, kept: Kept) -> Result<(), VaultError>
-        requires stands { Stands V.tells V.seen V.may_leave self.old }
-        requires fits { IsKept kept }
+        requires stands { VaultStands V.tells V.seen V.may_leave self.old }
+        requires fits { RecordFits kept }
         ensures kept { OnOk result (kept_of self.new ≡ kept) }
         ensures counter { counter_of self.new ≡ counter_of self.old }
-        ensures stands { OnOk result (Stands V.tells V.seen V.may_leave self.new) }
-        ensures any_moment { V.tells → LeavesOnly V.moment V.left_since (disk_of self.old) (disk_of self.new) (IsBeforeOrAfter (kept_of self.old) kept) }
-        ensures after_no_memory { IsErrOf result VaultError.NoMemory → Stands V.tells V.seen V.may_leave self.new }
+        ensures stands { OnOk result (VaultStands V.tells V.seen V.may_leave self.new) }
+        ensures any_moment { V.tells → LeavesOnly V.moment V.left_since (disk_of self.old) (disk_of self.new) (KeepsBeforeOrAfter (kept_of self.old) kept) }
+        ensures after_no_memory { IsErrOf result VaultError.NoMemory → VaultStands V.tells V.seen V.may_leave self.new }
         ensures not_spent { IsErrOf result VaultError.Spent → ⊥ }
         ensures not_foreign { IsNotForeign result }
         ensures same { OnErr result (kept_of self.new ≡ kept_of self.old) }
@@ -310,13 +310,13 @@ impl<V: Disk> Vault<V> {
 
     // Changes what is kept, in the three steps of a cell.
     fn write(&mut self, kept: Kept) -> Result<(), VaultError>
-        requires stands { Stands V.tells V.seen V.may_leave self.old }
-        requires fits { IsKept kept }
+        requires stands { VaultStands V.tells V.seen V.may_leave self.old }
+        requires fits { RecordFits kept }
         ensures kept { OnOk result (kept_of self.new ≡ kept) }
         ensures counter { counter_of self.new ≡ counter_of self.old }
-        ensures stands { OnOk result (Stands V.tells V.seen V.may_leave self.new) }
-        ensures any_moment { V.tells → ContinuesOnly V.moment V.left_since (disk_of self.old) (disk_of self.new) (IsBeforeOrAfter (kept_of self.old) kept) }
-        ensures after_no_memory { IsErrOf result VaultError.NoMemory → Stands V.tells V.seen V.may_leave self.new }
+        ensures stands { OnOk result (VaultStands V.tells V.seen V.may_leave self.new) }
+        ensures any_moment { V.tells → ContinuesOnly V.moment V.left_since (disk_of self.old) (disk_of self.new) (KeepsBeforeOrAfter (kept_of self.old) kept) }
+        ensures after_no_memory { IsErrOf result VaultError.NoMemory → VaultStands V.tells V.seen V.may_leave self.new }
         ensures not_spent { IsErrOf result VaultError.Spent → ⊥ }
         ensures not_foreign { IsNotForeign result }
         ensures same { OnErr result (kept_of self.new ≡ kept_of self.old) }

@@ -2,7 +2,7 @@
 use Rattle.std.proofs.Common.{◌≡◌, ℕ, List, [], ◌∷◌, ◌++◌, Some, Ok, Err, sym, ap, ◌∙◌}
 use Rattle.std.specs.Prelude.{IfSome}
 use Rattle.std.proofs.lemmas.List.{append-nil}
-use Rattle.cas_wire.specs.Frame.{request_spelling, reply_spelling, FitsRequest, FitsReply, IsRequest, IsReply}
+use Rattle.cas_wire.specs.Frame.{request_spelling, reply_spelling, FitsRequest, FitsReply, IsRequestFrame, IsReplyFrame}
 use Rattle.cas_wire.specs.FrameReading.{whole_of, request_at, reply_at}
 use Rattle.cas_wire.specs.Reading.{Reading}
 use Rattle.cas_slot.specs.declared.message.Request.{Request}
@@ -36,34 +36,34 @@ module _ {A : Type 0} {s : A → List ℕ} {F : A → Type 0} {r : List ℕ → 
 
 -- ---- requests
 
-pub request_found : (bytes : List ℕ) (request : Request) (rest : List ℕ) → IsBytes bytes → request_at bytes ≡ Ok (request, rest) → IfSome (whole_of request rest) (IsRequest bytes)
+pub request_found : (bytes : List ℕ) (request : Request) (rest : List ℕ) → IsBytes bytes → request_at bytes ≡ Ok (request, rest) → IfSome (whole_of request rest) (IsRequestFrame bytes)
 request_found bytes request [] fits e = let w = whole_spelled request_format bytes request fits e in record { fits = w.0; spelled = w.1 }
 request_found bytes request (b ∷ rest) fits e = tt
 
-pub request_only : (bytes : List ℕ) (request : Request) (rest : List ℕ) → request_at bytes ≡ Ok (request, rest) → (other : Request) → IsRequest bytes other → whole_of request rest ≡ Some other
+pub request_only : (bytes : List ℕ) (request : Request) (rest : List ℕ) → request_at bytes ≡ Ok (request, rest) → (other : Request) → IsRequestFrame bytes other → whole_of request rest ≡ Some other
 request_only bytes request rest e other is =
     let same = whole_is request_format bytes other (request, rest) is.fits is.spelled e in
     ap (λ (y : Request × List ℕ). whole_of y.0 y.1) same
 
-pub request_wrong : (bytes : List ℕ) (left : ℕ) → request_at bytes ≡ Err left → (other : Request) → IsRequest bytes other → ⊥
+pub request_wrong : (bytes : List ℕ) (left : ℕ) → request_at bytes ≡ Err left → (other : Request) → IsRequestFrame bytes other → ⊥
 request_wrong bytes left e other is = whole_not_wrong request_format bytes other left is.fits is.spelled e
 
-pub request_alone : (bytes : List ℕ) (request : Request) → FitsRequest request → bytes ≡ request_spelling request → (more : List ℕ) (other : Request) → IsRequest (bytes ++ more) other → (more ≡ []) × (other ≡ request)
+pub request_alone : (bytes : List ℕ) (request : Request) → FitsRequest request → bytes ≡ request_spelling request → (more : List ℕ) (other : Request) → IsRequestFrame (bytes ++ more) other → (more ≡ []) × (other ≡ request)
 request_alone bytes request fits e more other is = none_begins request_format request other more fits is.fits (ap (λ (xs : List ℕ). xs ++ more) (sym e) ∙ is.spelled)
 
 -- ---- replies
 
-pub reply_found : (bytes : List ℕ) (reply : Reply) (rest : List ℕ) → IsBytes bytes → reply_at bytes ≡ Ok (reply, rest) → IfSome (whole_of reply rest) (IsReply bytes)
+pub reply_found : (bytes : List ℕ) (reply : Reply) (rest : List ℕ) → IsBytes bytes → reply_at bytes ≡ Ok (reply, rest) → IfSome (whole_of reply rest) (IsReplyFrame bytes)
 reply_found bytes reply [] fits e = let w = whole_spelled reply_format bytes reply fits e in record { fits = w.0; spelled = w.1 }
 reply_found bytes reply (b ∷ rest) fits e = tt
 
-pub reply_only : (bytes : List ℕ) (reply : Reply) (rest : List ℕ) → reply_at bytes ≡ Ok (reply, rest) → (other : Reply) → IsReply bytes other → whole_of reply rest ≡ Some other
+pub reply_only : (bytes : List ℕ) (reply : Reply) (rest : List ℕ) → reply_at bytes ≡ Ok (reply, rest) → (other : Reply) → IsReplyFrame bytes other → whole_of reply rest ≡ Some other
 reply_only bytes reply rest e other is =
     let same = whole_is reply_format bytes other (reply, rest) is.fits is.spelled e in
     ap (λ (y : Reply × List ℕ). whole_of y.0 y.1) same
 
-pub reply_wrong : (bytes : List ℕ) (left : ℕ) → reply_at bytes ≡ Err left → (other : Reply) → IsReply bytes other → ⊥
+pub reply_wrong : (bytes : List ℕ) (left : ℕ) → reply_at bytes ≡ Err left → (other : Reply) → IsReplyFrame bytes other → ⊥
 reply_wrong bytes left e other is = whole_not_wrong reply_format bytes other left is.fits is.spelled e
 
-pub reply_alone : (bytes : List ℕ) (reply : Reply) → FitsReply reply → bytes ≡ reply_spelling reply → (more : List ℕ) (other : Reply) → IsReply (bytes ++ more) other → (more ≡ []) × (other ≡ reply)
+pub reply_alone : (bytes : List ℕ) (reply : Reply) → FitsReply reply → bytes ≡ reply_spelling reply → (more : List ℕ) (other : Reply) → IsReplyFrame (bytes ++ more) other → (more ≡ []) × (other ≡ reply)
 reply_alone bytes reply fits e more other is = none_begins reply_format reply other more fits is.fits (ap (λ (xs : List ℕ). xs ++ more) (sym e) ∙ is.spelled)

@@ -48,7 +48,7 @@ pub record FitsRequest (request : Request) : Type 0 where
   pub ask : FitsAsk request.ask
 
 -- these bytes are the frame of that request
-pub record IsRequest (bytes : List ℕ) (request : Request) : Type 0 where
+pub record IsRequestFrame (bytes : List ℕ) (request : Request) : Type 0 where
   pub fits : FitsRequest request
   pub spelled : bytes ≡ request_spelling request
 
@@ -105,7 +105,7 @@ pub record FitsReply (reply : Reply) : Type 0 where
   pub answer : FitsTell reply.tell
 
 -- these bytes are the frame of that reply
-pub record IsReply (bytes : List ℕ) (reply : Reply) : Type 0 where
+pub record IsReplyFrame (bytes : List ℕ) (reply : Reply) : Type 0 where
   pub fits : FitsReply reply
   pub spelled : bytes ≡ reply_spelling reply
 

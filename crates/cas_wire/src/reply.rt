@@ -6,7 +6,7 @@ ghost use Rattle.cas_slot.specs.declared.message.Reply.{Reply};
 ghost use Rattle.cas_slot.specs.Slots.{is_above};
 ghost use Rattle.cas_slot.specs.Limits.{CanBeListed, TellFits};
 ghost use Rattle.cas_slot.specs.Slots.{rises};
-ghost use Rattle.cas_wire.specs.Frame.{IsReply, CanBeTold, FitsListing, FitsTell, FitsReply, listing_spelling, tell_spelling, reply_spelling};
+ghost use Rattle.cas_wire.specs.Frame.{IsReplyFrame, CanBeTold, FitsListing, FitsTell, FitsReply, listing_spelling, tell_spelling, reply_spelling};
 ghost use Rattle.cas_wire.specs.FrameReading.{is_count, is_listing, list_at, named_at, keys_at, listing_at, tell_at, reply_head_at, reply_at};
 ghost use Rattle.cas_wire.specs.Kinds.{kinds, flags};
 ghost use Rattle.cas_wire.specs.Part.{Gives};
@@ -221,8 +221,8 @@ fn reply_at(alloc: Global, bytes: &[u8]) -> Result<(Reply, &[u8]), ReadError>
 
 /// The reply whose frame these bytes are. `None` comes exactly where they are no reply's frame.
 pub fn decode_reply(alloc: Global, bytes: &[u8]) -> Result<Option<Reply>, AllocError>
-    ensures found { IfOk result (λ found. IfSome found (IsReply bytes.now)) }
-    ensures only { (reply : Reply) → IsReply bytes.now reply → IfOk result (λ found. found ≡ Some reply) }
+    ensures found { IfOk result (λ found. IfSome found (IsReplyFrame bytes.now)) }
+    ensures only { (reply : Reply) → IsReplyFrame bytes.now reply → IfOk result (λ found. found ≡ Some reply) }
 {
     match reply_at(alloc, bytes) {
         Ok((reply, rest)) => Ok(whole(reply, rest)),
@@ -286,9 +286,9 @@ fn put_reply(out: &mut Vec<u8>, reply: &Reply)
 /// The frame of a reply, which begins no other reply's frame.
 pub fn encode_reply(alloc: Global, reply: &Reply) -> Result<Vec<u8>, AllocError>
     requires { CanBeTold reply.now }
-    ensures frame { IfOk result (λ frame. IsReply frame.items reply.now) }
+    ensures frame { IfOk result (λ frame. IsReplyFrame frame.items reply.now) }
     ensures short { IfOk result (λ frame. length frame.items ≤ LONGEST_FRAME) }
-    ensures alone { IfOk result (λ frame. (more : List ℕ) (other : Reply) → IsReply (frame.items ++ more) other → (more ≡ []) × (other ≡ reply.now)) }
+    ensures alone { IfOk result (λ frame. (more : List ℕ) (other : Reply) → IsReplyFrame (frame.items ++ more) other → (more ≡ []) × (other ≡ reply.now)) }
 {
     let mut frame = Vec::with_capacity(alloc, LONGEST_FRAME)?;
     put_reply(&mut frame, reply);
@@ -300,9 +300,9 @@ pub fn encode_reply_into(reply: &Reply, out: &mut Vec<u8>)
     requires told { CanBeTold reply.now }
     requires empty { out.old.items ≡ [] }
     requires room { LONGEST_FRAME ≤ vec_capacity out.old }
-    ensures frame { IsReply out.new.items reply.now }
+    ensures frame { IsReplyFrame out.new.items reply.now }
     ensures short { length out.new.items ≤ LONGEST_FRAME }
-    ensures alone { (more : List ℕ) (other : Reply) → IsReply (out.new.items ++ more) other → (more ≡ []) × (other ≡ reply.now) }
+    ensures alone { (more : List ℕ) (other : Reply) → IsReplyFrame (out.new.items ++ more) other → (more ≡ []) × (other ≡ reply.now) }
     ensures room_stays { vec_capacity out.old ≤ vec_capacity out.new }
 {
     put_reply(out, reply);

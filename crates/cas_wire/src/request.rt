@@ -3,7 +3,7 @@
 ghost use Rattle.std.specs.Prelude.{◌≡◌, ℕ, ◌+◌, ◌≤◌, List, [], ◌++◌, length, Some, IfOk, IfSome, vec_len, vec_capacity};
 ghost use Rattle.cas_slot.specs.declared.message.Request.{Request};
 ghost use Rattle.cas_slot.specs.Limits.{AskBallotsFit};
-ghost use Rattle.cas_wire.specs.Frame.{IsRequest, CanBeAsked, FitsAsk, FitsRequest, ask_spelling, request_spelling};
+ghost use Rattle.cas_wire.specs.Frame.{IsRequestFrame, CanBeAsked, FitsAsk, FitsRequest, ask_spelling, request_spelling};
 ghost use Rattle.cas_wire.specs.FrameReading.{named_at, accept_at, ages_at, ask_at, request_head_at, request_at};
 ghost use Rattle.cas_wire.specs.Kinds.{phases};
 ghost use Rattle.cas_wire.specs.Part.{Gives};
@@ -148,8 +148,8 @@ fn request_at<'a>(
 
 /// The request whose frame these bytes are. `None` comes exactly where they are no request's frame.
 pub fn decode_request(alloc: Global, bytes: &[u8]) -> Result<Option<Request>, AllocError>
-    ensures found { IfOk result (λ found. IfSome found (IsRequest bytes.now)) }
-    ensures only { (request : Request) → IsRequest bytes.now request → IfOk result (λ found. found ≡ Some request) }
+    ensures found { IfOk result (λ found. IfSome found (IsRequestFrame bytes.now)) }
+    ensures only { (request : Request) → IsRequestFrame bytes.now request → IfOk result (λ found. found ≡ Some request) }
 {
     decode_request_knowing(alloc, bytes, None)
 }
@@ -160,8 +160,8 @@ pub fn decode_request_knowing(
     bytes: &[u8],
     known: Option<&Key>,
 ) -> Result<Option<Request>, AllocError>
-    ensures found { IfOk result (λ found. IfSome found (IsRequest bytes.now)) }
-    ensures only { (request : Request) → IsRequest bytes.now request → IfOk result (λ found. found ≡ Some request) }
+    ensures found { IfOk result (λ found. IfSome found (IsRequestFrame bytes.now)) }
+    ensures only { (request : Request) → IsRequestFrame bytes.now request → IfOk result (λ found. found ≡ Some request) }
 {
     match request_at(alloc, bytes, known) {
         Ok((request, rest)) => Ok(whole(request, rest)),
@@ -247,9 +247,9 @@ fn put_request(out: &mut Vec<u8>, request: &Request)
 /// The frame of a request, which begins no other request's frame.
 pub fn encode_request(alloc: Global, request: &Request) -> Result<Vec<u8>, AllocError>
     requires { CanBeAsked request.now }
-    ensures frame { IfOk result (λ frame. IsRequest frame.items request.now) }
+    ensures frame { IfOk result (λ frame. IsRequestFrame frame.items request.now) }
     ensures short { IfOk result (λ frame. length frame.items ≤ LONGEST_FRAME) }
-    ensures alone { IfOk result (λ frame. (more : List ℕ) (other : Request) → IsRequest (frame.items ++ more) other → (more ≡ []) × (other ≡ request.now)) }
+    ensures alone { IfOk result (λ frame. (more : List ℕ) (other : Request) → IsRequestFrame (frame.items ++ more) other → (more ≡ []) × (other ≡ request.now)) }
 {
     let mut frame = Vec::with_capacity(alloc, 157 + ask_room(&request.ask))?;
     put_request(&mut frame, request);
@@ -261,9 +261,9 @@ pub fn encode_request_into(request: &Request, out: &mut Vec<u8>)
     requires asked { CanBeAsked request.now }
     requires empty { out.old.items ≡ [] }
     requires room { LONGEST_FRAME ≤ vec_capacity out.old }
-    ensures frame { IsRequest out.new.items request.now }
+    ensures frame { IsRequestFrame out.new.items request.now }
     ensures short { length out.new.items ≤ LONGEST_FRAME }
-    ensures alone { (more : List ℕ) (other : Request) → IsRequest (out.new.items ++ more) other → (more ≡ []) × (other ≡ request.now) }
+    ensures alone { (more : List ℕ) (other : Request) → IsRequestFrame (out.new.items ++ more) other → (more ≡ []) × (other ≡ request.now) }
     ensures room_stays { vec_capacity out.old ≤ vec_capacity out.new }
 {
     put_request(out, request);

@@ -4,7 +4,7 @@ use Rattle.std.specs.Prelude.{Option, None, Some, IsSomeAnd}
 use Rattle.std.proofs.lemmas.Option.{slice_get_read}
 use Rattle.cas_acceptor.specs.Acceptor.{AcceptorView}
 use Rattle.cas_disk.specs.Disk.{LeavesOnly as DiskLeavesOnly}
-use Rattle.cas_slot.specs.Shelf.{Left, LeavesOnly}
+use Rattle.cas_slot.specs.Shelf.{Left, ShelfLeavesOnly}
 use Rattle.cas_model.specs.History.{IsRemembered}
 use Rattle.cas_model.specs.Step.{Event, Step}
 use Rattle.cas_model.proofs.Places.{some_is}
@@ -24,7 +24,7 @@ same_but {S} old new down same_id same_started is_down =
 
 -- whatever a crash leaves at the end of a call it may leave at a moment within it
 pub left_now : {S : Type 0} (moment : S → ℕ) (left_since : S → ℕ → Left → Type 0) (may_leave : S → Left → Type 0) (old new : S) (P : Left → Type 0)
-    → ((t : ℕ) (left : Left) → t ≤ moment new → may_leave new left → left_since new t left) → LeavesOnly moment left_since old new P → (left : Left) → may_leave new left → P left
+    → ((t : ℕ) (left : Left) → t ≤ moment new → may_leave new left → left_since new t left) → ShelfLeavesOnly moment left_since old new P → (left : Left) → may_leave new left → P left
 left_now moment left_since may_leave old new P now leaves left may = leaves.each left (now (moment old) left leaves.later may)
 
 pub left_at : {D : Type 0} (moment : D → ℕ) (left_since : D → ℕ → List ℕ → Type 0) (may_leave : D → List ℕ → Type 0) (old new : D) (P : List ℕ → Type 0)

@@ -13,7 +13,7 @@ ghost use Rattle.cas_ballot.specs.Ballot.{FitsBallot};
 ghost use Rattle.cas_model.specs.Calls.Step.{Sends};
 ghost use Rattle.cas_model.specs.Exchanges.Step.{new_exchange, questions_to, told_marks, HasTag};
 ghost use Rattle.cas_world_calls.specs.Council.{exchange_view, question_view, left_to_list};
-ghost use Rattle.cas_world.specs.Exchanges.Exchange.{MayAsk, MayAskThis, MayGather, MayGatherMembers, HasGathered, asking_of, gathering_of, WasToldOrder, IsAsked, Opens, FailsToAsk, FailsToTag, question_in, question_from, asked_from, begins_with};
+ghost use Rattle.cas_world.specs.Exchanges.Exchange.{MayAskMembers, MayAskThis, MayGather, MayGatherMembers, HasGathered, asking_of, gathering_of, WasToldOrder, IsAsked, OpensExchange, FailsToAsk, FailsToTag, question_in, question_from, asked_from, begins_with};
 ghost use Rattle.cas_model.specs.Collection.Laws.{HasItsFloor};
 ghost use Rattle.cas_model.specs.SafeLaws.{HaveEnteredIts};
 ghost use Rattle.cas_world.specs.Collection.Collect.{AreRemovalsDone};
@@ -129,7 +129,7 @@ impl<S: Shelf, V: Disk> World<S, V> {
 
     /// Proposer 0 asks this of all members, or of those whose listing has not ended.
     fn ask_members(&mut self, what: Query) -> Result<(), OpAnswer>
-        requires { MayAsk self.old (question_in self.old what) }
+        requires { MayAskMembers self.old (question_in self.old what) }
         ensures step { Step (meaning S.Shelf V.Disk) self.old (AskAll (question_in self.old what)) self.new }
         ensures ok { OnOk result (IsSome self.new.council.exchange) }
         ensures none { OnErr result (self.new.council.exchange ≡ None) }
@@ -324,7 +324,7 @@ fn open_exchange<V: Disk>(
     requires queue { exchange_place < length flow.old.own }
     requires few { length «record».old.marks + reserved ≤ 1000000 }
     requires tag { IfSome (option_copied goes_on) (λ listing. FitsBallot listing.tag) }
-    ensures ok { IfOk result (λ opened. Opens (disk_meaning V.Disk) desk.old desk.new flow.old flow.new everyone (option_copied goes_on.entry) what (length «record».old.marks) opened) }
+    ensures ok { IfOk result (λ opened. OpensExchange (disk_meaning V.Disk) desk.old desk.new flow.old flow.new everyone (option_copied goes_on.entry) what (length «record».old.marks) opened) }
     ensures room { OnOk result (reserved + length (asked_from everyone (option_copied goes_on.entry)) ≤ «record».new.room) }
     ensures fits { OnOk result (length «record».old.marks + reserved + length (asked_from everyone (option_copied goes_on.entry)) ≤ 1000000) }
     ensures refused { IfErr result (FailsToAsk (disk_meaning V.Disk) desk.old desk.new (option_copied goes_on.entry) (length «record».old.marks + reserved + length (asked_from everyone (option_copied goes_on.entry)))) }

@@ -14,8 +14,8 @@ ghost use Rattle.cas_world_calls.specs.Answers.{is_plain, crash_answer, moved_an
 ghost use Rattle.cas_world_calls.specs.Call.{over};
 ghost use Rattle.cas_world_calls.specs.Council.{council_view, due_in};
 ghost use Rattle.cas_world.specs.Exchanges.Exchange.{WasToldOrder};
-ghost use Rattle.cas_world.specs.Eras.Moving.{Leaves, Stays, MarksMove, closed_with};
-ghost use Rattle.cas_world.specs.Eras.Plans.{asked_to, planned_by, IsFor, IsUnderWay, IsAtEnd, IsPartial, MayOpenPlan, MayEnter, step_of, rescanned_of, entrant_of};
+ghost use Rattle.cas_world.specs.Eras.Moving.{LeavesDesk, Stays, MarksMove, closed_with};
+ghost use Rattle.cas_world.specs.Eras.Plans.{asked_to, planned_by, IsFor, IsUnderWay, IsAtEnd, IsPartial, MayOpenPlan, MayEnterNext, step_of, rescanned_of, entrant_of};
 
 use crate::world::World;
 use cas_ballot::{AcceptorId, Members};
@@ -205,7 +205,7 @@ impl<S: Shelf, V: Disk> World<S, V> {
     /// all that are reserved are as many as a record holds; [`OpAnswer::ProposerDown`] exactly where the proposer is down, or goes down
     /// in this step, and then its open round is closed as by a crash; [`Answer::NoMemory`]. After each of them the step is still due.
     pub fn enter_era(&mut self, proposer: u8) -> Result<(), OpAnswer>
-        requires { MayEnter self.old proposer }
+        requires { MayEnterNext self.old proposer }
         ensures step { Step (meaning S.Shelf V.Disk) self.old (EntersNext proposer) self.new }
         ensures ok { OnOk result ((order : OrderView) → self.old.council.order ≡ Some order → IsUnderWay self.new order.asked) }
         ensures err { IfErr result (WasToldOrder self.new) }
@@ -263,8 +263,8 @@ fn move_on<V: Disk>(
     requires up { desk.old.down ≡ false }
     requires proposer { proposer ≤ 16 }
     requires open { IsSome desk.old.round → IsSome caller.old.call }
-    ensures ok { OnOk result (Leaves (EntersEra (disk_meaning V.Disk) next.now) (closed_with (λ proposed. moved_answer proposed next.now.number)) proposer desk.old desk.new caller.old caller.new flow.old flow.new) }
-    ensures fault { IsErrOf result VaultError.VaultFault → Leaves (FailsToEnter (disk_meaning V.Disk) next.now) (closed_with crash_answer) proposer desk.old desk.new caller.old caller.new flow.old flow.new }
+    ensures ok { OnOk result (LeavesDesk (EntersEra (disk_meaning V.Disk) next.now) (closed_with (λ proposed. moved_answer proposed next.now.number)) proposer desk.old desk.new caller.old caller.new flow.old flow.new) }
+    ensures fault { IsErrOf result VaultError.VaultFault → LeavesDesk (FailsToEnter (disk_meaning V.Disk) next.now) (closed_with crash_answer) proposer desk.old desk.new caller.old caller.new flow.old flow.new }
     ensures no_memory { IsErrOf result VaultError.NoMemory → Stays (disk_meaning V.Disk) desk.old desk.new caller.old caller.new flow.old flow.new }
     ensures cause { IfErr result (λ error. (error ≡ VaultError.VaultFault) ⊎ (error ≡ VaultError.NoMemory)) }
 {

@@ -7,10 +7,10 @@ ghost use Rattle.cas_protocol.specs.Proposers.{state_read};
 ghost use Rattle.cas_model.specs.Calls.Step.{offered_by};
 ghost use Rattle.cas_model.specs.Step.{Step, Propose, Count};
 ghost use Rattle.cas_model.specs.View.{CallerView, meaning, disk_meaning};
-ghost use Rattle.cas_model.specs.Laws.{IsKept};
+ghost use Rattle.cas_model.specs.Laws.{AcknowledgedIsKept};
 ghost use Rattle.cas_world.specs.Calls.Count.{MayCount, Counts};
 ghost use Rattle.cas_world_calls.specs.Proposing.{FailsToPropose};
-ghost use Rattle.cas_world.specs.Calls.Reading.{MayPropose, Reads, Proposes, EndsShort, HasProposed};
+ghost use Rattle.cas_world.specs.Calls.Reading.{MayEndPrepare, ReadsRound, Proposes, EndsShort, HasProposed};
 ghost use Rattle.cas_world.specs.World.{IsInPhase, WasTold};
 ghost use Rattle.cas_world_calls.specs.declared.call.OpenCall.{OpenCall};
 ghost use Rattle.cas_proposer.specs.Desk.{may_read, may_ride};
@@ -84,7 +84,7 @@ impl<S: Shelf, V: Disk> World<S, V> {
         ensures told { (caller : CallerView) → slice_get self.old.callers proposer ≡ Some caller → WasTold self.new proposer caller.number result }
         ensures cause { AcceptsBy self.old proposer result }
         ensures above { S.tells → V.tells → TellsAbove self.old proposer result }
-        ensures kept { S.tells → V.tells → (a : AnAcknowledgment) → Stands (Acked a) (reverse self.new.marks) → IsAboveFloors (reverse self.new.marks) a.key a.ballot → IsKept (meaning S.Shelf V.Disk) self.new a }
+        ensures kept { S.tells → V.tells → (a : AnAcknowledgment) → Stands (Acked a) (reverse self.new.marks) → IsAboveFloors (reverse self.new.marks) a.key a.ballot → AcknowledgedIsKept (meaning S.Shelf V.Disk) self.new a }
     {
         let place = usize::from(proposer);
         let desk = &mut self.desks[place];
@@ -120,7 +120,7 @@ fn end_prepare<V: Disk>(
     caller: &Caller,
     proposer: u8,
 ) -> Result<Proposing, Answer>
-    requires { MayPropose desk.old caller.now flow.old proposer }
+    requires { MayEndPrepare desk.old caller.now flow.old proposer }
     ensures proposes { (round : Round) → desk.old.round ≡ Some round → (call : OpenCall) → caller.now.call ≡ Some call → IfOk result (Proposes (disk_meaning V.Disk) proposer caller.now.number round call desk.old desk.new flow.old flow.new) }
     ensures ends { (round : Round) → desk.old.round ≡ Some round → IfErr result (EndsShort (disk_meaning V.Disk) round desk.old desk.new) }
     ensures not_sent { OnErr result (flow.new ≡ flow.old) }
@@ -142,7 +142,7 @@ fn propose_read<V: Disk>(
     caller: &Caller,
     proposer: u8,
 ) -> Result<Proposing, Answer>
-    requires may { MayPropose desk.old caller.now flow.old proposer }
+    requires may { MayEndPrepare desk.old caller.now flow.old proposer }
     requires quorum { IsTrue (may_read desk.old.round) }
     ensures proposes { (round : Round) → desk.old.round ≡ Some round → (call : OpenCall) → caller.now.call ≡ Some call → IfOk result (Proposes (disk_meaning V.Disk) proposer caller.now.number round call desk.old desk.new flow.old flow.new) }
     ensures refused { (round : Round) → desk.old.round ≡ Some round → IfErr result (FailsToPropose (disk_meaning V.Disk) round.key desk.old desk.new) }
@@ -175,7 +175,7 @@ fn read<V: Disk>(desk: &mut Desk<V>) -> (Era, Ready)
     ensures desk { desk.new ≡ record desk.old { round = desk.new.round } }
     ensures turns { (round : Round) → desk.old.round ≡ Some round → IsSomeAnd desk.new.round (TurnsToAccept round) }
     ensures may_ride { IsTrue (may_ride desk.new.round) }
-    ensures reads { (round : Round) → desk.old.round ≡ Some round → Reads round result.0 result.1 }
+    ensures reads { (round : Round) → desk.old.round ≡ Some round → ReadsRound round result.0 result.1 }
 {
     let by = desk.confirmers();
     let (era, ballot) = match desk.round() {

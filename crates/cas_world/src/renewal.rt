@@ -11,7 +11,7 @@ ghost use Rattle.cas_world_calls.specs.Answers.{aged_answer, crash_answer};
 ghost use Rattle.cas_world_calls.specs.Council.{council_view};
 ghost use Rattle.cas_world.specs.Collection.Collect.{IsDueStep, IsNextAge, GoesOnCollecting, MarksRenewal, AreFloorsPassed};
 ghost use Rattle.cas_world.specs.Exchanges.Exchange.{WasToldOrder};
-ghost use Rattle.cas_world.specs.Eras.Moving.{Leaves, closed_with};
+ghost use Rattle.cas_world.specs.Eras.Moving.{LeavesDesk, closed_with};
 
 use crate::plans::{has_round, leave};
 use crate::world::World;
@@ -103,8 +103,8 @@ fn grow_older<V: Disk>(
     requires proposer { proposer ≤ 16 }
     requires tomb { FitsBallot tomb }
     requires open { IsSome desk.old.round → IsSome caller.old.call }
-    ensures ok { IfOk result (λ age. Leaves (Renews (disk_meaning V.Disk) key.now tomb age) (closed_with (λ proposed. aged_answer proposed age)) proposer desk.old desk.new caller.old caller.new flow.old flow.new) }
-    ensures fault { IsErrOf result VaultError.VaultFault → Leaves (FailsToRenew (disk_meaning V.Disk)) (closed_with crash_answer) proposer desk.old desk.new caller.old caller.new flow.old flow.new }
+    ensures ok { IfOk result (λ age. LeavesDesk (Renews (disk_meaning V.Disk) key.now tomb age) (closed_with (λ proposed. aged_answer proposed age)) proposer desk.old desk.new caller.old caller.new flow.old flow.new) }
+    ensures fault { IsErrOf result VaultError.VaultFault → LeavesDesk (FailsToRenew (disk_meaning V.Disk)) (closed_with crash_answer) proposer desk.old desk.new caller.old caller.new flow.old flow.new }
     ensures spent { IsErrOf result VaultError.Spent → ((kept_of desk.old.vault).age ≡ 2 ^ 48) × (desk.new ≡ desk.old) }
     ensures no_memory { IsErrOf result VaultError.NoMemory → FindsNoAge (disk_meaning V.Disk) tomb desk.old desk.new }
     ensures stays { (IsErrOf result VaultError.VaultFault → ⊥) → IfErr result (λ error. (caller.new ≡ caller.old) × (flow.new ≡ flow.old)) }

@@ -4,10 +4,10 @@
 ghost use Rattle.std.specs.Prelude.{◌≡◌, ◌+◌, ◌<◌, ◌≤◌, ◌^◌, ℕ, true, [], map, drop, reverse, vec_len, vec_capacity, IsTrue, IfOk, IfErr, OnOk};
 ghost use Rattle.cas_ballot.specs.Members.{has_member};
 ghost use Rattle.cas_vault.specs.Error.{HasVaultCause};
-ghost use Rattle.cas_vault.specs.Vault.{disk_of, Stands};
+ghost use Rattle.cas_vault.specs.Vault.{disk_of, VaultStands};
 ghost use Rattle.cas_model.specs.Openings.{mark_of};
 ghost use Rattle.cas_model.specs.View.{IsAt, disk_meaning};
-ghost use Rattle.cas_world.specs.Openings.OpeningOn.{opening_of, greatest_counter, placed_as, placed, IsRefused, IsTakenUp, IsTakenUpOver, AreTakenUpBelow, AVaultIsNotTakenUp, IsFaultOfVault, fault_of_vault};
+ghost use Rattle.cas_world.specs.Openings.OpeningOn.{opening_of, greatest_counter, placed_as, placed, VaultIsRefused, VaultIsTakenUp, IsTakenUpOver, AreTakenUpBelow, AVaultIsNotTakenUp, IsFaultOfVault, fault_of_vault};
 
 use crate::fault::OpenFault;
 use crate::open::ACCEPTORS;
@@ -156,9 +156,9 @@ fn take_up_desk<V: Disk>(
 /// `Spent` comes exactly where its age is 2^48.
 fn take_up<V: Disk>(vault: &mut Vault<V>, is_new: bool, past: u64) -> Result<(), VaultError>
     requires { past ≤ 2 ^ 48 }
-    ensures ok { OnOk result (IsTakenUp (disk_meaning V.Disk) past vault.new) }
-    ensures stands { OnOk result (Stands V.tells V.seen V.may_leave vault.new) }
-    ensures err { IfErr result (IsRefused (disk_meaning V.Disk) V.seen vault.new) }
+    ensures ok { OnOk result (VaultIsTakenUp (disk_meaning V.Disk) past vault.new) }
+    ensures stands { OnOk result (VaultStands V.tells V.seen V.may_leave vault.new) }
+    ensures err { IfErr result (VaultIsRefused (disk_meaning V.Disk) V.seen vault.new) }
     ensures cause { HasVaultCause result (V.fault_count (disk_of vault.old)) (V.fault_count (disk_of vault.new)) }
 {
     if is_new {

@@ -9,7 +9,7 @@ ghost use Rattle.cas_proposer.specs.Desk.{met_counter};
 ghost use Rattle.cas_round.specs.Replies.{met_by};
 ghost use Rattle.cas_world.specs.Exchanges.Exchange.{place_of, turn_of, refusal_of};
 ghost use Rattle.cas_world.specs.Frames.Serve.{KeepsAll, AreNumbered};
-ghost use Rattle.cas_world.specs.Frames.Turn.{MayMark, Makes, Harms, Asks, Arrives, Handles};
+ghost use Rattle.cas_world.specs.Frames.Turn.{HasReservedMark, MakesInRoom, Harms, Asks, Arrives, HandlesFrame};
 ghost use Rattle.cas_model.specs.Step.{Step, Turn, RefuseTurn};
 ghost use Rattle.cas_model.specs.View.{meaning, shelf_meaning};
 ghost use Rattle.cas_slot.specs.declared.message.Request.{Request as ARequest};
@@ -104,7 +104,7 @@ fn tell_no_memory(caller: &mut Caller)
 fn lose(flow: &mut Flow, caller: &mut Caller, record: &mut Record, proposer: u8, verdict: Verdict)
     requires proposer { proposer ≤ 16 }
     requires waits { (queue_at flow.old proposer).messages ≢ [] }
-    requires mark { MayMark caller.old «record».old.room }
+    requires mark { HasReservedMark caller.old «record».old.room }
     ensures flow { flow.new ≡ taken flow.old proposer verdict }
     ensures harms { (front : AMessage) → slice_get (queue_at flow.old proposer).messages 0 ≡ Some front → Harms proposer caller.old caller.new «record».old «record».new (head_of front).1 false }
 {
@@ -140,8 +140,8 @@ fn handle<S: Shelf, V: Disk>(
     requires numbered { AreNumbered acceptors.old.items (length acceptors.old.items) }
     requires waits { (queue_at flow.old proposer).messages ≢ [] }
     requires room { (request : ARequest) → slice_get (queue_at flow.old proposer).messages 0 ≡ Some (message.Request request) → 0 < (queue_at (taken flow.old proposer verdict) proposer).room }
-    requires mark { MayMark caller.old «record».old.room }
-    ensures ok { OnOk result (Handles (shelf_meaning S.Shelf) proposer verdict acceptors.old.items acceptors.new.items desk.old desk.new caller.old caller.new flow.old flow.new «record».old «record».new) }
+    requires mark { HasReservedMark caller.old «record».old.room }
+    ensures ok { OnOk result (HandlesFrame (shelf_meaning S.Shelf) proposer verdict acceptors.old.items acceptors.new.items desk.old desk.new caller.old caller.new flow.old flow.new «record».old «record».new) }
     ensures err { OnErr result (KeepsAll (shelf_meaning S.Shelf) acceptors.old.items acceptors.new.items) }
     ensures same { OnErr result ((desk.new ≡ desk.old) × (caller.new ≡ caller.old) × (flow.new ≡ flow.old) × («record».new ≡ «record».old)) }
 {
@@ -199,7 +199,7 @@ fn ask<S: Shelf>(
     requires asked { CanBeSent (message.Request request.now) }
     requires waits { (queue_at flow.old proposer).messages ≢ [] }
     requires room { 0 < (queue_at (taken flow.old proposer verdict) proposer).room }
-    requires mark { MayMark caller.old «record».old.room }
+    requires mark { HasReservedMark caller.old «record».old.room }
     ensures ok { OnOk result (Asks (shelf_meaning S.Shelf) proposer verdict request.now acceptors.old.items acceptors.new.items caller.old caller.new flow.old flow.new «record».old «record».new) }
     ensures err { OnErr result (KeepsAll (shelf_meaning S.Shelf) acceptors.old.items acceptors.new.items) }
     ensures same { OnErr result ((caller.new ≡ caller.old) × (flow.new ≡ flow.old) × («record».new ≡ «record».old)) }

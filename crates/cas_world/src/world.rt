@@ -5,7 +5,7 @@ ghost use Rattle.cas_acceptor.specs.Acceptor.{AcceptorView};
 ghost use Rattle.cas_model.specs.SafeLaws.{HasPlaces};
 ghost use Rattle.cas_model.specs.Step.{IsOpening};
 ghost use Rattle.cas_model.specs.View.{CallerView, IsAt, era_at, meaning, disk_meaning, shelf_meaning};
-ghost use Rattle.cas_model.specs.Laws.{IsKept};
+ghost use Rattle.cas_model.specs.Laws.{AcknowledgedIsKept};
 ghost use Rattle.cas_ballot.specs.Members.{union_of};
 ghost use Rattle.cas_model.specs.Openings.{AreOpenings, IsOpeningOn};
 ghost use Rattle.cas_model.specs.Calls.Step.{most_marks};
@@ -221,7 +221,7 @@ impl<S: Shelf, V: Disk> World<S, V> {
         ensures all_shelves { vec_len result.1 ≡ 64 }
         ensures disks { take (self.last_proposer + 1) result.2.items ≡ disks_of self.desks }
         ensures all { vec_len result.2 ≡ 17 }
-        ensures kept { S.tells → V.tells → (a : AnAcknowledgment) → Stands (Acked a) (reverse self.marks) → IsAboveFloors (reverse self.marks) a.key a.ballot → IsKept (meaning S.Shelf V.Disk) self a }
+        ensures kept { S.tells → V.tells → (a : AnAcknowledgment) → Stands (Acked a) (reverse self.marks) → IsAboveFloors (reverse self.marks) a.key a.ballot → AcknowledgedIsKept (meaning S.Shelf V.Disk) self a }
     {
         let World {
             setup,

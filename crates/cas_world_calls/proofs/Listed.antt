@@ -14,7 +14,7 @@ use Rattle.cas_model.specs.Council.{ExchangeView, ListingView, PlanView}
 use Rattle.cas_model.specs.Eras.Listings.{why_short}
 use Rattle.cas_model.specs.Calls.Step.{IsRescan}
 use Rattle.cas_model.proofs.Places.{some_is}
-use Rattle.cas_world_calls.specs.Council.{first_where, IsDue, IsListing, IsOfKeys, GoesOnBy, GathersAs, listed_with, over_with, crashed, probed, lists, is_short, no_memory}
+use Rattle.cas_world_calls.specs.Council.{first_where, RescanIsDue, EraIsListed, IsOfKeys, GoesOnBy, GathersAs, listed_with, over_with, crashed, probed, lists, is_short, no_memory}
 use Rattle.cas_world_calls.specs.Council as council
 use Rattle.cas_world_calls.specs.declared.council.Gathered.{Gathered}
 
@@ -37,7 +37,7 @@ due_first (Enter era) listed key is = absurd (cc is)
 due_first Finished listed key is = absurd (cc is)
 
 -- caller 0 proposes it anew
-pub rescan_of : (old : cluster.Council) (id : ℕ) (key : List ℕ) → id ≡ 0 → (due : IsDue old key) → IsRescan old id key
+pub rescan_of : (old : cluster.Council) (id : ℕ) (key : List ℕ) → id ≡ 0 → (due : RescanIsDue old key) → IsRescan old id key
 rescan_of old id key by due =
     let first = due_first (next_of due.plan.progress.left) due.plan.listing key due.due in record {
       by_operator = by;
@@ -64,17 +64,17 @@ made_none f None is = refl
 made_none f (Some x) is = absurd (cc is)
 
 -- the listing that has begun
-abbrev pub listing_at : (under_way : Option PlanView) (plan : PlanView) (listing : ListingView) → IsListing under_way → under_way ≡ Some plan → plan.listing ≡ Some listing → IsListing under_way
+abbrev pub listing_at : (under_way : Option PlanView) (plan : PlanView) (listing : ListingView) → EraIsListed under_way → under_way ≡ Some plan → plan.listing ≡ Some listing → EraIsListed under_way
 listing_at under_way plan listing was is_plan is_listing =
     record { plan = plan; is_plan = is_plan; settles = ap (λ (p : PlanView). next_of p.progress.left) (some_is (sym is_plan ∙ was.is_plan)) ∙ was.settles; listing = listing; is_listing = is_listing }
 
-pub keys_gathered : (era : Era) (exchange : ExchangeView) (old new : cluster.Council) (plan now : PlanView) (listing : ListingView) (found : Gathered) → IsListing old.plan → old.plan ≡ Some plan → plan.listing ≡ Some listing
+pub keys_gathered : (era : Era) (exchange : ExchangeView) (old new : cluster.Council) (plan now : PlanView) (listing : ListingView) (found : Gathered) → EraIsListed old.plan → old.plan ≡ Some plan → plan.listing ≡ Some listing
     → exchange.crashed ≡ false → IsOfKeys exchange.question → GoesOnBy era exchange.told listing plan (Ok found) now → new ≡ listed_with old now → GathersAs era exchange old (Ok found) new
 keys_gathered era exchange old new plan now listing found was is_plan is_listing up keys (council.lists next enough on less result is) view =
     lists (listing_at old.plan plan listing was is_plan is_listing) next up keys enough on less (cc result) (view ∙ ap (listed_with old) is)
 keys_gathered era exchange old new plan now listing found was is_plan is_listing up keys (council.is_short short missing result is) view = absurd (cc result)
 
-pub keys_missed : (era : Era) (exchange : ExchangeView) (old new : cluster.Council) (plan now : PlanView) (listing : ListingView) (short : Answer) → IsListing old.plan → old.plan ≡ Some plan → plan.listing ≡ Some listing
+pub keys_missed : (era : Era) (exchange : ExchangeView) (old new : cluster.Council) (plan now : PlanView) (listing : ListingView) (short : Answer) → EraIsListed old.plan → old.plan ≡ Some plan → plan.listing ≡ Some listing
     → exchange.crashed ≡ false → IsOfKeys exchange.question → GoesOnBy era exchange.told listing plan (Err short) now → new ≡ over_with (record old { plan = Some now }) (op.Stopped short) → GathersAs era exchange old (Err (op.Stopped short)) new
 keys_missed era exchange old new plan now listing short was is_plan is_listing up keys (council.lists next enough on less result is) view = absurd (cc result)
 keys_missed era exchange old new plan now listing short was is_plan is_listing up keys (council.is_short of missing result is) view =
@@ -83,7 +83,7 @@ keys_missed era exchange old new plan now listing short was is_plan is_listing u
     (view ∙ ap (λ (p : PlanView). over_with (record old { plan = Some p }) (op.Stopped short)) is ∙ ap (λ (o : Option PlanView). over_with (record old { plan = o }) (op.Stopped short)) (sym is_plan) ∙ ap (λ (a : Answer). over_with old (op.Stopped a)) same)
 
 -- what the change of membership made of it
-pub gone_on : (under_way : Option PlanView) (plan now : PlanView) (era : Era) (told : List Answered) (result : Result Gathered Answer) → IsListing under_way → under_way ≡ Some plan → IfSome plan.listing (λ listing. GoesOnBy era told listing plan result now)
+pub gone_on : (under_way : Option PlanView) (plan now : PlanView) (era : Era) (told : List Answered) (result : Result Gathered Answer) → EraIsListed under_way → under_way ≡ Some plan → IfSome plan.listing (λ listing. GoesOnBy era told listing plan result now)
     → (listing : ListingView) × (plan.listing ≡ Some listing) × GoesOnBy era told listing plan result now
 gone_on under_way plan now era told result was is_plan by =
     let is_listing = ap (λ (p : PlanView). p.listing) (some_is (sym is_plan ∙ was.is_plan)) ∙ was.is_listing in

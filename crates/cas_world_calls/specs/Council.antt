@@ -79,7 +79,7 @@ abbrev pub due_in : Option PlanView → Option (List ℕ)
 due_in None = None
 due_in (Some plan) = due_key plan
 
-pub record IsDue (council : cluster.Council) (key : List ℕ) : Type 0 where
+pub record RescanIsDue (council : cluster.Council) (key : List ℕ) : Type 0 where
   pub order : OrderView
   pub is_open : council.order ≡ Some order
   pub plan : PlanView
@@ -112,7 +112,7 @@ harms_in council member down = harms_of council.exchange member down
 
 -- ---- what came of it
 -- what the open call is told of the key that was probed
-pub record IsFound (exchange : ExchangeView) (key : List ℕ) (told : OpAnswer) : Type 0 where
+pub record IsFoundByProbe (exchange : ExchangeView) (key : List ℕ) (told : OpAnswer) : Type 0 where
   pub found : Probes
   pub same : found.probes.items ≡ exchange.told
   pub tells : told ≡ op.Probed key found
@@ -128,7 +128,7 @@ IsOfKeys (cluster.NextKeys places) = ⊤
 IsOfKeys other = ⊥
 
 -- an era is to be settled, and its listing has begun
-pub record IsListing (under_way : Option PlanView) : Type 0 where
+pub record EraIsListed (under_way : Option PlanView) : Type 0 where
   pub plan : PlanView
   pub is_plan : under_way ≡ Some plan
   pub settles : next_of plan.progress.left ≡ Settle
@@ -137,7 +137,7 @@ pub record IsListing (under_way : Option PlanView) : Type 0 where
 
 abbrev pub MayList : cluster.Question → Option PlanView → Type 0
 MayList (cluster.Probe key) plan = ⊤
-MayList (cluster.NextKeys places) plan = IsListing plan
+MayList (cluster.NextKeys places) plan = EraIsListed plan
 MayList other plan = ⊥
 
 -- whether a listing is at its end
@@ -161,9 +161,9 @@ pub data GathersAs (era : Era) (exchange : ExchangeView) (old : cluster.Council)
   crashed : exchange.crashed ≡ true → result ≡ Err (op.Stopped answer.Crashed) → new ≡ over_with old (op.Stopped answer.Crashed) → GathersAs era exchange old result new
   probed : (key : List ℕ) (found kept : Probes) → exchange.crashed ≡ false → exchange.question ≡ cluster.Probe key → found.probes.items ≡ exchange.told → kept.probes.items ≡ exchange.told
       → result ≡ Ok (gathered.Probed found) → new ≡ over_with old (op.Probed key kept) → GathersAs era exchange old result new
-  lists : (of : IsListing old.plan) (next : ListingView) → exchange.crashed ≡ false → IsOfKeys exchange.question → missing era (counted exchange.told of.listing.places) ≡ None → ListsOn era exchange.told of.listing next → LeavesLess era exchange.told of.listing next
+  lists : (of : EraIsListed old.plan) (next : ListingView) → exchange.crashed ≡ false → IsOfKeys exchange.question → missing era (counted exchange.told of.listing.places) ≡ None → ListsOn era exchange.told of.listing next → LeavesLess era exchange.told of.listing next
       → result ≡ Ok (listed_if next.complete) → new ≡ listed_with old (with_listing of.plan next) → GathersAs era exchange old result new
-  is_short : (of : IsListing old.plan) (short : Answer) → exchange.crashed ≡ false → IsOfKeys exchange.question → missing era (counted exchange.told of.listing.places) ≡ Some short
+  is_short : (of : EraIsListed old.plan) (short : Answer) → exchange.crashed ≡ false → IsOfKeys exchange.question → missing era (counted exchange.told of.listing.places) ≡ Some short
       → result ≡ Err (op.Stopped (why_short exchange.told short)) → new ≡ over_with old (op.Stopped (why_short exchange.told short)) → GathersAs era exchange old result new
   no_memory : exchange.crashed ≡ false → result ≡ Err (op.Stopped (answer.NoMemory false)) → new ≡ record (telling old (op.Stopped (answer.NoMemory false))) { exchange = Some exchange } → GathersAs era exchange old result new
 

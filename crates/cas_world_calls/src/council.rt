@@ -12,7 +12,7 @@ ghost use Rattle.cas_model.specs.Calls.Step.{Rescans};
 ghost use Rattle.cas_model.specs.Exchanges.Step.{awaits, hears, harmed_exchange, harm_marks};
 ghost use Rattle.cas_model.specs.Eras.Step.{plan_after};
 ghost use Rattle.cas_world_calls.specs.Call.{reserved_of};
-ghost use Rattle.cas_world_calls.specs.Council.{council_view, exchange_view, question_view, plan_view, opening_council, unanswered, heard_in, harmed_in, harms_in, IsDue, IsProbed, IsFound, IsOfKeys, IsListing, MayList, GathersAs, goes_on_in, with_begun, concluded, MayConclude};
+ghost use Rattle.cas_world_calls.specs.Council.{council_view, exchange_view, question_view, plan_view, opening_council, unanswered, heard_in, harmed_in, harms_in, RescanIsDue, IsProbed, IsFoundByProbe, IsOfKeys, EraIsListed, MayList, GathersAs, goes_on_in, with_begun, concluded, MayConclude};
 
 use crate::answers::{copy_of, copy_of_op, is_done};
 use crate::call::{Caller, reserved_by};
@@ -351,8 +351,8 @@ impl Council {
 
     /// Whether the open call asks for the change of membership that is under way, and this key is to be proposed anew next for it.
     fn is_due(&self, key: &Key) -> bool
-        ensures due { IsTrue result → IsDue (council_view self.now) key.now }
-        ensures only { IsDue (council_view self.now) key.now → IsTrue result }
+        ensures due { IsTrue result → RescanIsDue (council_view self.now) key.now }
+        ensures only { RescanIsDue (council_view self.now) key.now → IsTrue result }
     {
         match (&self.order, &self.plan) {
             (Some(order), Some(plan)) => plan.asked == order.asked && plan.is_due(key),
@@ -490,7 +490,7 @@ impl Council {
     fn gather_keys(&mut self, exchange: OpenExchange) -> Result<Gathered, OpAnswer>
         requires up { exchange.crashed ≡ false }
         requires asked { IsOfKeys (exchange_view exchange).question }
-        requires lists { IsListing (council_view self.old).plan }
+        requires lists { EraIsListed (council_view self.old).plan }
         requires taken { self.old.exchange ≡ None }
         ensures gathers { GathersAs (era_in self.old.eras.0 0) (exchange_view exchange) (council_view self.old) result (council_view self.new) }
         ensures eras { self.new.eras ≡ self.old.eras }
@@ -550,7 +550,7 @@ fn concluding(collected: Option<Key>, answer: &OpAnswer) -> OpAnswer
 
 /// What the open call is told of the key, from lists of its own.
 fn probed(key: &Key, exchange: &OpenExchange) -> Result<OpAnswer, AllocError>
-    ensures { IfOk result (IsFound (exchange_view exchange.now) key.now) }
+    ensures { IfOk result (IsFoundByProbe (exchange_view exchange.now) key.now) }
 {
     Ok(OpAnswer::Probed {
         key: key.copy()?,

@@ -10,7 +10,7 @@ use Rattle.cas_lines.proofs.Told.{HandsOutTold, hands_nothing, hands_told}
 use Rattle.cas_lines.proofs.WholeRuns.{HasHandedOut-nothing, HasHandedOut-line, HasHandedOut-end, HasHandedOut-too_many, HasHandedOut-endless}
 use Rattle.cas_model.specs.View.{Meaning}
 use Rattle.casreg_script.specs.Stage.{Stage}
-use Rattle.casreg_script.specs.Script.{State, IsIn, LineAnswer, IsAnswered, ScriptRun, none, one_more, text_of, transcript_of}
+use Rattle.casreg_script.specs.Script.{State, IsInState, LineAnswer, IsAnswered, ScriptRun, none, one_more, text_of, transcript_of}
 
 -- some lines of the input were handed out, and as many were counted, run and answered
 pub record IsMidway {S H V : Type 0} (gives : S → Taken → S → Type 0) (meant : Meaning H V) (tries : ℕ) (first : State H V) (start source : S) (input : Option (List ℕ)) (reader : LinesState) (left old new : Option (List ℕ)) (world : State H V) : Type 0 where
@@ -25,7 +25,7 @@ pub record IsMidway {S H V : Type 0} (gives : S → Taken → S → Type 0) (mea
 -- and the script is in the state that they led to
 pub record IsMidwayIn {S H V : Type 0} (gives : S → Taken → S → Type 0) (meant : Meaning H V) (tries : ℕ) (first : State H V) (start source : S) (input : Option (List ℕ)) (reader : LinesState) (left old new : Option (List ℕ)) (stage : Stage H V) : Type 0 where
   pub state : State H V
-  pub is_in : IsIn stage state
+  pub is_in : IsInState stage state
   pub midway : IsMidway gives meant tries first start source input reader left old new state
 
 -- ---- transcripts

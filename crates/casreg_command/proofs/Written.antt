@@ -15,7 +15,7 @@ use Rattle.cas_lines.proofs.WholeRuns.{HasHandedOut-end}
 use Rattle.casreg_command.specs.declared.status.Status.{Status}
 use Rattle.casreg_command.specs.declared.status.Status.TheVariants as status
 use Rattle.cas_disk.specs.declared.disk.Disk.{Ghosts as DiskKind}
-use Rattle.cas_disk_shelf.specs.Shelf.{disk_of, contents_of, MayLeave}
+use Rattle.cas_disk_shelf.specs.Shelf.{disk_of, contents_of, ShelfMayLeave}
 use Rattle.cas_disk_shelf.specs.declared.shelf.DiskShelf.{DiskShelf}
 use Rattle.cas_record.specs.Legal.{IsLegal}
 use Rattle.cas_record.specs.declared.mark.Mark.{Mark}
@@ -46,7 +46,7 @@ stored D = record {
   shelves = record {
     contents = λ shelf. contents_of shelf;
     tells = D.tells;
-    may_leave = λ shelf left. MayLeave D.may_leave shelf left;
+    may_leave = λ shelf left. ShelfMayLeave D.may_leave shelf left;
     faults = λ shelf. D.fault_count (disk_of shelf);
   };
   disks = disk_meaning D;

@@ -21,7 +21,7 @@ use Rattle.cas_store.specs.declared.rack.Rack.{Rack}
 use Rattle.cas_store.specs.declared.rack.RackFault.{RackFault}
 use Rattle.cas_model.specs.View.{Meaning, View, IsAt}
 use Rattle.cas_board_world.specs.Blame.{AreDeserved}
-use Rattle.casreg_script.specs.Script.{State, LineAnswer, ScriptRun, IsIn, opening_state, transcript_of}
+use Rattle.casreg_script.specs.Script.{State, LineAnswer, ScriptRun, IsInState, opening_state, transcript_of}
 use Rattle.casreg_script.specs.Stage.{Stage}
 use Rattle.casreg_progress.specs.Runs.{AreDoneWhereReady}
 use Rattle.casreg_command.specs.declared.status.Status.{Status}
@@ -31,7 +31,7 @@ use Rattle.casreg_command.specs.Status.{status_of_rack, status_of_opening, statu
 use Rattle.cas_lines.specs.Sink.{AppendsFront}
 use Rattle.cas_lines.specs.Summary.{summary_line}
 use Rattle.cas_lines.specs.declared.summary.Summary.{Summary}
-use Rattle.casreg_script.specs.Load.{SumsUp, BreaksOff}
+use Rattle.casreg_script.specs.Load.{SumsUp, LoadBreaksOff}
 use Rattle.casreg_script.specs.declared.load.Load.{Load}
 use Rattle.casreg_command.specs.declared.words.Request.{Request}
 use Rattle.casreg_command.specs.declared.words.Request.TheVariants as request
@@ -96,7 +96,7 @@ pub record WasNotEmpty {D : Type 0} (m : RackMeaning D) (rack : Rack D) (number 
   pub not_empty : m.tells → m.seen disk ≢ []
 
 -- its count of faults rose
-pub record HasFailed {D : Type 0} (m : RackMeaning D) (rack back : Rack D) (number : ℕ) : Type 0 where
+pub record DiskHasFailed {D : Type 0} (m : RackMeaning D) (rack back : Rack D) (number : ℕ) : Type 0 where
   pub was : D
   pub is_was : IsDisk rack number was
   pub now : D
@@ -106,7 +106,7 @@ pub record HasFailed {D : Type 0} (m : RackMeaning D) (rack back : Rack D) (numb
 -- a status that names a disk comes only by what became of that disk
 abbrev pub AreDisksToBlame : {D : Type 0} → RackMeaning D → Rack D → Rack D → Status → Type 0
 AreDisksToBlame m rack back (status.NotEmpty disk) = WasNotEmpty m rack disk
-AreDisksToBlame m rack back (status.DiskFault disk) = HasFailed m rack back disk
+AreDisksToBlame m rack back (status.DiskFault disk) = DiskHasFailed m rack back disk
 AreDisksToBlame m rack back other = ⊤
 
 -- ---- what was written, where input and sink tell their bytes
@@ -150,7 +150,7 @@ WroteIn meant tries HadEnded input old new first world (status.Endless line) = A
 -- the same of a script that is in some state then
 pub record EndsIn {S V : Type 0} (meant : Meaning S V) (tries : ℕ) (HadEnded : List (List ℕ) → Type 0) (input old new : Option (List ℕ)) (first : State S V) (stage : Stage S V) (result : Status) : Type 0 where
   pub last : State S V
-  pub is_in : IsIn stage last
+  pub is_in : IsInState stage last
   pub wrote : WroteIn meant tries HadEnded input old new first last result
 
 -- ---- the world of a run
@@ -184,7 +184,7 @@ pub data WroteSummary {S V : Type 0} (meant : Meaning S V) (load : Load) (old ne
   whole : (summary : Summary) → SumsUp meant load world summary last → Appends old new (summary_line summary) → WroteSummary meant load old new world last status.Ok
   sink_failed : (summary : Summary) → SumsUp meant load world summary last → AppendsFront old new (summary_line summary) → WroteSummary meant load old new world last status.WriteFault
   no_text : (summary : Summary) → SumsUp meant load world summary last → new ≡ old → WroteSummary meant load old new world last status.NoMemory
-  broke_off : BreaksOff meant load world last → new ≡ old → WroteSummary meant load old new world last status.NoMemory
+  broke_off : LoadBreaksOff meant load world last → new ≡ old → WroteSummary meant load old new world last status.NoMemory
 
 -- what a load wrote that ran from this world on, whose record was legal then, where disks tell what they keep, and the rack that comes
 -- back, on which what is acknowledged stands

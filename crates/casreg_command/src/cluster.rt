@@ -7,7 +7,7 @@ ghost use Rattle.cas_lines.specs.Lines.{Ending, Whole, ending_of, FailsBehind};
 ghost use Rattle.cas_model.specs.Council.{IsAtRest};
 ghost use Rattle.cas_model.specs.View.{meaning};
 ghost use Rattle.cas_store.specs.Rack.{rack_meaning};
-ghost use Rattle.casreg_script.specs.Script.{State, IsIn};
+ghost use Rattle.casreg_script.specs.Script.{State, IsInState};
 ghost use Rattle.casreg_script.specs.Stage.{AllIdle};
 ghost use Rattle.casreg_command.specs.Causes.{AreDisksToBlame, Causes, EndsIn, LoadEnds, Ran, ReadsLines, Wrote, status_of};
 ghost use Rattle.casreg_script.specs.declared.load.Load.{Load as ALoad};
@@ -210,9 +210,9 @@ fn answer_lines<S: Source, K: Sink, H: Shelf, D: Disk>(
     source: &mut S,
     sink: &mut K,
 ) -> Result<(), Status>
-    requires state { (first : State _ _) × IsIn script.old first }
-    ensures all { (first : State _ _) → IsIn script.old first → OnOk result (EndsIn (meaning H.Shelf D.Disk) script.old.tries (FailsBehind S.take_gives source.old source.new) (S.remaining source.old) (K.contents sink.old) (K.contents sink.new) first script.new Status.Ok) }
-    ensures wrote { (first : State _ _) → IsIn script.old first → IfErr result (λ status. EndsIn (meaning H.Shelf D.Disk) script.old.tries (FailsBehind S.take_gives source.old source.new) (S.remaining source.old) (K.contents sink.old) (K.contents sink.new) first script.new status) }
+    requires state { (first : State _ _) × IsInState script.old first }
+    ensures all { (first : State _ _) → IsInState script.old first → OnOk result (EndsIn (meaning H.Shelf D.Disk) script.old.tries (FailsBehind S.take_gives source.old source.new) (S.remaining source.old) (K.contents sink.old) (K.contents sink.new) first script.new Status.Ok) }
+    ensures wrote { (first : State _ _) → IsInState script.old first → IfErr result (λ status. EndsIn (meaning H.Shelf D.Disk) script.old.tries (FailsBehind S.take_gives source.old source.new) (S.remaining source.old) (K.contents sink.old) (K.contents sink.new) first script.new status) }
     ensures read { OnOk result (IsAtEnd (S.remaining source.new)) }
     ensures whole { OnOk result (IfSome (S.remaining source.old) (λ input. ending_of input ≡ Whole)) }
     ensures fails { IfErr result (λ status. (status ≢ Status.Ok) × (status ≢ Status.Usage)) }

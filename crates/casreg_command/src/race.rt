@@ -5,7 +5,7 @@ ghost use Rattle.std.specs.Io.KnownBytes.{IsAtEnd};
 ghost use Rattle.cas_base.specs.Faults.{Rose};
 ghost use Rattle.cas_lines.specs.Lines.{Ending, ending_of};
 ghost use Rattle.cas_turn.specs.Sitting.{fresh_seats};
-ghost use Rattle.cas_board_steps.specs.Calls.Open.{IsFree};
+ghost use Rattle.cas_board_steps.specs.Calls.Open.{NothingIsOpen};
 ghost use Rattle.cas_board.specs.Passes.{IsPassOf};
 ghost use Rattle.cas_store.specs.Rack.{rack_meaning};
 ghost use Rattle.casreg_command.specs.Causes.{RacedOver, status_of};
@@ -45,7 +45,7 @@ pub(crate) fn race_board<
     requires range { AreOptionsInRange options }
     requires seats { board.seats ≡ options.proposers + 1 }
     requires passes { passes.items ≡ fresh_seats board.id (options.proposers + 1) }
-    requires idle { All (λ pass. IsPassOf board pass × IsFree pass.own) passes.items }
+    requires idle { All (λ pass. IsPassOf board pass × NothingIsOpen pass.own) passes.items }
     requires room { vec_capacity passes ≡ options.proposers + 1 }
     requires fates { vec_len fates.old ≡ 17 }
     ensures raced { RacedOver (rack_meaning D.Disk) options (S.remaining source.old) (K.contents sink.old) (K.contents sink.new) (map F.harm_count fates.old.items) (map F.harm_count fates.new.items) result.0 result.1 }

@@ -43,7 +43,7 @@ use Rattle.cas_model.proofs.Places.{at_one, at_set, own_set, some_is}
 use Rattle.cas_model.proofs.Calls.Safe.{opens_safe, accepts_is}
 use Rattle.cas_model.proofs.Safety.Parts.{idle_at}
 use Rattle.cas_model.proofs.Safety.Steps.{steps_are_safe}
-use Rattle.cas_model_causes.specs.Calls.Causes.{IsTold}
+use Rattle.cas_model_causes.specs.Calls.Causes.{CallIsTold}
 use Rattle.cas_model_causes.specs.Calls.Undisturbed.{LetsPass, PreparesAfresh, AcceptsAfresh, BeginsToAsk}
 use Rattle.cas_model_causes.proofs.Calls.Ends.{told_by, desk_by, ridden}
 use Rattle.cas_model_causes.proofs.Calls.Undisturbed.{begin_to_ask}
@@ -54,16 +54,16 @@ use Rattle.casreg_progress.proofs.Standing.{Shows, opens_in}
 -- ---- how a call stands
 -- it was told nothing yet, or that it is done at this ballot, or that there was no memory, or its desk went down by a fault of its vault
 pub data EndsWell {S V : Type 0} (ballot : Ballot) (view : View S V) (id : ℕ) : Type 0 where
-  untold : IsTold view id None → EndsWell ballot view id
-  done : (state : State) (took : Took) → IsTold view id (Some (answer.Done state took ballot)) → EndsWell ballot view id
-  no_memory : (proposed : Bool) → IsTold view id (Some (answer.NoMemory proposed)) → EndsWell ballot view id
-  goes_down : IsTold view id (Some answer.VaultFault) → (desk : DeskView V) → IsAt view.desks id desk → desk.down ≡ true → EndsWell ballot view id
+  untold : CallIsTold view id None → EndsWell ballot view id
+  done : (state : State) (took : Took) → CallIsTold view id (Some (answer.Done state took ballot)) → EndsWell ballot view id
+  no_memory : (proposed : Bool) → CallIsTold view id (Some (answer.NoMemory proposed)) → EndsWell ballot view id
+  goes_down : CallIsTold view id (Some answer.VaultFault) → (desk : DeskView V) → IsAt view.desks id desk → desk.down ≡ true → EndsWell ballot view id
 
 -- a phase at this ballot has just begun whose members are ready for its requests, or no round is open and the call stands well
 pub data Begun {S V : Type 0} (m : Meaning S V) (era : Era) (ballot : Ballot) (id : ℕ) (view : View S V) : Type 0 where
-  prepares : (round : Round) (age : ℕ) → PreparesAfresh view id round → round.era ≡ era → round.ballot ≡ ballot → IsUnderway m era id age (ask.Prepare round.key round.ballot) view → Shows view id (Some true) → IsTold view id None → IsSafe view → Begun m era ballot id view
+  prepares : (round : Round) (age : ℕ) → PreparesAfresh view id round → round.era ≡ era → round.ballot ≡ ballot → IsUnderway m era id age (ask.Prepare round.key round.ballot) view → Shows view id (Some true) → CallIsTold view id None → IsSafe view → Begun m era ballot id view
   accepts : (prepared : List Reply) (round : Round) (outcome : Outcome) (age : ℕ) → AcceptsAfresh view id prepared round outcome → round.era ≡ era → round.ballot ≡ ballot
-      → IsUnderway m era id age (ask.Accept round.key round.ballot round.era.number round.ride outcome.state) view → Shows view id (Some false) → IsTold view id None → IsSafe view → Begun m era ballot id view
+      → IsUnderway m era id age (ask.Accept round.key round.ballot round.era.number round.ride outcome.state) view → Shows view id (Some false) → CallIsTold view id None → IsSafe view → Begun m era ballot id view
   over : Shows view id None → EndsWell ballot view id → Begun m era ballot id view
 
 -- ---- ages of vaults
@@ -175,7 +175,7 @@ begins {S} {V} m old new id key program safe ready none_open by = subst (λ (e :
     waits : (desk : DeskView V) (messages : List Message) (flow : FlowView) → IsAt by.middle.desks id desk → desk.round ≡ None → calls.Sends by.middle.flow id messages flow → new.flow ≡ flow → (queue_at new.flow id).messages ≡ messages
     waits desk messages flow at none sends is = ap (λ (f : FlowView). (queue_at f id).messages) is ∙ sends.own ∙ ap (λ (l : List Message). l ++ messages) (empty desk at none)
 
-    told_none : (told : Option Answer) → by.call.told ≡ told → new.callers ≡ by.middle.callers → IsTold new id told
+    told_none : (told : Option Answer) → by.call.told ≡ told → new.callers ≡ by.middle.callers → CallIsTold new id told
     told_none told is same = record { caller = by.caller; at_caller = subst (λ (l : List CallerView). IsAt l id by.caller) (sym same) by.at_caller; call = by.call; is_open = by.is_open; told_is = is }
 
     -- each member that is ready lets pass what is asked at the ballot of the next round
@@ -206,7 +206,7 @@ begins {S} {V} m old new id key program safe ready none_open by = subst (λ (e :
     over_at desk now at is none well = over (shows_by by.middle new id desk now None at is (ap opens_in none)) well
 
     stays_by : (told : Answer) → calls.IsNoBeginning told → ((desk : DeskView V) → IsAt by.middle.desks id desk → (desk.round ≡ None) × (told ≡ answer.Down → desk.down ≡ true)) → (told ≡ answer.RecordFull → calls.IsFull by.middle id × (suc by.call.reserved < round_marks era))
-        → IsTold new id (Some told) → EndsWell (next_ballot ready.desk key) new id
+        → CallIsTold new id (Some told) → EndsWell (next_ballot ready.desk key) new id
     stays_by answer.Down no_beginning no_round full is = absurd (not_both _ ((no_round fresh.all_ready.desk fresh.all_ready.at_desk).1 refl) fresh.all_ready.begins.up)
     stays_by answer.RecordFull no_beginning no_round full is = absurd (omega (arith, (full refl).1, ap (λ (c : CallView). c.reserved) fresh.call_is))
     stays_by (answer.NoMemory proposed) no_beginning no_round full is = no_memory proposed is

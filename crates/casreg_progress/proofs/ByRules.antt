@@ -10,11 +10,11 @@ use Rattle.cas_record.specs.declared.answer.Answer.{Answer}
 use Rattle.cas_model.specs.Step.{Step, Begin, RefuseBegin, Turn, RefuseTurn, End, CrashProposer}
 use Rattle.cas_model.specs.View.{Meaning, View, IsAt}
 use Rattle.casreg_script.specs.Calls.Changes as of
-use Rattle.casreg_script.specs.Calls.Changes.{Strikes, IsAccepting, IsMet, IsRefused, ProposesAt, CountsAt}
+use Rattle.casreg_script.specs.Calls.Changes.{Strikes, IsInAcceptPhase, IsMet, IsRefused, ProposesAt, CountsAt}
 use Rattle.casreg_script.specs.Frames.Conditions as conditions
-use Rattle.casreg_script.specs.Frames.Conditions.{Rule, NetworkView, Ruled, Drawn, Decides, Names, verdict_of, verdict_on}
+use Rattle.casreg_script.specs.Frames.Conditions.{Rule, NetworkView, Ruled, Drawn, DecidesVerdict, Names, verdict_of, verdict_on}
 use Rattle.casreg_script.specs.Frames.Strays as strays
-use Rattle.casreg_script.specs.Frames.Strays.{LetsIn}
+use Rattle.casreg_script.specs.Frames.Strays.{LetsStrayIn}
 use Rattle.casreg_script.specs.declared.halt.Halt.{Halt}
 
 -- ---- turns
@@ -51,7 +51,7 @@ pub data IsCutOff {S V : Type 0} (m : Meaning S V) (rules : List Rule) (id : ℕ
 -- it is cut off before it is counted: right after the proposal the proposer halts, if it is to, and its frames join the late ones; or a turn
 -- finds no memory
 pub data IsCutShort {S V : Type 0} (m : Meaning S V) (rules : List Rule) (id : ℕ) (halt : Halt) (old : View S V) : Halt → View S V → Type 0 where
-  halts : {new : View S V} → IsAccepting old id → halt.after_propose ≡ true → Step m old (CrashProposer id) new → IsCutShort m rules id halt old (record halt { after_propose = false }) new
+  halts : {new : View S V} → IsInAcceptPhase old id → halt.after_propose ≡ true → Step m old (CrashProposer id) new → IsCutShort m rules id halt old (record halt { after_propose = false }) new
   no_memory : {new : View S V} → halt.after_propose ≡ false → FailsToTurn m rules id old new → IsCutShort m rules id halt old halt new
 
 -- so it is, or all turns are made and what was accepted is counted
@@ -105,11 +105,11 @@ names_by : (rules : List Rule) (late : ℕ) (by next : NetworkView) (place : Opt
 names_by rules late by next place is conditions.none_by_rules = (refl, is)
 names_by rules late by next place is conditions.by_draw_of_late = absurd (cc is)
 
-lets_by : {S V : Type 0} (m : Meaning S V) (rules : List Rule) (by next : NetworkView) (old new : View S V) → by ≡ Ruled rules → LetsIn m by old next new → (new ≡ old) × (next ≡ Ruled rules)
+lets_by : {S V : Type 0} (m : Meaning S V) (rules : List Rule) (by next : NetworkView) (old new : View S V) → by ≡ Ruled rules → LetsStrayIn m by old next new → (new ≡ old) × (next ≡ Ruled rules)
 lets_by m rules by next old new is (strays.none names) = (refl, (names_by rules _ by next None is names).1)
 lets_by m rules by next old new is (strays.one place answer names strays_in) = absurd (cc (names_by rules _ by next (Some place) is names).0)
 
-decides_by : (rules : List Rule) (head : Leg × ℕ) (by next : NetworkView) (again : Bool) (verdict : Verdict) → by ≡ Ruled rules → Decides head by again verdict next → (verdict ≡ verdict_of rules head.0 head.1) × (next ≡ Ruled rules)
+decides_by : (rules : List Rule) (head : Leg × ℕ) (by next : NetworkView) (again : Bool) (verdict : Verdict) → by ≡ Ruled rules → DecidesVerdict head by again verdict next → (verdict ≡ verdict_of rules head.0 head.1) × (next ≡ Ruled rules)
 unfolding rules_in
 decides_by rules head by next again verdict is conditions.by_rules = (ap (λ (n : NetworkView). verdict_of (rules_in n) head.0 head.1) is, is)
 decides_by rules head by next again verdict is conditions.by_draw = absurd (cc is)

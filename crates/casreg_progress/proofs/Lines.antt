@@ -12,7 +12,7 @@ use Rattle.cas_model.specs.Calls.Step.{HasRoom, WasMet, round_marks}
 use Rattle.cas_model.specs.View.{Meaning, View, IsAt, era_at}
 use Rattle.cas_model.proofs.Places.{at_one, some_is}
 use Rattle.cas_model.proofs.Safety.Parts.{low_at}
-use Rattle.cas_model_causes.specs.Calls.Causes.{IsTold}
+use Rattle.cas_model_causes.specs.Calls.Causes.{CallIsTold}
 use Rattle.cas_model_causes.proofs.Calls.Ends.{desk_by}
 use Rattle.casreg_progress.proofs.ByRules as script
 use Rattle.casreg_script.specs.Calls.Changes as refusals
@@ -43,7 +43,7 @@ round_ends m era ballot rules id after view new grounds begun (script.proposes {
 
 -- ---- the rounds
 -- a call that stands well met nothing
-told_met : {S V : Type 0} (view : View S V) (id : ℕ) → IsMet view id → (told : Option Answer) → IsTold view id told → WasMet told
+told_met : {S V : Type 0} (view : View S V) (id : ℕ) → IsMet view id → (told : Option Answer) → CallIsTold view id told → WasMet told
 told_met view id met told is = subst WasMet (told_one view id met.of_call.call.told told (record { caller = met.of_call.caller; at_caller = met.of_call.at_caller; call = met.of_call.call; is_open = met.of_call.is_open; told_is = refl }) is) met.met
 
 not_met : {S V : Type 0} (ballot : Ballot) (view : View S V) (id : ℕ) → EndsWell ballot view id → IsMet view id → ⊥
@@ -76,10 +76,10 @@ end_down {S} {V} m old new id told desk by at down = (
 answered : {S V : Type 0} (m : Meaning S V) (ballot : Ballot) (old new : View S V) (id : ℕ) (answer_is : Answer) → StepEnd m old id answer_is new → EndsWell ballot old id → ((desk : DeskView V) → IsAt new.desks id desk → desk.down ≡ false) → IsDoneOrNoMemory ballot answer_is
 answered {S} {V} m ballot old new id answer_is by well up = by_end well
   where
-    told : IsTold old id (Some answer_is)
+    told : CallIsTold old id (Some answer_is)
     told = record { caller = by.of_call.caller; at_caller = by.of_call.at_caller; call = by.of_call.call; is_open = by.of_call.is_open; told_is = by.ends.told }
 
-    as_told : (other : Answer) → IsTold old id (Some other) → other ≡ answer_is
+    as_told : (other : Answer) → CallIsTold old id (Some other) → other ≡ answer_is
     as_told other is = some_is (told_one old id (Some other) (Some answer_is) is told)
 
     by_end : EndsWell ballot old id → IsDoneOrNoMemory ballot answer_is

@@ -13,7 +13,7 @@ use Rattle.cas_ballot.proofs.CountLemmas.{length-within}
 use Rattle.cas_cache.specs.declared.ready.Ready.{Ready}
 use Rattle.cas_cache.specs.Entries.{promise_at}
 use Rattle.cas_acceptor.specs.Acceptor.{AcceptorView}
-use Rattle.cas_lines.specs.Command.{Asked}
+use Rattle.cas_lines.specs.Command.{AskedChange}
 use Rattle.cas_proposer.specs.Desk.{DeskView}
 use Rattle.cas_quorum.specs.declared.era.Era.{Era}
 use Rattle.cas_quorum.specs.Era.{majority_era}
@@ -108,7 +108,7 @@ caller_set callers id fresh place caller at = elim (but_set callers id new_calle
   | inr other ↦ fresh place caller other.1
 ]
 
-line_ready : {S V : Type 0} (m : Meaning S V) (members : List ℕ) (world : View S V) (asked : Asked) (desk : DeskView V) → IsOpening m members world → HasPlaces world → IsAt world.desks asked.caller desk → counter_of desk.vault < 2 ^ 48 → AreUp (era_at world asked.caller) world asked.caller → IsReadyLine m (opening_state world) asked
+line_ready : {S V : Type 0} (m : Meaning S V) (members : List ℕ) (world : View S V) (asked : AskedChange) (desk : DeskView V) → IsOpening m members world → HasPlaces world → IsAt world.desks asked.caller desk → counter_of desk.vault < 2 ^ 48 → AreUp (era_at world asked.caller) world asked.caller → IsReadyLine m (opening_state world) asked
 line_ready {S} {V} m members world asked desk opens places at low up = record {
   delivers = λ frame. refl;
   goes_on = at_replicate 17 asked.caller nowhere (omega (arith, (opens.desks asked.caller desk at).0, opens.few));

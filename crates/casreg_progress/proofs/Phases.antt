@@ -34,7 +34,7 @@ use Rattle.cas_model.specs.View.{Meaning, View, CallView, CallerView, IsAt}
 use Rattle.cas_model.proofs.Places.{at_one, some_is}
 use Rattle.cas_model.proofs.Calls.Safe.{accepts_is}
 use Rattle.cas_model.proofs.Safety.Steps.{steps_are_safe}
-use Rattle.cas_model_causes.specs.Calls.Causes.{IsTold}
+use Rattle.cas_model_causes.specs.Calls.Causes.{CallIsTold}
 use Rattle.cas_model_causes.specs.Calls.Undisturbed as undisturbed
 use Rattle.cas_model_causes.specs.Calls.Undisturbed.{LetsPass, AcceptsAfresh, ProposesUndisturbed}
 use Rattle.cas_model_causes.proofs.Calls.Ends.{told_by, desk_by}
@@ -67,7 +67,7 @@ pub has_grounds : (era : Era) (rules : List Rule) → IsSized era → IsMemberSe
 has_grounds era rules sized prep acc delivers = record { delivers = delivers; prep = all_quorum era.need_prep era.prep prep sized.prep; acc = all_quorum era.need_acc era.acc acc sized.acc }
 
 -- ---- what is told
-pub told_one : {S V : Type 0} (view : View S V) (id : ℕ) (a b : Option Answer) → IsTold view id a → IsTold view id b → a ≡ b
+pub told_one : {S V : Type 0} (view : View S V) (id : ℕ) (a b : Option Answer) → CallIsTold view id a → CallIsTold view id b → a ≡ b
 told_one view id a b is other =
     let same : is.call ≡ other.call = some_is (sym is.is_open ∙ ap (λ (c : CallerView). c.call) (at_one view.callers id is.at_caller other.at_caller) ∙ other.is_open) in
     sym is.told_is ∙ ap (λ (c : CallView). c.told) same ∙ other.told_is
@@ -99,7 +99,7 @@ turned_safe m rules id old new (script.one_more {mid = mid} frame turned at by) 
 -- ---- the prepare phase
 -- the accept phase begins, and each member that let the prepares pass lets its accepts pass
 goes_on : {S V : Type 0} (m : Meaning S V) (era : Era) (ballot : Ballot) (mid new : View S V) (id age : ℕ) (replies : List Reply) (desk next : DeskView V) (seen round turned : Round) (outcome : Outcome) (ride : Option Ballot) (other : Outcome) → IsSafe new → round.era ≡ era → round.ballot ≡ ballot
-    → turned ≡ record round { phase = turned.phase; met = turned.met; ride = turned.ride } → AcceptsAfresh new id replies turned outcome → IsTold new id None → IsUnderway m era id age (ask.Prepare round.key round.ballot) mid
+    → turned ≡ record round { phase = turned.phase; met = turned.met; ride = turned.ride } → AcceptsAfresh new id replies turned outcome → CallIsTold new id None → IsUnderway m era id age (ask.Prepare round.key round.ballot) mid
     → new.acceptors ≡ mid.acceptors → IsAt mid.desks id desk → new.desks ≡ slice_set mid.desks id next → (kept_of next.vault).age ≡ (kept_of desk.vault).age
     → (queue_at new.flow id).messages ≡ calls.accepts_to id (kept_of desk.vault).age seen.key seen.ballot seen.era.number ride other.state seen.era.acc → Begun m era ballot id new
 goes_on {S} {V} m era ballot mid new id age replies desk next seen round turned outcome ride other safe era_is ballot_is same afresh told was acceptors at desks kept sent =
@@ -176,7 +176,7 @@ prepare_ended m era ballot rules id halt view new grounds (over shows well) ends
 counted : {S V : Type 0} (m : Meaning S V) (era : Era) (ballot : Ballot) (rules : List Rule) (id : ℕ) (view mid new : View S V) → Grounds era rules → Begun m era ballot id view → Turned m rules id view mid → step.StepCount m mid id new → StillUp era new → EndsWell ballot new id
 counted {S} {V} m era ballot rules id view mid new grounds (accepts prepared round outcome age afresh era_is ballot_is underway shows told safe) turned by up =
     done outcome.state outcome.took
-    (subst (λ (b : Ballot). IsTold new id (Some (answer.Done outcome.state outcome.took b))) ballot_is (accepts_are_done (without_faults m) view mid new id era.acc prepared turns.replies round outcome turns.steps safe afresh (subst (λ (e : Era). holds_acc e era.acc ≡ true) (sym era_is) grounds.acc) turns.undisturbed (faultless_count m mid new id by)))
+    (subst (λ (b : Ballot). CallIsTold new id (Some (answer.Done outcome.state outcome.took b))) ballot_is (accepts_are_done (without_faults m) view mid new id era.acc prepared turns.replies round outcome turns.steps safe afresh (subst (λ (e : Era). holds_acc e era.acc ≡ true) (sym era_is) grounds.acc) turns.undisturbed (faultless_count m mid new id by)))
   where
     question : Ask
     question = ask.Accept round.key round.ballot round.era.number round.ride outcome.state

@@ -12,10 +12,10 @@ use Rattle.cas_model.proofs.Safety.Steps.{steps_are_safe}
 use Rattle.casreg_script.specs.Calls.Changes as changes
 use Rattle.casreg_script.specs.Calls.Changes.{Turned, FailsToTurn, EndsPrepareBy, IsAcceptedBy, IsRoundBy, AreRounds, AreRoundsBy, IsChange}
 use Rattle.casreg_script.specs.Collection.Collections as collections
-use Rattle.casreg_script.specs.Collection.Collections.{EndsReading, EndsVoting, HasRounds, HasTaken, IsCalled, IsCollection, TakesStep}
+use Rattle.casreg_script.specs.Collection.Collections.{EndsReading, EndsVoting, HasRounds, HasTaken, IsCalled, IsCollection, TakesCollectStep}
 use Rattle.casreg_script.specs.Frames.Conditions.{NetworkView}
 use Rattle.casreg_script.specs.Events as events
-use Rattle.casreg_script.specs.Events.{CrashesAcceptor, RestartsAcceptor, RestartsProposer, StraysIn}
+use Rattle.casreg_script.specs.Events.{CrashesAcceptor, RestartsAcceptor, RestartsProposer, AnswersStray}
 use Rattle.cas_change.specs.declared.program.Act.TheVariants.{Keep}
 use Rattle.cas_change.specs.declared.program.Guard.TheVariants.{Always}
 use Rattle.cas_lines.specs.Command.{one}
@@ -31,7 +31,7 @@ use Rattle.casreg_script.specs.Exchanges.Probes as probes
 use Rattle.casreg_script.specs.Exchanges.Probes.{IsProbe}
 use Rattle.casreg_script.specs.Script as script
 use Rattle.casreg_script.specs.Frames.Strays as strays
-use Rattle.casreg_script.specs.Frames.Strays.{LetsIn}
+use Rattle.casreg_script.specs.Frames.Strays.{LetsStrayIn}
 use Rattle.casreg_script.specs.Script.{State, LineAnswer, RunsEvent, IsAnswered}
 use Rattle.casreg_script.specs.declared.halt.Halt.{Halt}
 use Rattle.casreg_progress.specs.Runs.{LinesKeepSafe}
@@ -51,13 +51,13 @@ by_step : {S V : Type 0} (m : Meaning S V) (old new : View S V) (event : Event) 
 by_step m old new event by was = steps_are_safe m old event new was by
 
 -- ---- a late frame
-stray_stays : {S V : Type 0} (m : Meaning S V) (old new : View S V) (index : ℕ) (answer : EventAnswer) → StraysIn m old index answer new → Stays old new
+stray_stays : {S V : Type 0} (m : Meaning S V) (old new : View S V) (index : ℕ) (answer : EventAnswer) → AnswersStray m old index answer new → Stays old new
 stray_stays m old new index answer (events.absent none) = same old
 stray_stays m old new index answer (events.strays by) = by_step m old new (step.Stray index) by
 stray_stays m old new index answer (events.full low is) = same old
 stray_stays m old new index answer (events.no_memory low by) = by_step m old new step.RefuseStray by
 
-lets_stays : {S V : Type 0} (m : Meaning S V) {net next : NetworkView} (old new : View S V) → LetsIn m net old next new → Stays old new
+lets_stays : {S V : Type 0} (m : Meaning S V) {net next : NetworkView} (old new : View S V) → LetsStrayIn m net old next new → Stays old new
 lets_stays m old new (strays.none names) = same old
 lets_stays m old new (strays.one place answer names by) = stray_stays m old new place answer by
 
@@ -188,7 +188,7 @@ called_stays {S} {V} m tries {net} {next} key halt after old new by = by_end by
     by_end (collections.over has none) = has_rounds new after has
     by_end (collections.ended {told = told} answer has ends) = both old told new (has_rounds told after has) (by_step m told new (step.EndCollect answer) ends)
 
-takes_stays : {S V : Type 0} (m : Meaning S V) {net next : NetworkView} (old new : View S V) → TakesStep m net old next new → Stays old new
+takes_stays : {S V : Type 0} (m : Meaning S V) {net next : NetworkView} (old new : View S V) → TakesCollectStep m net old next new → Stays old new
 takes_stays m old new (collections.gathers by) = by_step m old new step.GatherRound by
 takes_stays m old new (collections.renews proposer by) = by_step m old new (step.Renew proposer) by
 takes_stays m old new (collections.asks by) = asks_stays m step.AskCollect step.GatherCollect old new by

@@ -2,7 +2,7 @@
 use Rattle.std.specs.Prelude.{ℕ}
 use Rattle.cas_base.specs.Faults.{Rose}
 use Rattle.cas_acceptor.specs.Acceptor.{AcceptorView}
-use Rattle.cas_lines.specs.Command.{Asked}
+use Rattle.cas_lines.specs.Command.{AskedChange}
 use Rattle.cas_proposer.specs.Desk.{DeskView}
 use Rattle.cas_quorum.specs.declared.era.Era.{Era}
 use Rattle.cas_record.specs.declared.answer.Answer.{Answer}
@@ -18,4 +18,4 @@ pub record HasNoFault {S V : Type 0} (m : Meaning S V) (era : Era) (old new : Vi
 
 -- A line without a fault, whose proposer is to halt nowhere, leaves up who was up: whatever its change is answered.
 abbrev pub FaultlessLinesStayUp : {S V : Type 0} → Meaning S V → Type 0
-FaultlessLinesStayUp {S} {V} m = (tries : ℕ) (era : Era) (old new : State S V) (asked : Asked) (answer : Answer) → IsAt old.halts asked.caller nowhere → AreUp era old.world asked.caller → RunsChange m tries old asked answer new → HasNoFault m era old.world new.world asked.caller → AreUp era new.world asked.caller
+FaultlessLinesStayUp {S} {V} m = (tries : ℕ) (era : Era) (old new : State S V) (asked : AskedChange) (answer : Answer) → IsAt old.halts asked.caller nowhere → AreUp era old.world asked.caller → RunsChange m tries old asked answer new → HasNoFault m era old.world new.world asked.caller → AreUp era new.world asked.caller

@@ -8,7 +8,7 @@ use Rattle.cas_cache.specs.Entries.{promise_at}
 use Rattle.cas_fate.specs.declared.fate.Verdict.TheVariants.{Deliver}
 use Rattle.cas_flow.specs.declared.message.Message.{Message}
 use Rattle.cas_acceptor.specs.Acceptor.{AcceptorView}
-use Rattle.cas_lines.specs.Command.{Asked}
+use Rattle.cas_lines.specs.Command.{AskedChange}
 use Rattle.cas_proposer.specs.Desk.{DeskView}
 use Rattle.cas_quorum.specs.declared.era.Era.{Era}
 use Rattle.cas_record.specs.declared.answer.Answer.{Answer}
@@ -62,7 +62,7 @@ pub record AreReady {S V : Type 0} (m : Meaning S V) (view : View S V) (id : ℕ
 -- ---- the line
 -- Nothing stands against the change of a line: each frame is delivered, its proposer is to halt nowhere, all are ready for it, its caller
 -- has no open call, and the marks of its round fit.
-pub record IsReadyLine {S V : Type 0} (m : Meaning S V) (old : State S V) (asked : Asked) : Type 0 where
+pub record IsReadyLine {S V : Type 0} (m : Meaning S V) (old : State S V) (asked : AskedChange) : Type 0 where
   pub delivers : (frame : Message) → verdict_on old.rules frame ≡ Deliver
   pub goes_on : IsAt old.halts asked.caller nowhere
   pub all_ready : AreReady m old.world asked.caller asked.key
@@ -83,5 +83,5 @@ IsDoneOrNoMemory ballot other = ⊥
 -- A line whose change nothing stands against is answered done, at the ballot of its proposer's next round, but where no memory is found:
 -- whatever tries it has, if the members of the era and its proposer's desk are up after it.
 abbrev pub ReadyLinesAreDone : {S V : Type 0} → Meaning S V → Type 0
-ReadyLinesAreDone {S} {V} m = (tries : ℕ) (old new : State S V) (asked : Asked) (answer : Answer) → IsSafe old.world → (ready : IsReadyLine m old asked) → RunsChange m tries old asked answer new → AreUp (era_at old.world asked.caller) new.world asked.caller
+ReadyLinesAreDone {S} {V} m = (tries : ℕ) (old new : State S V) (asked : AskedChange) (answer : Answer) → IsSafe old.world → (ready : IsReadyLine m old asked) → RunsChange m tries old asked answer new → AreUp (era_at old.world asked.caller) new.world asked.caller
     → IsDoneOrNoMemory (next_ballot ready.all_ready.desk asked.key) answer

@@ -11,7 +11,7 @@ use Rattle.cas_board.specs.Changes.{IsCounted}
 use Rattle.cas_board.specs.Passes.{IsPassOf}
 use Rattle.cas_lines.specs.declared.lines.LineFault.{LineFault}
 use Rattle.casreg_tasks.specs.Tasks.{AreAllLines, bad_lines, tasks_of}
-use Rattle.casreg_tasks.specs.Texts.{WroteFront, WroteText}
+use Rattle.casreg_tasks.specs.Texts.{WroteFrontOf, WroteText}
 use Rattle.casreg_tasks.specs.declared.histories.HistoryFault.{HistoryFault}
 use Rattle.casreg_race.specs.declared.race.RaceFault.TheVariants as fault
 use Rattle.casreg_race.specs.declared.told.Told.{Told}
@@ -63,8 +63,8 @@ module _ {V : Type 0} (board : Turning) (proposers : ℕ) (passes : List (Sittin
       pub wrote_whole : WroteText (IsRaceText bad answers (reverse marks)) old new → WroteRace tells tries proposers input old new harms harms_then marks (Ok tt)
       wrote_whole wrote = whole lines answers all (raced_whole tells tries lines harms harms_then answers raced) (subst (λ (l : List ℕ). WroteText (IsRaceText l answers (reverse marks)) old new) bad_are wrote)
 
-      pub wrote_front : (why : HistoryFault) → WroteFront (IsRaceText bad answers (reverse marks)) old new → WroteRace tells tries proposers input old new harms harms_then marks (Err (fault.CutOff why))
-      wrote_front why wrote = cut_off why lines answers all (raced_whole tells tries lines harms harms_then answers raced) (subst (λ (l : List ℕ). WroteFront (IsRaceText l answers (reverse marks)) old new) bad_are wrote)
+      pub wrote_front : (why : HistoryFault) → WroteFrontOf (IsRaceText bad answers (reverse marks)) old new → WroteRace tells tries proposers input old new harms harms_then marks (Err (fault.CutOff why))
+      wrote_front why wrote = cut_off why lines answers all (raced_whole tells tries lines harms harms_then answers raced) (subst (λ (l : List ℕ). WroteFrontOf (IsRaceText l answers (reverse marks)) old new) bad_are wrote)
 
     pub wrote_nothing : (tells : Type 0) (tries : ℕ) (input held : Option (List ℕ)) (harms harms_then : List ℕ) (why : LineFault) → passes ≡ fresh_seats board.id (proposers + 1) → harms_then ≡ harms → WroteRace tells tries proposers input held held harms harms_then marks (Err (fault.NotRun why))
     wrote_nothing tells tries input held harms harms_then why fresh same = not_run why (none_raced fresh) same refl

@@ -10,13 +10,13 @@ use Rattle.cas_model.proofs.Safety.Parts.{low_at, at_low}
 use Rattle.cas_record.specs.declared.mark.Mark.{Mark}
 use Rattle.cas_turn.specs.Sitting.{Sitting, TurnId, Turning, fresh_seat, fresh_seats}
 use Rattle.cas_board_steps.specs.Mine.{mine, losses}
-use Rattle.cas_board_steps.specs.Calls.Open.{IsFree, rescanned_in}
+use Rattle.cas_board_steps.specs.Calls.Open.{NothingIsOpen, rescanned_in}
 use Rattle.cas_board.specs.Changes.{IsCounted}
 use Rattle.cas_board.specs.Passes.{IsPassOf}
 use Rattle.casreg_tasks.specs.Tasks.{AreParted, tasks_of}
 use Rattle.casreg_tasks.specs.declared.tasks.Task.{Task}
 use Rattle.casreg_race.specs.declared.told.Told.{Told}
-use Rattle.casreg_race.specs.Runs.{IsMeantFor, IsReady, HasRoomFor, HasRun, HasRaced, ArePassesOf, AreRaced}
+use Rattle.casreg_race.specs.Runs.{IsMeantFor, IsReady, HasRoomForAnswers, HasRun, HasRaced, ArePassesOf, AreRaced}
 use Rattle.casreg_race.proofs.Meant.{all_meant}
 use Rattle.cas_board.proofs.Passes.{still_pass}
 
@@ -69,9 +69,9 @@ seats_count V board proposers =
 pub count_of : {V : Type 0} (board : TurnId) (proposers : ℕ) (passes : List (Sitting V Mark)) → passes ≡ fresh_seats board (proposers + 1) → length passes ≡ suc proposers
 count_of {V} board proposers passes fresh = ap (λ (l : List (Sitting V Mark)). length l) fresh ∙ seats_count V board proposers
 
-module _ {V : Type 0} (board : Turning) (proposers : ℕ) (passes : List (Sitting V Mark)) (fresh : passes ≡ fresh_seats board.id (proposers + 1)) (idle : All (λ pass. IsPassOf board pass × IsFree pass.own) passes) where
-  pub idle_at : (n : ℕ) (pass : Sitting V Mark) → slice_get passes n ≡ Some pass → IsPassOf board pass × IsFree pass.own
-  idle_at n pass at = subst (λ (p : Sitting V Mark). IsPassOf board p × IsFree p.own) (get_or_from_slice_get passes n pass pass at) (idle n pass (low_at passes n at))
+module _ {V : Type 0} (board : Turning) (proposers : ℕ) (passes : List (Sitting V Mark)) (fresh : passes ≡ fresh_seats board.id (proposers + 1)) (idle : All (λ pass. IsPassOf board pass × NothingIsOpen pass.own) passes) where
+  pub idle_at : (n : ℕ) (pass : Sitting V Mark) → slice_get passes n ≡ Some pass → IsPassOf board pass × NothingIsOpen pass.own
+  idle_at n pass at = subst (λ (p : Sitting V Mark). IsPassOf board p × NothingIsOpen p.own) (get_or_from_slice_get passes n pass pass at) (idle n pass (low_at passes n at))
 
   pub number_at : (n : ℕ) (pass : Sitting V Mark) → slice_get passes n ≡ Some pass → pass.number ≡ n
   number_at n pass at = ap (λ (s : Sitting V Mark). s.number) (fresh_at board.id (proposers + 1) n pass (subst (λ (l : List (Sitting V Mark)). slice_get l n ≡ Some pass) fresh at))
@@ -93,11 +93,11 @@ module _ {R Asks Says : Type 0} (tasks_in : R → Asks) (told_in : R → Says) (
   told_at : (n : ℕ) (r : R) → slice_get racers n ≡ Some r → slice_get told n ≡ Some (told_in r)
   told_at n r at = subst (λ (l : List Says). slice_get l n ≡ Some (told_in r)) told_are (map_at told_in racers n r at)
 
-  room_at : ((n : ℕ) (of_caller : Asks) (of_answers : Says) → n < length tasks → HasRoomFor (asks (slice_index_or tasks n of_caller)) (says (slice_index_or told n of_answers)) (room (slice_index_or told n of_answers)))
-      → (n : ℕ) (r : R) → slice_get racers n ≡ Some r → HasRoomFor (asks (tasks_in r)) (says (told_in r)) (room (told_in r))
+  room_at : ((n : ℕ) (of_caller : Asks) (of_answers : Says) → n < length tasks → HasRoomForAnswers (asks (slice_index_or tasks n of_caller)) (says (slice_index_or told n of_answers)) (room (slice_index_or told n of_answers)))
+      → (n : ℕ) (r : R) → slice_get racers n ≡ Some r → HasRoomForAnswers (asks (tasks_in r)) (says (told_in r)) (room (told_in r))
   room_at rooms n r at =
-      subst (λ (l : Asks). HasRoomFor (asks l) (says (told_in r)) (room (told_in r))) (get_or_from_slice_get tasks n (tasks_in r) (tasks_in r) (tasks_at n r at))
-      (subst (λ (l : Says). HasRoomFor (asks (slice_index_or tasks n (tasks_in r))) (says l) (room l)) (get_or_from_slice_get told n (told_in r) (told_in r) (told_at n r at))
+      subst (λ (l : Asks). HasRoomForAnswers (asks l) (says (told_in r)) (room (told_in r))) (get_or_from_slice_get tasks n (tasks_in r) (tasks_in r) (tasks_at n r at))
+      (subst (λ (l : Says). HasRoomForAnswers (asks (slice_index_or tasks n (tasks_in r))) (says l) (room l)) (get_or_from_slice_get told n (told_in r) (told_in r) (told_at n r at))
       (rooms n (tasks_in r) (told_in r) (low_at tasks n (tasks_at n r at))))
 
   module _ (proposers : ℕ) (lines : List (List ℕ)) (bad : List ℕ) (parted : AreParted proposers lines bad (map asks tasks)) where
@@ -106,8 +106,8 @@ module _ {R Asks Says : Type 0} (tasks_in : R → Asks) (told_in : R → Says) (
         let here : slice_get (map asks tasks) n ≡ Some (asks (tasks_in r)) = map_at asks tasks n (tasks_in r) (tasks_at n r at) in
         sym (get_or_from_slice_get (map asks tasks) n (asks (tasks_in r)) [] here) ∙ parted.tasks_are n (let low = low_at (map asks tasks) n here in let callers = parted.callers in omega (arith, low, callers))
 
-    pub ready_all : {V : Type 0} (pass_of : R → Sitting V Mark) (board : Turning) (passes : List (Sitting V Mark)) → map pass_of racers ≡ passes → passes ≡ fresh_seats board.id (proposers + 1) → All (λ pass. IsPassOf board pass × IsFree pass.own) passes
-        → ((n : ℕ) (of_caller : Asks) (of_answers : Says) → n < length tasks → HasRoomFor (asks (slice_index_or tasks n of_caller)) (says (slice_index_or told n of_answers)) (room (slice_index_or told n of_answers)))
+    pub ready_all : {V : Type 0} (pass_of : R → Sitting V Mark) (board : Turning) (passes : List (Sitting V Mark)) → map pass_of racers ≡ passes → passes ≡ fresh_seats board.id (proposers + 1) → All (λ pass. IsPassOf board pass × NothingIsOpen pass.own) passes
+        → ((n : ℕ) (of_caller : Asks) (of_answers : Says) → n < length tasks → HasRoomForAnswers (asks (slice_index_or tasks n of_caller)) (says (slice_index_or told n of_answers)) (room (slice_index_or told n of_answers)))
         → All (λ r. IsReady board (pass_of r) (asks (tasks_in r)) (says (told_in r)) (room (told_in r))) racers
     ready_all {V} pass_of board passes passes_are fresh idle rooms k d low =
         let r = slice_index_or racers k d in

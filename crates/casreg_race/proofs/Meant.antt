@@ -6,7 +6,7 @@ use Rattle.cas_base.proofs.Bools.{true_or_false}
 use Rattle.cas_change_text.specs.declared.refusal.TextRefusal.{TextRefusal}
 use Rattle.cas_model.proofs.Places.{some_is}
 use Rattle.cas_record.proofs.Tests.{nat_same}
-use Rattle.cas_lines.specs.Command.{Asked, change_of}
+use Rattle.cas_lines.specs.Command.{AskedChange, change_of}
 use Rattle.cas_lines.specs.declared.command.Command.{Command}
 use Rattle.cas_lines.specs.declared.command.Command.TheVariants.{Join, Leave, Collect, Probe}
 use Rattle.casreg_tasks.specs.Tasks.{race_line_in, task_of, asked_in, onto_tasks, tasks_of}
@@ -17,7 +17,7 @@ use Rattle.casreg_race.specs.Runs.{IsMeantFor}
 abbrev IsMeant : ℕ × Task → Type 0
 IsMeant asked = IsMeantFor asked.0 asked.1
 
-of_change : (o : Option Asked) (asked : ℕ × Task) → option_map (λ (a : Asked). (a.caller, task.Change a.key a.program)) o ≡ Some asked → IsMeant asked
+of_change : (o : Option AskedChange) (asked : ℕ × Task) → option_map (λ (a : AskedChange). (a.caller, task.Change a.key a.program)) o ≡ Some asked → IsMeant asked
 of_change None asked is = absurd (cc is)
 of_change (Some a) asked is = subst IsMeant (some_is is) tt
 

@@ -12,10 +12,10 @@ use Rattle.cas_model.specs.Exchanges.Step.{told_marks}
 use Rattle.cas_turn.specs.Seen.{Begins}
 use Rattle.cas_turn.specs.Sitting.{Sitting, Turning}
 use Rattle.cas_turn.proofs.SeenLemmas.{begins_both}
-use Rattle.cas_board_steps.specs.Calls.Deeds.{IsRefusal}
+use Rattle.cas_board_steps.specs.Calls.Deeds.{IsRefusalBehind}
 use Rattle.cas_board_steps.specs.Eras.Counting.{EntersEras}
-use Rattle.cas_board_steps.specs.Mine.{mine, losses, done_calls, GoesOn}
-use Rattle.cas_board_steps.specs.Calls.Open.{IsFree, rescanned_in}
+use Rattle.cas_board_steps.specs.Mine.{mine, losses, done_calls, FrontGoesOn}
+use Rattle.cas_board_steps.specs.Calls.Open.{NothingIsOpen, rescanned_in}
 use Rattle.cas_board_steps.specs.Exchanges.Orders.{IsSilentAtMost, IsTrueProbe}
 use Rattle.cas_board_steps.proofs.Eras.Counting.{done_append, risen_by}
 use Rattle.cas_board_steps.proofs.Fronts.{goes_on_then}
@@ -28,10 +28,10 @@ use Rattle.casreg_tasks.specs.declared.tasks.Task.{Task}
 use Rattle.casreg_tasks.specs.declared.tasks.Task.TheVariants as task
 use Rattle.casreg_race.specs.declared.told.Told.{Told}
 use Rattle.casreg_race.specs.declared.told.Told.TheVariants as said
-use Rattle.casreg_race.specs.Runs.{asked_by, IsOrderMark, IsFoundIn, AnswersOrder, IsReady, IsChange, IsOperated, IsAnswered, CountsOn, IsCountedOn, HasRun, HasRunTask, HasRaced}
+use Rattle.casreg_race.specs.Runs.{asked_by, IsOrderMark, ProbeIsTrue, AnswersOrder, IsReady, ChangeIsAnswered, IsOperated, TaskIsAnswered, CountsOn, IsCountedOn, HasRun, HasRunTask, HasRaced}
 use Rattle.casreg_race.specs.Runs as runs
-use Rattle.casreg_race.specs.Runs.IsChange.{is_called, is_turned_away}
-use Rattle.casreg_race.specs.Runs.IsAnswered.{is_change, is_operated}
+use Rattle.casreg_race.specs.Runs.ChangeIsAnswered.{is_called, is_turned_away}
+use Rattle.casreg_race.specs.Runs.TaskIsAnswered.{is_change, is_operated}
 use Rattle.casreg_race.specs.Runs.HasRun.{nothing, one_more}
 
 -- ---- longer records
@@ -39,11 +39,11 @@ pub length_begins : {I : Type 0} (seen items : List I) → Begins seen items →
 length_begins {I} seen items begins = let whole : length (seen ++ begins.behind) ≡ length items = ap (λ (l : List I). length l) begins.whole in let both = length-append seen begins.behind in omega (arith, whole, both)
 
 -- what is refused before a record is refused before a longer one
-refused_longer : (made longer : ℕ) (why : Answer) → made ≤ longer → IsRefusal made why → IsRefusal longer why
+refused_longer : (made longer : ℕ) (why : Answer) → made ≤ longer → IsRefusalBehind made why → IsRefusalBehind longer why
 refused_longer made longer why more (inl full) = let long = full.1 in inl (full.0, omega (arith, more, long))
 refused_longer made longer why more (inr none) = inr none
 
-changed_longer : (made longer tries n : ℕ) (key : List ℕ) (program : List Clause) (answered : Answer) (own : List Mark) → made ≤ longer → IsChange made tries n key program answered own → IsChange longer tries n key program answered own
+changed_longer : (made longer tries n : ℕ) (key : List ℕ) (program : List Clause) (answered : Answer) (own : List Mark) → made ≤ longer → ChangeIsAnswered made tries n key program answered own → ChangeIsAnswered longer tries n key program answered own
 changed_longer made longer tries n key program answered own more (is_called call rounds between of_call tried) = is_called call rounds between of_call tried
 changed_longer made longer tries n key program answered own more (is_turned_away refusal) = is_turned_away (refused_longer made longer answered more refusal)
 
@@ -52,7 +52,7 @@ operated_longer made longer tries asked answered own more (runs.is_told before a
 operated_longer made longer tries asked answered own more (runs.is_not_begun why refusal stopped) = runs.is_not_begun why (refused_longer made longer why more refusal) stopped
 
 module _ (tells : Type 0) (all later : List Mark) (begins : Begins all later) (tries n : ℕ) where
-  found_later : {earlier own : List Mark} {answered : OpAnswer} → IsFoundIn tells all n earlier own answered → IsFoundIn tells later n earlier own answered
+  found_later : {earlier own : List Mark} {answered : OpAnswer} → ProbeIsTrue tells all n earlier own answered → ProbeIsTrue tells later n earlier own answered
   found_later found = record { before = found.before; front = found.front; goes_on = found.goes_on; begins = begins_both found.front all later found.begins begins; made = found.made; silent = found.silent; truly = found.truly }
 
   answers_later : (earlier own : List Mark) (asked : Asked) (answered : OpAnswer) → AnswersOrder tells all n earlier own asked answered → AnswersOrder tells later n earlier own asked answered
@@ -61,7 +61,7 @@ module _ (tells : Type 0) (all later : List Mark) (begins : Begins all later) (t
   answers_later earlier own (ask.Collect key) answered is = is
   answers_later earlier own (ask.Probe key) answered is = (is.0, found_later is.1)
 
-  answered_later : {earlier : List Mark} {asked : Task} {told : Told} {own : List Mark} → IsAnswered tells all tries n earlier asked told own → IsAnswered tells later tries n earlier asked told own
+  answered_later : {earlier : List Mark} {asked : Task} {told : Told} {own : List Mark} → TaskIsAnswered tells all tries n earlier asked told own → TaskIsAnswered tells later tries n earlier asked told own
   answered_later (is_change change) = is_change (changed_longer (length all) (length later) tries n _ _ _ _ (length_begins all later begins) change)
   answered_later (is_operated is operated answers) = is_operated is (operated_longer (length all) (length later) tries _ _ _ (length_begins all later begins) operated) (answers_later _ _ _ _ answers)
 
@@ -77,7 +77,7 @@ told_none asked told = refl
 
 -- ---- a probe
 -- the front then, and the one before the call
-silent_own : {V : Type 0} (old new : Sitting V Mark) (told : OpAnswer) (own : List Mark) → old.number ≡ 0 → GoesOn old.number old.seen new.seen own → IsSilentSince 0 old new told → IsSilentAtMost (length own) told
+silent_own : {V : Type 0} (old new : Sitting V Mark) (told : OpAnswer) (own : List Mark) → old.number ≡ 0 → FrontGoesOn old.number old.seen new.seen own → IsSilentSince 0 old new told → IsSilentAtMost (length own) told
 silent_own {V} old new (op.Probed key found) own operator goes few =
     let made : length (mine 0 new.seen) ≡ length (mine 0 old.seen ++ own) = ap (λ (l : List Mark). length l) (subst (λ (k : ℕ). mine k new.seen ≡ mine k old.seen ++ own) operator goes.own_marks) in
     omega (arith, few, made, length-append (mine 0 old.seen) own)
@@ -91,8 +91,8 @@ silent_own old new (op.Absent acceptor) own operator goes few = tt
 silent_own old new (op.ProposerDown proposer) own operator goes few = tt
 silent_own old new (op.Stopped why) own operator goes few = tt
 
-pub found_in : {V : Type 0} (tells : Type 0) (old new : Sitting V Mark) (told : OpAnswer) (own : List Mark) → old.number ≡ 0 → GoesOn old.number old.seen new.seen own → IsSilentSince 0 old new told → (tells → IsTrueProbe old.seen new.seen told)
-    → IsFoundIn tells new.seen old.number (mine old.number old.seen) own told
+pub found_in : {V : Type 0} (tells : Type 0) (old new : Sitting V Mark) (told : OpAnswer) (own : List Mark) → old.number ≡ 0 → FrontGoesOn old.number old.seen new.seen own → IsSilentSince 0 old new told → (tells → IsTrueProbe old.seen new.seen told)
+    → ProbeIsTrue tells new.seen old.number (mine old.number old.seen) own told
 found_in tells old new told own operator goes few truly = record {
   before = old.seen;
   front = new.seen;
@@ -105,14 +105,14 @@ found_in tells old new told own operator goes few truly = record {
 
 -- ---- one task
 module _ {V : Type 0} (tells : Type 0) (tries harms harms_then : ℕ) (old new : Sitting V Mark) where
-  as_asked : (asked : Task) (key : List ℕ) (program : List Clause) (told : Answer) (own : List Mark) → asked ≡ task.Change key program → IsChange (length new.seen) tries old.number key program told own → IsAnswered tells new.seen tries old.number (mine old.number old.seen) asked (said.Change told) own
-  as_asked asked key program told own is change = subst (λ (t : Task). IsAnswered tells new.seen tries old.number (mine old.number old.seen) t (said.Change told) own) (sym is) (is_change change)
+  as_asked : (asked : Task) (key : List ℕ) (program : List Clause) (told : Answer) (own : List Mark) → asked ≡ task.Change key program → ChangeIsAnswered (length new.seen) tries old.number key program told own → TaskIsAnswered tells new.seen tries old.number (mine old.number old.seen) asked (said.Change told) own
+  as_asked asked key program told own is change = subst (λ (t : Task). TaskIsAnswered tells new.seen tries old.number (mine old.number old.seen) t (said.Change told) own) (sym is) (is_change change)
 
   change_counts : (asked : Task) (key : List ℕ) (program : List Clause) (told : Answer) (own : List Mark) → asked ≡ task.Change key program → new.own ≡ old.own → IsCountedOn (rescanned_in old.own) asked (said.Change told) own (rescanned_in new.own)
   change_counts asked key program told own is same = subst (λ (t : Task). IsCountedOn (rescanned_in old.own) t (said.Change told) own (rescanned_in new.own)) (sym is) (ap rescanned_in same)
 
   -- a call for a join or a leave counts
-  pub members_count : (asked : Asked) (such : Mark → Type 0) (told : OpAnswer) (own : List Mark) → EntersEras such → Operates asked such harms harms_then old new told → GoesOn old.number old.seen new.seen own → CountsOn (rescanned_in old.own) told own (rescanned_in new.own)
+  pub members_count : (asked : Asked) (such : Mark → Type 0) (told : OpAnswer) (own : List Mark) → EntersEras such → Operates asked such harms harms_then old new told → FrontGoesOn old.number old.seen new.seen own → CountsOn (rescanned_in old.own) told own (rescanned_in new.own)
   members_count asked such told own enters (operations.is_told marks front last all_such counted counts) goes =
       let both = counts enters in
       let grown : done_calls (mine old.number new.seen) ≡ done_calls (mine old.number old.seen) + done_calls own = ap done_calls goes.own_marks ∙ done_append (mine old.number old.seen) own in
@@ -133,7 +133,7 @@ module _ {V : Type 0} (tells : Type 0) (tries harms harms_then : ℕ) (old new :
   }
   change_ran asked key program told is same (is_not_begun refusal counted front) = record { own = []; front = front; answered = as_asked asked key program told [] is (is_turned_away refusal); counted = counted; counts = change_counts asked key program told [] is same }
 
-  pub order_ran : (order : Task) (asked : Asked) (told : OpAnswer) → asked_by order ≡ Some asked → ((own : List Mark) → GoesOn old.number old.seen new.seen own → AnswersOrder tells new.seen old.number (mine old.number old.seen) own asked told) → ((own : List Mark) → GoesOn old.number old.seen new.seen own → IsCountedOn (rescanned_in old.own) order (said.Operator told) own (rescanned_in new.own)) → Operates asked (IsOrderMark tries asked) harms harms_then old new told → HasRunTask tells tries harms harms_then order (said.Operator told) old new
+  pub order_ran : (order : Task) (asked : Asked) (told : OpAnswer) → asked_by order ≡ Some asked → ((own : List Mark) → FrontGoesOn old.number old.seen new.seen own → AnswersOrder tells new.seen old.number (mine old.number old.seen) own asked told) → ((own : List Mark) → FrontGoesOn old.number old.seen new.seen own → IsCountedOn (rescanned_in old.own) order (said.Operator told) own (rescanned_in new.own)) → Operates asked (IsOrderMark tries asked) harms harms_then old new told → HasRunTask tells tries harms harms_then order (said.Operator told) old new
   order_ran order asked told is answers counts (operations.is_told marks front last all_such counted told_count) = record {
     own = marks ++ told_marks asked told;
     front = front;
@@ -156,22 +156,22 @@ module _ {V : Type 0} (tells : Type 0) (tries : ℕ) where
   }
 
   pub raced_more : (harms harms_now harms_then : ℕ) (tasks : List Task) (asked : Task) (told : List Told) (answer : Told) (a b c : Sitting V Mark) → HasRaced tells tries harms harms_now tasks told a b
-      → c ≡ record b { seen = c.seen; own = c.own } → IsFree c.own → HasRunTask tells tries harms_now harms_then asked answer b c → HasRaced tells tries harms harms_then (tasks ++ asked ∷ []) (told ++ answer ∷ []) a c
+      → c ≡ record b { seen = c.seen; own = c.own } → NothingIsOpen c.own → HasRunTask tells tries harms_now harms_then asked answer b c → HasRaced tells tries harms harms_then (tasks ++ asked ∷ []) (told ++ answer ∷ []) a c
   raced_more harms harms_now harms_then tasks asked told answer a b c first same free then_ =
       let number : b.number ≡ a.number = ap (λ (s : Sitting V Mark). s.number) first.pass in
       record {
         pass = same ∙ ap (λ (s : Sitting V Mark). record s { seen = c.seen; own = c.own }) first.pass;
         free = free;
         own = first.own ++ then_.own;
-        front = goes_on_then a.number a.seen b.seen c.seen first.own then_.own first.front (subst (λ (k : ℕ). GoesOn k b.seen c.seen then_.own) number then_.front);
+        front = goes_on_then a.number a.seen b.seen c.seen first.own then_.own first.front (subst (λ (k : ℕ). FrontGoesOn k b.seen c.seen then_.own) number then_.front);
         run = one_more (ran_later tells b.seen c.seen then_.front.begins tries a.number first.run)
-            (subst (λ (l : List Mark). IsAnswered tells c.seen tries a.number l asked answer then_.own) first.front.own_marks (subst (λ (k : ℕ). IsAnswered tells c.seen tries k (mine k b.seen) asked answer then_.own) number then_.answered)) then_.counts;
+            (subst (λ (l : List Mark). TaskIsAnswered tells c.seen tries a.number l asked answer then_.own) first.front.own_marks (subst (λ (k : ℕ). TaskIsAnswered tells c.seen tries k (mine k b.seen) asked answer then_.own) number then_.answered)) then_.counts;
         counted = subst (λ (k : ℕ). IsCounted k harms harms_then) (sym (losses_append first.own then_.own)) (counted_then (losses first.own) (losses then_.own) harms harms_now harms_then first.counted then_.counted);
       }
 
   -- the same with what was read and noted
   pub raced_next : (harms harms_now harms_then : ℕ) (all tasks : List Task) (asked : Task) (noted told : List Told) (answer : Told) (a b c : Sitting V Mark) → all ≡ tasks ++ asked ∷ [] → noted ≡ told ++ answer ∷ []
-      → HasRaced tells tries harms harms_now tasks told a b → c ≡ record b { seen = c.seen; own = c.own } → IsFree c.own → HasRunTask tells tries harms_now harms_then asked answer b c → HasRaced tells tries harms harms_then all noted a c
+      → HasRaced tells tries harms harms_now tasks told a b → c ≡ record b { seen = c.seen; own = c.own } → NothingIsOpen c.own → HasRunTask tells tries harms_now harms_then asked answer b c → HasRaced tells tries harms harms_then all noted a c
   raced_next harms harms_now harms_then all tasks asked noted told answer a b c read notes first same free then_ =
       subst (λ (l : List Told). HasRaced tells tries harms harms_then all l a c) (sym notes)
       (subst (λ (l : List Task). HasRaced tells tries harms harms_then l (told ++ answer ∷ []) a c) (sym read) (raced_more harms harms_now harms_then tasks asked told answer a b c first same free then_))

@@ -9,7 +9,7 @@ use Rattle.cas_base.specs.Faults.{Rose}
 use Rattle.cas_lines.specs.Sink.{AppendsFront}
 use Rattle.cas_record.specs.declared.mark.Mark.{Mark}
 use Rattle.casreg_tasks.specs.Histories.{AreHistories, history_text}
-use Rattle.casreg_tasks.specs.Texts.{WroteFront, WroteText}
+use Rattle.casreg_tasks.specs.Texts.{WroteFrontOf, WroteText}
 use Rattle.casreg_tasks.proofs.SettledKeys.{settled_keys, are_settled}
 use Rattle.casreg_race.specs.declared.told.Told.{Told}
 use Rattle.casreg_race.specs.Texts.{IsRaceText, told_line, told_lines}
@@ -28,11 +28,11 @@ on_ok_then (Err e) P Q f p = tt
 
 -- ---- pieces of a text
 -- a piece was written, and nothing behind it
-pub front_done : (whole done later : List ℕ) (a b : Option (List ℕ)) → done ++ later ≡ whole → Appends a b done → WroteFront (λ text. text ≡ whole) a b
+pub front_done : (whole done later : List ℕ) (a b : Option (List ℕ)) → done ++ later ≡ whole → Appends a b done → WroteFrontOf (λ text. text ≡ whole) a b
 front_done whole done later a b is written = record { front = done; rest = later; has = is; written = written }
 
 -- a piece was written, and a front of the next one
-pub front_within : (whole done next later : List ℕ) (a b c : Option (List ℕ)) → done ++ (next ++ later) ≡ whole → Appends a b done → AppendsFront b c next → WroteFront (λ text. text ≡ whole) a c
+pub front_within : (whole done next later : List ℕ) (a b c : Option (List ℕ)) → done ++ (next ++ later) ≡ whole → Appends a b done → AppendsFront b c next → WroteFrontOf (λ text. text ≡ whole) a c
 front_within whole done next later a b c is written front = record {
   front = done ++ take front.0 next;
   rest = drop front.0 next ++ later;
@@ -103,7 +103,7 @@ module _ (bad : List ℕ) (answers : List (List Told)) (marks : List Mark) (a b 
     written = Appends-trans a b c (bad ++ told_lines 0 answers) histories.text first histories.written;
   }
 
-  pub text_in_histories : Appends a b (bad ++ told_lines 0 answers) → WroteFront (AreHistories marks) b c → WroteFront (IsRaceText bad answers marks) a c
+  pub text_in_histories : Appends a b (bad ++ told_lines 0 answers) → WroteFrontOf (AreHistories marks) b c → WroteFrontOf (IsRaceText bad answers marks) a c
   text_in_histories first histories = record {
     front = bad ++ told_lines 0 answers ++ histories.front;
     rest = histories.rest;
@@ -112,7 +112,7 @@ module _ (bad : List ℕ) (answers : List (List Told)) (marks : List Mark) (a b 
   }
 
   -- there are histories, whatever the marks are
-  pub text_in_answers : WroteFront (λ text. text ≡ bad ++ told_lines 0 answers) a c → WroteFront (IsRaceText bad answers marks) a c
+  pub text_in_answers : WroteFrontOf (λ text. text ≡ bad ++ told_lines 0 answers) a c → WroteFrontOf (IsRaceText bad answers marks) a c
   text_in_answers answered =
       let text : List ℕ = flat_map (history_text marks) (settled_keys marks) in
       record {

@@ -5,7 +5,7 @@ use Rattle.cas_record.specs.declared.mark.Mark.{Mark}
 use Rattle.cas_board_steps.specs.Mine.{mine, losses}
 use Rattle.cas_board.specs.Changes.{IsCounted}
 use Rattle.casreg_tasks.specs.Tasks.{AreAllLines, bad_lines, tasks_of}
-use Rattle.casreg_tasks.specs.Texts.{WroteFront, WroteText}
+use Rattle.casreg_tasks.specs.Texts.{WroteFrontOf, WroteText}
 use Rattle.casreg_tasks.specs.declared.histories.HistoryFault.{HistoryFault}
 use Rattle.casreg_race.specs.Runs.{HasRun}
 use Rattle.casreg_race.specs.Texts.{IsRaceText}
@@ -26,5 +26,5 @@ pub data WroteRace (tells : Type 0) (tries proposers : ℕ) (input old new : Opt
   whole : (lines : List (List ℕ)) (answers : List (List Told)) → AreAllLines input lines → Raced tells tries proposers lines harms harms_then answers marks → WroteText (IsRaceText (bad_lines proposers 1 lines) answers (reverse marks)) old new
       → WroteRace tells tries proposers input old new harms harms_then marks (Ok tt)
   cut_off : (why : HistoryFault) (lines : List (List ℕ)) (answers : List (List Told)) → AreAllLines input lines → Raced tells tries proposers lines harms harms_then answers marks
-      → WroteFront (IsRaceText (bad_lines proposers 1 lines) answers (reverse marks)) old new → WroteRace tells tries proposers input old new harms harms_then marks (Err (fault.CutOff why))
+      → WroteFrontOf (IsRaceText (bad_lines proposers 1 lines) answers (reverse marks)) old new → WroteRace tells tries proposers input old new harms harms_then marks (Err (fault.CutOff why))
   not_run : (why : LineFault) → ((n : ℕ) → n ≤ proposers → mine n marks ≡ []) → harms_then ≡ harms → new ≡ old → WroteRace tells tries proposers input old new harms harms_then marks (Err (fault.NotRun why))

@@ -15,10 +15,10 @@ use Rattle.cas_turn.specs.Sitting.{Sitting, Turning}
 use Rattle.cas_board_steps.specs.Collection.Collecting.{IsCollectingMark, IsCollectAnswer}
 use Rattle.cas_board_steps.specs.Calls.Conflicts.{is_conflict}
 use Rattle.cas_board_steps.specs.Eras.Counting.{count_told, HasRisen, LeavesNone}
-use Rattle.cas_board_steps.specs.Calls.Deeds.{IsRefusal}
+use Rattle.cas_board_steps.specs.Calls.Deeds.{IsRefusalBehind}
 use Rattle.cas_board_steps.specs.Eras.Membership.{IsMembersAnswer, IsRescanMark}
-use Rattle.cas_board_steps.specs.Mine.{mine, AreOfCall, losses, done_calls, GoesOn}
-use Rattle.cas_board_steps.specs.Calls.Open.{IsFree, rescanned_in}
+use Rattle.cas_board_steps.specs.Mine.{mine, AreOfCall, losses, done_calls, FrontGoesOn}
+use Rattle.cas_board_steps.specs.Calls.Open.{NothingIsOpen, rescanned_in}
 use Rattle.cas_board_steps.specs.Exchanges.Orders.{IsAskingHarm, IsProbeAnswer, IsSilentAtMost, IsTrueProbe}
 use Rattle.cas_board.specs.Changes.{IsCounted}
 use Rattle.cas_board.specs.Passes.{IsPassOf}
@@ -44,9 +44,9 @@ IsMeantFor n asked = IfSome (asked_by asked) (λ other. n ≡ 0)
 -- ---- what the marks tell
 -- In a record of so many marks, the caller's marks of one change: those of one call, of which the first tells what it is for and the last what it was answered; one that
 -- ended with a conflict had all its tries. Or there is none, and the change was refused before it was begun.
-pub data IsChange (made tries n : ℕ) (key : List ℕ) (program : List Clause) (answered : Answer) : List Mark → Type 0 where
-  is_called : (call rounds : ℕ) (between : List Mark) → AreOfCall call between → (is_conflict answered ≡ true → rounds ≡ tries) → IsChange made tries n key program answered (Begun n call key program ∷ between ++ Ended n call rounds answered ∷ [])
-  is_turned_away : IsRefusal made answered → IsChange made tries n key program answered []
+pub data ChangeIsAnswered (made tries n : ℕ) (key : List ℕ) (program : List Clause) (answered : Answer) : List Mark → Type 0 where
+  is_called : (call rounds : ℕ) (between : List Mark) → AreOfCall call between → (is_conflict answered ≡ true → rounds ≡ tries) → ChangeIsAnswered made tries n key program answered (Begun n call key program ∷ between ++ Ended n call rounds answered ∷ [])
+  is_turned_away : IsRefusalBehind made answered → ChangeIsAnswered made tries n key program answered []
 
 -- A mark of the operator's that a call for this may make before the one that tells its answer. Where it ends a caller's call with a conflict,
 -- that had all its tries.
@@ -60,12 +60,12 @@ IsOrderMark tries (ask.Probe key) = IsAskingHarm
 -- marked. Or there is none, and the call was refused before it was begun.
 pub data IsOperated (made tries : ℕ) (asked : Asked) (answered : OpAnswer) : List Mark → Type 0 where
   is_told : (before : List Mark) → All (IsOrderMark tries asked) before → IsOperated made tries asked answered (before ++ told_marks asked answered)
-  is_not_begun : (why : Answer) → IsRefusal made why → answered ≡ Stopped why → IsOperated made tries asked answered []
+  is_not_begun : (why : Answer) → IsRefusalBehind made why → answered ≡ Stopped why → IsOperated made tries asked answered []
 
 -- A probe that made these marks of its own, and before which the caller had made those: no more members told nothing than it made marks. Where
 -- disks tell what they keep, what it found is true of a front of the record, and at or above what was acknowledged in the one with which it
 -- began, in which all the earlier marks stand.
-pub record IsFoundIn (tells : Type 0) (all : List Mark) (n : ℕ) (earlier own : List Mark) (answered : OpAnswer) : Type 0 where
+pub record ProbeIsTrue (tells : Type 0) (all : List Mark) (n : ℕ) (earlier own : List Mark) (answered : OpAnswer) : Type 0 where
   pub before : List Mark
   pub front : List Mark
   pub goes_on : Begins before front
@@ -80,12 +80,12 @@ abbrev pub AnswersOrder : Type 0 → List Mark → ℕ → List Mark → List Ma
 AnswersOrder tells all n earlier own (ask.Join id) answered = IsMembersAnswer (ask.Join id) answered
 AnswersOrder tells all n earlier own (ask.Leave id) answered = IsMembersAnswer (ask.Leave id) answered
 AnswersOrder tells all n earlier own (ask.Collect key) answered = IsCollectAnswer key answered
-AnswersOrder tells all n earlier own (ask.Probe key) answered = ((members : List ℕ) × IsMemberSet members × IsProbeAnswer key members answered) × IsFoundIn tells all n earlier own answered
+AnswersOrder tells all n earlier own (ask.Probe key) answered = ((members : List ℕ) × IsMemberSet members × IsProbeAnswer key members answered) × ProbeIsTrue tells all n earlier own answered
 
 -- the caller's marks of one task, with what it was answered, in a record with these marks
-pub data IsAnswered (tells : Type 0) (all : List Mark) (tries n : ℕ) (earlier : List Mark) : Task → Told → List Mark → Type 0 where
-  is_change : {key : List ℕ} {program : List Clause} {answered : Answer} {own : List Mark} → IsChange (length all) tries n key program answered own → IsAnswered tells all tries n earlier (task.Change key program) (said.Change answered) own
-  is_operated : {asked : Asked} {order : Task} {answered : OpAnswer} {own : List Mark} → asked_by order ≡ Some asked → IsOperated (length all) tries asked answered own → AnswersOrder tells all n earlier own asked answered → IsAnswered tells all tries n earlier order (said.Operator answered) own
+pub data TaskIsAnswered (tells : Type 0) (all : List Mark) (tries n : ℕ) (earlier : List Mark) : Task → Told → List Mark → Type 0 where
+  is_change : {key : List ℕ} {program : List Clause} {answered : Answer} {own : List Mark} → ChangeIsAnswered (length all) tries n key program answered own → TaskIsAnswered tells all tries n earlier (task.Change key program) (said.Change answered) own
+  is_operated : {asked : Asked} {order : Task} {answered : OpAnswer} {own : List Mark} → asked_by order ≡ Some asked → IsOperated (length all) tries asked answered own → AnswersOrder tells all n earlier own asked answered → TaskIsAnswered tells all tries n earlier order (said.Operator answered) own
 
 -- ---- what a change of membership counts
 -- A call for a join or a leave that made these marks of its own adds one for each call of caller 0 that was answered done in it to the number
@@ -103,7 +103,7 @@ IsCountedOn before other answered own next = next ≡ before
 -- proposed anew at first, and so many it has then.
 pub data HasRun (tells : Type 0) (all : List Mark) (tries n : ℕ) (first : List Mark) (counted : ℕ) : List Task → List Told → List Mark → ℕ → Type 0 where
   nothing : HasRun tells all tries n first counted [] [] [] counted
-  one_more : {tasks : List Task} {answers : List Told} {marks own : List Mark} {asked : Task} {told : Told} {before next : ℕ} → HasRun tells all tries n first counted tasks answers marks before → IsAnswered tells all tries n (first ++ marks) asked told own → IsCountedOn before asked told own next
+  one_more : {tasks : List Task} {answers : List Told} {marks own : List Mark} {asked : Task} {told : Told} {before next : ℕ} → HasRun tells all tries n first counted tasks answers marks before → TaskIsAnswered tells all tries n (first ++ marks) asked told own → IsCountedOn before asked told own next
       → HasRun tells all tries n first counted (tasks ++ asked ∷ []) (answers ++ told ∷ []) (marks ++ own) next
 
 -- ---- callers in their threads
@@ -111,7 +111,7 @@ module _ {V : Type 0} where
   -- a caller can begin with these tasks, and has room for so many answers
   pub record IsReady (board : Turning) (pass : Sitting V Mark) (tasks : List Task) (told : List Told) (room : ℕ) : Type 0 where
     pub is_pass : IsPassOf board pass
-    pub free : IsFree pass.own
+    pub free : NothingIsOpen pass.own
     pub meant : All (IsMeantFor pass.number) tasks
     pub untold : told ≡ []
     pub enough : length tasks ≤ room
@@ -119,8 +119,8 @@ module _ {V : Type 0} where
   -- it has run this task
   pub record HasRunTask (tells : Type 0) (tries harms harms_then : ℕ) (asked : Task) (told : Told) (old new : Sitting V Mark) : Type 0 where
     pub own : List Mark
-    pub front : GoesOn old.number old.seen new.seen own
-    pub answered : IsAnswered tells new.seen tries old.number (mine old.number old.seen) asked told own
+    pub front : FrontGoesOn old.number old.seen new.seen own
+    pub answered : TaskIsAnswered tells new.seen tries old.number (mine old.number old.seen) asked told own
     pub counted : IsCounted (losses own) harms harms_then
     pub counts : IsCountedOn (rescanned_in old.own) asked told own (rescanned_in new.own)
 
@@ -128,9 +128,9 @@ module _ {V : Type 0} where
   -- made late as its fate's count of harms rose by.
   pub record HasRaced (tells : Type 0) (tries harms harms_then : ℕ) (tasks : List Task) (told : List Told) (old new : Sitting V Mark) : Type 0 where
     pub pass : new ≡ record old { seen = new.seen; own = new.own }
-    pub free : IsFree new.own
+    pub free : NothingIsOpen new.own
     pub own : List Mark
-    pub front : GoesOn old.number old.seen new.seen own
+    pub front : FrontGoesOn old.number old.seen new.seen own
     pub run : HasRun tells new.seen tries old.number (mine old.number old.seen) (rescanned_in old.own) tasks told own (rescanned_in new.own)
     pub counted : IsCounted (losses own) harms harms_then
 
@@ -147,6 +147,6 @@ module _ {V : Type 0} where
     pub counted : (n before after : ℕ) (pass : Sitting V Mark) → slice_get passes n ≡ Some pass → slice_get harms n ≡ Some before → slice_get harms_then n ≡ Some after → IsCounted (losses (mine n pass.seen)) before after
 
 -- no answer yet, and room for one to each of the tasks
-pub record HasRoomFor (tasks : List Task) (told : List Told) (room : ℕ) : Type 0 where
+pub record HasRoomForAnswers (tasks : List Task) (told : List Told) (room : ℕ) : Type 0 where
   pub none : told ≡ []
   pub enough : length tasks ≤ room

@@ -10,11 +10,11 @@ ghost use Rattle.cas_record.specs.Legal.{IsLegal};
 ghost use Rattle.cas_record.specs.declared.mark.Mark.{Mark};
 ghost use Rattle.cas_board_world.specs.Blame.{AreDeserved};
 ghost use Rattle.cas_turn.specs.Sitting.{fresh_seats};
-ghost use Rattle.cas_board_steps.specs.Calls.Open.{IsFree};
+ghost use Rattle.cas_board_steps.specs.Calls.Open.{NothingIsOpen};
 ghost use Rattle.cas_board.specs.Passes.{IsPassOf};
 ghost use Rattle.casreg_tasks.specs.Tasks.{AreAllLines, bad_lines};
-ghost use Rattle.casreg_tasks.specs.Texts.{WroteFront, WroteText};
-ghost use Rattle.casreg_race.specs.Runs.{AreRaced, ArePassesOf, HasRoomFor};
+ghost use Rattle.casreg_tasks.specs.Texts.{WroteFrontOf, WroteText};
+ghost use Rattle.casreg_race.specs.Runs.{AreRaced, ArePassesOf, HasRoomForAnswers};
 ghost use Rattle.casreg_race.specs.Race.{WroteRace};
 ghost use Rattle.casreg_race.specs.Texts.{IsRaceText, told_lines};
 
@@ -76,7 +76,7 @@ pub fn race_on<R: Threads + Wait + Sync, S: Source, K: Sink, D: Disk + Send + Dr
     requires tries { 1 ≤ tries }
     requires seats { board.seats ≡ proposers + 1 }
     requires passes { passes.items ≡ fresh_seats board.id (proposers + 1) }
-    requires idle { All (λ pass. IsPassOf board pass × IsFree pass.own) passes.items }
+    requires idle { All (λ pass. IsPassOf board pass × NothingIsOpen pass.own) passes.items }
     requires room { vec_capacity passes ≡ proposers + 1 }
     requires fates { vec_len fates.old ≡ 17 }
     ensures raced { (marks : List Mark) × (D.tells → IsLegal (reverse marks)) × (D.tells → AreTellingsSo (proposers + 1) (reverse marks)) × (D.tells → AreKept D.may_leave (reverse marks) result.1.acceptors.items) × WroteRace D.tells tries proposers (S.remaining source.old) (K.contents sink.old) (K.contents sink.new) (map F.harm_count fates.old.items) (map F.harm_count fates.new.items) marks result.0 × AreDeserved D.fault_count result.1.acceptors.items result.1.vaults.items marks }
@@ -125,7 +125,7 @@ fn run_lines<R: Threads + Wait + Sync, S: Source, D: Disk + Send, F: Fate + Send
     requires proposers { proposers ≤ 16 }
     requires tries { 1 ≤ tries }
     requires passes { passes.old.items ≡ fresh_seats board.now.id (proposers + 1) }
-    requires idle { All (λ pass. IsPassOf board.now pass × IsFree pass.own) passes.old.items }
+    requires idle { All (λ pass. IsPassOf board.now pass × NothingIsOpen pass.own) passes.old.items }
     requires room { vec_capacity passes.old ≡ proposers + 1 }
     requires fates { vec_len fates.old ≡ 17 }
     ensures raced { IfOk result (λ results. (lines : List (List ℕ)) × AreAllLines (S.remaining source.old) lines × (results.bad.items ≡ bad_lines proposers 1 lines)
@@ -151,7 +151,7 @@ fn run_lines<R: Threads + Wait + Sync, S: Source, D: Disk + Send, F: Fate + Send
 /// An empty list for each caller, with room for the answers to its tasks.
 fn rooms_for(alloc: Global, tasks: &[Vec<Task>]) -> Result<Vec<Vec<Told>>, AllocError>
     ensures count { IfOk result (λ told. (vec_len told ≡ length tasks.now) × (vec_capacity told ≡ length tasks.now)) }
-    ensures rooms { IfOk result (λ told. (n : ℕ) (of_caller : _) (room : _) → n < length tasks.now → HasRoomFor (slice_index_or tasks.now n of_caller).items (slice_index_or told.items n room).items (vec_capacity (slice_index_or told.items n room))) }
+    ensures rooms { IfOk result (λ told. (n : ℕ) (of_caller : _) (room : _) → n < length tasks.now → HasRoomForAnswers (slice_index_or tasks.now n of_caller).items (slice_index_or told.items n room).items (vec_capacity (slice_index_or told.items n room))) }
 {
     let mut told = Vec::with_capacity(alloc, tasks.len())?;
     for of_caller in tasks {
@@ -170,7 +170,7 @@ fn write_race<K: Sink>(
 ) -> Result<(), HistoryFault>
     requires { vec_len results.now.told ≤ 17 }
     ensures all { OnOk result (WroteText (IsRaceText results.now.bad.items (map vec_items results.now.told.items) (reverse book.now.marks)) (K.contents sink.old) (K.contents sink.new)) }
-    ensures front { OnErr result (WroteFront (IsRaceText results.now.bad.items (map vec_items results.now.told.items) (reverse book.now.marks)) (K.contents sink.old) (K.contents sink.new)) }
+    ensures front { OnErr result (WroteFrontOf (IsRaceText results.now.bad.items (map vec_items results.now.told.items) (reverse book.now.marks)) (K.contents sink.old) (K.contents sink.new)) }
     ensures write_fault { IsErrOf result HistoryFault.WriteFault → Rose (K.faults_of sink.old) (K.faults_of sink.new) }
 {
     write_answers(alloc, results, sink)?;
@@ -185,7 +185,7 @@ fn write_answers<K: Sink>(
 ) -> Result<(), HistoryFault>
     requires { vec_len results.now.told ≤ 17 }
     ensures all { OnOk result (Appends (K.contents sink.old) (K.contents sink.new) (results.now.bad.items ++ told_lines 0 (map vec_items results.now.told.items))) }
-    ensures front { OnErr result (WroteFront (λ text. text ≡ results.now.bad.items ++ told_lines 0 (map vec_items results.now.told.items)) (K.contents sink.old) (K.contents sink.new)) }
+    ensures front { OnErr result (WroteFrontOf (λ text. text ≡ results.now.bad.items ++ told_lines 0 (map vec_items results.now.told.items)) (K.contents sink.old) (K.contents sink.new)) }
     ensures never_falls { K.faults_of sink.old ≤ K.faults_of sink.new }
     ensures write_fault { IsErrOf result HistoryFault.WriteFault → Rose (K.faults_of sink.old) (K.faults_of sink.new) }
 {

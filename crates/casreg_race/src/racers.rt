@@ -2,7 +2,7 @@
 
 ghost use Rattle.std.specs.Prelude.{◌≡◌, ◌≤◌, ◌<◌, ◌+◌, ◌++◌, [], ℕ, map, reverse, vec_len, vec_capacity, slice_index_or, All};
 ghost use Rattle.cas_board.specs.Passes.{IsPassOf};
-ghost use Rattle.cas_board_steps.specs.Calls.Open.{IsFree};
+ghost use Rattle.cas_board_steps.specs.Calls.Open.{NothingIsOpen};
 ghost use Rattle.casreg_race.specs.Runs.{IsMeantFor, IsReady, HasRunTask, HasRaced};
 
 use crate::told::Told;
@@ -167,11 +167,11 @@ fn run_task<R: Wait, D: Disk, F: Fate>(
     tries: u32,
 ) -> Told
     requires pass { IsPassOf board.now pass.old }
-    requires free { IsFree pass.old.own }
+    requires free { NothingIsOpen pass.old.own }
     requires meant { IsMeantFor pass.old.number task.now }
     requires tries { 1 ≤ tries }
     ensures pass { pass.new ≡ record pass.old { seen = pass.new.seen; own = pass.new.own } }
-    ensures free { IsFree pass.new.own }
+    ensures free { NothingIsOpen pass.new.own }
     ensures ran { HasRunTask D.tells tries (F.harm_count fate.old) (F.harm_count fate.new) task.now result pass.old pass.new }
 {
     match task {

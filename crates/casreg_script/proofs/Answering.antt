@@ -1,7 +1,7 @@
 -- The answer to a line, by what its command did.
 use Rattle.std.proofs.Common.{◌≡◌, ◌<◌, ℕ, List, Option, Some, Result, Ok, Err, slice_set, slice_index_or, length, refl, ap, subst, ◌∙◌}
 use Rattle.std.specs.Prelude.{IfOk, OnErr}
-use Rattle.cas_lines.specs.Command.{IsLine, Asked, change_of}
+use Rattle.cas_lines.specs.Command.{IsLine, AskedChange, change_of}
 use Rattle.cas_lines.specs.declared.answer.EventAnswer.{EventAnswer}
 use Rattle.cas_lines.specs.declared.answer.Shown.{Shown}
 use Rattle.cas_lines.specs.declared.command.Command.{Command}
@@ -16,10 +16,10 @@ use Rattle.cas_world.specs.Calls.Beginning.{HasNoCall}
 use Rattle.casreg_script.specs.Calls.Changes.{IsChange}
 use Rattle.casreg_script.specs.Collection.Collections.{IsCollection}
 use Rattle.casreg_script.specs.Frames.Conditions.{Ruled}
-use Rattle.casreg_script.specs.Events.{IsShown}
+use Rattle.casreg_script.specs.Events.{IsShownSlot}
 use Rattle.casreg_script.specs.Eras.Membership.{ChangesMembers}
-use Rattle.casreg_script.specs.Frames.Network.{IsNetwork, Leaves, Through}
-use Rattle.casreg_script.specs.Script.{State, LineAnswer, Changed, Happened, Shows, Operated, RunsProbe, probes, RunsCollection, collects, RunsMembership, changes_members, membership_of, RunsChange, RunsEvent, IsAnswered, changes, happens, shows, text_of, IsIn, AnswersLine, RanOrNot, ran, Runs, nowhere}
+use Rattle.casreg_script.specs.Frames.Network.{IsNetwork, NetworkLeaves, Through}
+use Rattle.casreg_script.specs.Script.{State, LineAnswer, Changed, Happened, Shows, Operated, RunsProbe, probes, RunsCollection, collects, RunsMembership, changes_members, membership_of, RunsChange, RunsEvent, IsAnswered, changes, happens, shows, text_of, IsInState, AnswersLine, RanOrNot, ran, Runs, nowhere}
 use Rattle.casreg_script.specs.Stage.{Stage, IsStage}
 use Rattle.casreg_script.specs.declared.halt.Halt.{Halt}
 use Rattle.casreg_script.specs.declared.network.Network.{Network}
@@ -29,49 +29,49 @@ use Rattle.casreg_script.proofs.Stages.{stage_of, halt_at, world_is, halts_are, 
 
 -- ---- results
 -- with its text, where there was memory for it
-pub with_text : {S V : Type 0} {T E : Type 0} (m : Meaning S V) (tries number : ℕ) (state : State S V) (line : List ℕ) (stage : Stage S V) (bytes : T → List ℕ) (r : Result T E) (answer : LineAnswer) (new : State S V) → IsIn stage new → IsAnswered m tries state line answer new
+pub with_text : {S V : Type 0} {T E : Type 0} (m : Meaning S V) (tries number : ℕ) (state : State S V) (line : List ℕ) (stage : Stage S V) (bytes : T → List ℕ) (r : Result T E) (answer : LineAnswer) (new : State S V) → IsInState stage new → IsAnswered m tries state line answer new
     → IfOk r (λ text. bytes text ≡ text_of number answer) → IfOk r (λ text. AnswersLine m tries state line number (bytes text) stage)
 with_text m tries number state line stage bytes (Ok text) answer new is_in run text_is = record { answer = answer; new = new; is_in = is_in; run = run; text_is = text_is }
 with_text m tries number state line stage bytes (Err e) answer new is_in run text_is = tt
 
-pub without_text : {S V : Type 0} {T E : Type 0} (m : Meaning S V) (tries : ℕ) (state : State S V) (line : List ℕ) (stage : Stage S V) (r : Result T E) (answer : LineAnswer) (new : State S V) → IsIn stage new → IsAnswered m tries state line answer new → OnErr r (RanOrNot m tries state line stage)
+pub without_text : {S V : Type 0} {T E : Type 0} (m : Meaning S V) (tries : ℕ) (state : State S V) (line : List ℕ) (stage : Stage S V) (r : Result T E) (answer : LineAnswer) (new : State S V) → IsInState stage new → IsAnswered m tries state line answer new → OnErr r (RanOrNot m tries state line stage)
 without_text m tries state line stage (Ok text) answer new is_in run = tt
 without_text m tries state line stage (Err e) answer new is_in run = ran answer new is_in run
 
 -- ---- what is run
 -- the line says so of the world of the state
-pub line_of : {S V : Type 0} (stage : Stage S V) (state : State S V) (line : List ℕ) (said : Option Command) → IsIn stage state → IsLine stage.world.last_proposer line said → IsLine state.world.last_proposer line said
+pub line_of : {S V : Type 0} (stage : Stage S V) (state : State S V) (line : List ℕ) (said : Option Command) → IsInState stage state → IsLine stage.world.last_proposer line said → IsLine state.world.last_proposer line said
 line_of {S} {V} stage state line said at is = subst (λ (w : View S V). IsLine w.last_proposer line said) at.world is
 
-pub changes_run : {S V : Type 0} (m : Meaning S V) (tries : ℕ) (old stage : Stage S V) (state : State S V) (line : List ℕ) (command : Command) (asked : Asked) (answer : Answer) → IsIn old state → IsLine old.world.last_proposer line (Some command) → change_of command ≡ Some asked
+pub changes_run : {S V : Type 0} (m : Meaning S V) (tries : ℕ) (old stage : Stage S V) (state : State S V) (line : List ℕ) (command : Command) (asked : AskedChange) (answer : Answer) → IsInState old state → IsLine old.world.last_proposer line (Some command) → change_of command ≡ Some asked
     → (runs : Runs (RunsChange m tries state asked answer) stage) → IsAnswered m tries state line (Changed asked.caller answer) runs.new
 changes_run m tries old stage state line command asked answer at is asks runs = changes command asked (line_of old state line (Some command) at is) asks runs.has
 
-pub happens_run : {S V : Type 0} (m : Meaning S V) (tries : ℕ) (old stage : Stage S V) (state : State S V) (line : List ℕ) (command : Command) (answer : EventAnswer) → IsIn old state → IsLine old.world.last_proposer line (Some command)
+pub happens_run : {S V : Type 0} (m : Meaning S V) (tries : ℕ) (old stage : Stage S V) (state : State S V) (line : List ℕ) (command : Command) (answer : EventAnswer) → IsInState old state → IsLine old.world.last_proposer line (Some command)
     → (runs : Runs (RunsEvent m state command answer) stage) → IsAnswered m tries state line (Happened answer) runs.new
 happens_run m tries old stage state line command answer at is runs = happens command (line_of old state line (Some command) at is) runs.has
 
-pub shows_run : {S V : Type 0} (m : Meaning S V) (tries : ℕ) (stage : Stage S V) (state : State S V) (line : List ℕ) (command : Command) (id : ℕ) (key : List ℕ) (shown : Shown) (world : View S V) → IsIn stage state → IsLine stage.world.last_proposer line (Some command) → command ≡ Show id key
-    → world ≡ state.world → IsShown m world id key shown → IsAnswered m tries state line (Shows id key shown) state
+pub shows_run : {S V : Type 0} (m : Meaning S V) (tries : ℕ) (stage : Stage S V) (state : State S V) (line : List ℕ) (command : Command) (id : ℕ) (key : List ℕ) (shown : Shown) (world : View S V) → IsInState stage state → IsLine stage.world.last_proposer line (Some command) → command ≡ Show id key
+    → world ≡ state.world → IsShownSlot m world id key shown → IsAnswered m tries state line (Shows id key shown) state
 shows_run {S} {V} m tries stage state line command id key shown world at is says same has =
-    shows id key (subst (λ (c : Command). IsLine state.world.last_proposer line (Some c)) says (line_of stage state line (Some command) at is)) (subst (λ (w : View S V). IsShown m w id key shown) same has)
+    shows id key (subst (λ (c : Command). IsLine state.world.last_proposer line (Some c)) says (line_of stage state line (Some command) at is)) (subst (λ (w : View S V). IsShownSlot m w id key shown) same has)
 
-pub probes_run : {S V : Type 0} (m : Meaning S V) (tries : ℕ) (old stage : Stage S V) (state : State S V) (line : List ℕ) (command : Command) (key : List ℕ) (answer : OpAnswer) → IsIn old state → IsLine old.world.last_proposer line (Some command) → command ≡ Probe key
+pub probes_run : {S V : Type 0} (m : Meaning S V) (tries : ℕ) (old stage : Stage S V) (state : State S V) (line : List ℕ) (command : Command) (key : List ℕ) (answer : OpAnswer) → IsInState old state → IsLine old.world.last_proposer line (Some command) → command ≡ Probe key
     → (runs : Runs (RunsProbe m state key answer) stage) → IsAnswered m tries state line (Operated answer) runs.new
 probes_run m tries old stage state line command key answer at is says runs = probes key (subst (λ (c : Command). IsLine state.world.last_proposer line (Some c)) says (line_of old state line (Some command) at is)) runs.has
 
-pub collects_run : {S V : Type 0} (m : Meaning S V) (tries : ℕ) (old stage : Stage S V) (state : State S V) (line : List ℕ) (command : Command) (key : List ℕ) (answer : OpAnswer) → IsIn old state → IsLine old.world.last_proposer line (Some command) → command ≡ Collect key
+pub collects_run : {S V : Type 0} (m : Meaning S V) (tries : ℕ) (old stage : Stage S V) (state : State S V) (line : List ℕ) (command : Command) (key : List ℕ) (answer : OpAnswer) → IsInState old state → IsLine old.world.last_proposer line (Some command) → command ≡ Collect key
     → (runs : Runs (RunsCollection m tries state key answer) stage) → IsAnswered m tries state line (Operated answer) runs.new
 collects_run m tries old stage state line command key answer at is says runs = collects key (subst (λ (c : Command). IsLine state.world.last_proposer line (Some c)) says (line_of old state line (Some command) at is)) runs.has
 
-pub members_run : {S V : Type 0} (m : Meaning S V) (tries : ℕ) (old stage : Stage S V) (state : State S V) (line : List ℕ) (command : Command) (asked : operator.Asked) (answer : OpAnswer) → IsIn old state → IsLine old.world.last_proposer line (Some command) → membership_of command ≡ Some asked
+pub members_run : {S V : Type 0} (m : Meaning S V) (tries : ℕ) (old stage : Stage S V) (state : State S V) (line : List ℕ) (command : Command) (asked : operator.Asked) (answer : OpAnswer) → IsInState old state → IsLine old.world.last_proposer line (Some command) → membership_of command ≡ Some asked
     → (runs : Runs (RunsMembership m tries state asked answer) stage) → IsAnswered m tries state line (Operated answer) runs.new
 members_run m tries old stage state line command asked answer at is asks runs = changes_members command asked (line_of old state line (Some command) at is) asks runs.has
 
 -- ---- a collection
 pub collection_runs : {S V : Type 0} (m : Meaning S V) (world now : View S V) (network next : Network) (halts : List Halt) (tries : ℕ) (seen : Stage S V) (state : State S V) (key : List ℕ) (after : Halt) (answer : OpAnswer)
-    → stage_of world network halts tries ≡ seen → IsIn seen state → 0 < length halts
-    → (IsNetwork network (Ruled state.rules) → Leaves next (λ view. IsCollection m tries (Ruled state.rules) key (slice_index_or halts 0 nowhere) world answer view after now))
+    → stage_of world network halts tries ≡ seen → IsInState seen state → 0 < length halts
+    → (IsNetwork network (Ruled state.rules) → NetworkLeaves next (λ view. IsCollection m tries (Ruled state.rules) key (slice_index_or halts 0 nowhere) world answer view after now))
     → Runs (RunsCollection m tries state key answer) (stage_of now next (slice_set halts 0 after) tries)
 collection_runs {S} {V} m world now network next halts tries seen state key after answer is at low runs =
     let now_ruled = still_ruled next state.rules (λ view. IsCollection m tries (Ruled state.rules) key (slice_index_or halts 0 nowhere) world answer view after now) (λ view. collection_stay m tries (Ruled state.rules) view key (slice_index_or halts 0 nowhere) after world now answer) (runs (network_is world network halts tries seen state is at)) in record {
@@ -93,8 +93,8 @@ collection_runs {S} {V} m world now network next halts tries seen state key afte
 
 -- ---- a change of membership
 pub membership_runs : {S V : Type 0} (m : Meaning S V) (world now : View S V) (network next : Network) (halts : List Halt) (tries : ℕ) (seen : Stage S V) (state : State S V) (asked : operator.Asked) (after : Halt) (answer : OpAnswer)
-    → stage_of world network halts tries ≡ seen → IsIn seen state → 0 < length halts
-    → (IsNetwork network (Ruled state.rules) → Leaves next (λ view. ChangesMembers m tries (Ruled state.rules) asked (slice_index_or halts 0 nowhere) world answer view after now))
+    → stage_of world network halts tries ≡ seen → IsInState seen state → 0 < length halts
+    → (IsNetwork network (Ruled state.rules) → NetworkLeaves next (λ view. ChangesMembers m tries (Ruled state.rules) asked (slice_index_or halts 0 nowhere) world answer view after now))
     → Runs (RunsMembership m tries state asked answer) (stage_of now next (slice_set halts 0 after) tries)
 membership_runs {S} {V} m world now network next halts tries seen state asked after answer is at low runs =
     let now_ruled = still_ruled next state.rules (λ view. ChangesMembers m tries (Ruled state.rules) asked (slice_index_or halts 0 nowhere) world answer view after now) (λ view. membership_stay m tries (Ruled state.rules) view asked (slice_index_or halts 0 nowhere) after world now answer) (runs (network_is world network halts tries seen state is at)) in record {
@@ -115,8 +115,8 @@ membership_runs {S} {V} m world now network next halts tries seen state asked af
     }
 
 -- ---- a probe
-pub probe_runs : {S V : Type 0} (m : Meaning S V) (world now : View S V) (network next : Network) (halts : List Halt) (tries : ℕ) (seen : Stage S V) (state : State S V) (key : List ℕ) (answer : OpAnswer) → stage_of world network halts tries ≡ seen → IsIn seen state
-    → (IsNetwork network (Ruled state.rules) → Leaves next (λ view. IsProbe m (Ruled state.rules) key world answer view now)) → Runs (RunsProbe m state key answer) (stage_of now next halts tries)
+pub probe_runs : {S V : Type 0} (m : Meaning S V) (world now : View S V) (network next : Network) (halts : List Halt) (tries : ℕ) (seen : Stage S V) (state : State S V) (key : List ℕ) (answer : OpAnswer) → stage_of world network halts tries ≡ seen → IsInState seen state
+    → (IsNetwork network (Ruled state.rules) → NetworkLeaves next (λ view. IsProbe m (Ruled state.rules) key world answer view now)) → Runs (RunsProbe m state key answer) (stage_of now next halts tries)
 probe_runs {S} {V} m world now network next halts tries seen state key answer is at runs =
     let now_ruled = still_ruled next state.rules (λ view. IsProbe m (Ruled state.rules) key world answer view now) (λ view. probe_stay m (Ruled state.rules) view key world now answer) (runs (network_is world network halts tries seen state is at)) in record {
       new = record state { world = now };
@@ -129,9 +129,9 @@ probe_runs {S} {V} m world now network next halts tries seen state key answer is
     }
 
 -- ---- a change
-pub change_runs : {S V : Type 0} (m : Meaning S V) (world now : View S V) (network next : Network) (halts : List Halt) (tries : ℕ) (seen : Stage S V) (state : State S V) (index : ℕ) (asked : Asked) (after : Halt) (answer : Answer)
-    → stage_of world network halts tries ≡ seen → IsIn seen state → index ≡ asked.caller → asked.caller < length halts
-    → (IsNetwork network (Ruled state.rules) → Leaves next (λ view. IsChange m tries (Ruled state.rules) asked.caller asked.key asked.program (slice_index_or halts index nowhere) world answer view after now))
+pub change_runs : {S V : Type 0} (m : Meaning S V) (world now : View S V) (network next : Network) (halts : List Halt) (tries : ℕ) (seen : Stage S V) (state : State S V) (index : ℕ) (asked : AskedChange) (after : Halt) (answer : Answer)
+    → stage_of world network halts tries ≡ seen → IsInState seen state → index ≡ asked.caller → asked.caller < length halts
+    → (IsNetwork network (Ruled state.rules) → NetworkLeaves next (λ view. IsChange m tries (Ruled state.rules) asked.caller asked.key asked.program (slice_index_or halts index nowhere) world answer view after now))
     → Runs (RunsChange m tries state asked answer) (stage_of now next (slice_set halts index after) tries)
 change_runs {S} {V} m world now network next halts tries seen state index asked after answer is at same low runs =
     let now_ruled = still_ruled next state.rules (λ view. IsChange m tries (Ruled state.rules) asked.caller asked.key asked.program (slice_index_or halts index nowhere) world answer view after now) (λ view. change_stay m tries (Ruled state.rules) view asked.caller asked.key asked.program (slice_index_or halts index nowhere) after world now answer) (runs (network_is world network halts tries seen state is at)) in record {

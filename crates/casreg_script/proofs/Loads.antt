@@ -2,7 +2,7 @@
 use Rattle.std.proofs.Common.{◌≡◌, ◌+◌, ◌%◌, ◌^◌, ℕ, Bool, true, false, nat_lt, nat_eq, List, [], ◌∷◌, ◌++◌, length, refl, sym, ap, subst, ◌∙◌}
 use Rattle.std.specs.Prelude.{if◌then◌else◌, pos, Option, Some}
 use Rattle.std.specs.Option.{option_map_or}
-use Rattle.cas_lines.specs.Command.{Asked, change_of}
+use Rattle.cas_lines.specs.Command.{AskedChange, change_of}
 use Rattle.std.proofs.lemmas.List.{length-append}
 use Rattle.rand_pcg.specs.Lcg.{Lcg}
 use Rattle.cas_fate.specs.Seeded.{generator_of_seed}
@@ -15,7 +15,7 @@ use Rattle.cas_record.specs.declared.answer.Answer.{Answer}
 use Rattle.cas_model.specs.View.{Meaning, View}
 use Rattle.casreg_script.specs.Frames.Conditions.{NetworkView, Drawn as DrawnBy}
 use Rattle.casreg_script.specs.Load as load_specs
-use Rattle.casreg_script.specs.Load.{LoadRun, AnswersDrawn, StopsBehind, CollectsBehind, RunsDrawn, SumsUp, BreaksOff, before_line, before_collection, load_opening, key_of, text_of, command_of}
+use Rattle.casreg_script.specs.Load.{LoadRun, AnswersDrawn, StopsBehind, CollectsBehind, RunsDrawn, SumsUp, LoadBreaksOff, before_line, before_collection, load_opening, key_of, text_of, command_of}
 use Rattle.casreg_script.specs.Frames.Network.{IsNetwork, Through}
 use Rattle.casreg_script.specs.declared.load.Load.{Load}
 use Rattle.casreg_script.specs.declared.network.Network.{Network}
@@ -81,13 +81,13 @@ module _ {S V : Type 0} (m : Meaning S V) (load : Load) (first world mid stopped
       }
 
 -- no memory was found before a line
-pub no_line : {S V : Type 0} (m : Meaning S V) (load : Load) (first world new : View S V) (network : Network) (lines : Lcg) (summary : Summary) (line : ℕ) → RunsSoFar m load first network lines summary line world → new ≡ world → BreaksOff m load first new
+pub no_line : {S V : Type 0} (m : Meaning S V) (load : Load) (first world new : View S V) (network : Network) (lines : Lcg) (summary : Summary) (line : ℕ) → RunsSoFar m load first network lines summary line world → new ≡ world → LoadBreaksOff m load first new
 no_line m load first world new network lines summary line so same = before_line so.run (sym same)
 
 -- or for the collection behind it
 pub no_collection : {S V : Type 0} (m : Meaning S V) (load : Load) (first world mid stopped new : View S V) (network between : Network) (lines then_ : Lcg) (summary : Summary) (line : ℕ) (answer : Answer) → RunsSoFar m load first network lines summary line world
     → Through network between (λ by view. AnswersDrawn m load line (record { world = world; network = by; lines = lines }) answer (record { world = mid; network = view; lines = then_ }))
-    → StopsBehind m load line mid stopped → new ≡ stopped → line % 100 ≡ 99 → BreaksOff m load first new
+    → StopsBehind m load line mid stopped → new ≡ stopped → line % 100 ≡ 99 → LoadBreaksOff m load first new
 no_collection m load first world mid stopped new network between lines then_ summary line answer so answers stops same due =
     let answered = answers so.view so.is in
     before_collection so.run
@@ -109,12 +109,12 @@ choose low middle seven eight line drawn =
     else Num drawn.caller (key_of drawn.key) (pos line))))
 
 -- the change that a drawn line asks for is its caller's
-asks_by : (low middle seven eight : Bool) (line : ℕ) (drawn : Drawn) (asked : Asked) → change_of (choose low middle seven eight line drawn) ≡ Some asked → asked.caller ≡ drawn.caller
-asks_by true middle seven eight line drawn asked is = sym (ap (λ (o : Option Asked). option_map_or (λ (a : Asked). a.caller) o drawn.caller) is)
-asks_by false true seven eight line drawn asked is = sym (ap (λ (o : Option Asked). option_map_or (λ (a : Asked). a.caller) o drawn.caller) is)
-asks_by false false true eight line drawn asked is = sym (ap (λ (o : Option Asked). option_map_or (λ (a : Asked). a.caller) o drawn.caller) is)
-asks_by false false false true line drawn asked is = sym (ap (λ (o : Option Asked). option_map_or (λ (a : Asked). a.caller) o drawn.caller) is)
-asks_by false false false false line drawn asked is = sym (ap (λ (o : Option Asked). option_map_or (λ (a : Asked). a.caller) o drawn.caller) is)
+asks_by : (low middle seven eight : Bool) (line : ℕ) (drawn : Drawn) (asked : AskedChange) → change_of (choose low middle seven eight line drawn) ≡ Some asked → asked.caller ≡ drawn.caller
+asks_by true middle seven eight line drawn asked is = sym (ap (λ (o : Option AskedChange). option_map_or (λ (a : AskedChange). a.caller) o drawn.caller) is)
+asks_by false true seven eight line drawn asked is = sym (ap (λ (o : Option AskedChange). option_map_or (λ (a : AskedChange). a.caller) o drawn.caller) is)
+asks_by false false true eight line drawn asked is = sym (ap (λ (o : Option AskedChange). option_map_or (λ (a : AskedChange). a.caller) o drawn.caller) is)
+asks_by false false false true line drawn asked is = sym (ap (λ (o : Option AskedChange). option_map_or (λ (a : AskedChange). a.caller) o drawn.caller) is)
+asks_by false false false false line drawn asked is = sym (ap (λ (o : Option AskedChange). option_map_or (λ (a : AskedChange). a.caller) o drawn.caller) is)
 
-pub asks_for : (line : ℕ) (drawn : Drawn) (asked : Asked) → change_of (command_of line drawn) ≡ Some asked → asked.caller ≡ drawn.caller
+pub asks_for : (line : ℕ) (drawn : Drawn) (asked : AskedChange) → change_of (command_of line drawn) ≡ Some asked → asked.caller ≡ drawn.caller
 asks_for line drawn asked is = asks_by (nat_lt drawn.kind 5) (nat_lt drawn.kind 7) (nat_eq drawn.kind 7) (nat_eq drawn.kind 8) line drawn asked is

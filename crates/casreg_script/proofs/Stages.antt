@@ -3,7 +3,7 @@ use Rattle.std.proofs.Common.{◌≡◌, ◌<◌, ℕ, zero, suc, List, [], ◌�
 use Rattle.cas_model.specs.View.{View, IsAt}
 use Rattle.casreg_script.specs.Frames.Conditions.{Rule, Ruled}
 use Rattle.casreg_script.specs.Frames.Network.{IsNetwork}
-use Rattle.casreg_script.specs.Script.{State, IsIn, Runs, nowhere}
+use Rattle.casreg_script.specs.Script.{State, IsInState, Runs, nowhere}
 use Rattle.casreg_script.specs.Stage.{Stage, IsStage}
 use Rattle.casreg_script.specs.declared.halt.Halt.{Halt}
 use Rattle.casreg_script.specs.declared.network.Network.{Network}
@@ -29,17 +29,17 @@ goes_idle world now network halts tries proposers is keeps = record { known = ke
 
 -- ---- states
 -- what the world of the state is
-pub world_is : {S V : Type 0} (world : View S V) (network : Network) (halts : List Halt) (tries : ℕ) (seen : Stage S V) (state : State S V) → stage_of world network halts tries ≡ seen → IsIn seen state → world ≡ state.world
+pub world_is : {S V : Type 0} (world : View S V) (network : Network) (halts : List Halt) (tries : ℕ) (seen : Stage S V) (state : State S V) → stage_of world network halts tries ≡ seen → IsInState seen state → world ≡ state.world
 world_is {S} {V} world network halts tries seen state is at = ap (λ (s : Stage S V). s.world) is ∙ at.world
 
-pub halts_are : {S V : Type 0} (world : View S V) (network : Network) (halts : List Halt) (tries : ℕ) (seen : Stage S V) (state : State S V) → stage_of world network halts tries ≡ seen → IsIn seen state → halts ≡ state.halts
+pub halts_are : {S V : Type 0} (world : View S V) (network : Network) (halts : List Halt) (tries : ℕ) (seen : Stage S V) (state : State S V) → stage_of world network halts tries ≡ seen → IsInState seen state → halts ≡ state.halts
 halts_are {S} {V} world network halts tries seen state is at = ap (λ (s : Stage S V). s.halts) is ∙ at.halts
 
-pub network_is : {S V : Type 0} (world : View S V) (network : Network) (halts : List Halt) (tries : ℕ) (seen : Stage S V) (state : State S V) → stage_of world network halts tries ≡ seen → IsIn seen state → IsNetwork network (Ruled state.rules)
+pub network_is : {S V : Type 0} (world : View S V) (network : Network) (halts : List Halt) (tries : ℕ) (seen : Stage S V) (state : State S V) → stage_of world network halts tries ≡ seen → IsInState seen state → IsNetwork network (Ruled state.rules)
 network_is {S} {V} world network halts tries seen state is at = subst (λ (n : Network). IsNetwork n (Ruled state.rules)) (sym (ap (λ (s : Stage S V). s.network) is)) at.network
 
 -- another world, with all else as it is
-pub in_world : {S V : Type 0} (world now : View S V) (network : Network) (halts : List Halt) (tries : ℕ) (seen : Stage S V) (state : State S V) (P : State S V → Type 0) → stage_of world network halts tries ≡ seen → IsIn seen state → P (record state { world = now })
+pub in_world : {S V : Type 0} (world now : View S V) (network : Network) (halts : List Halt) (tries : ℕ) (seen : Stage S V) (state : State S V) (P : State S V → Type 0) → stage_of world network halts tries ≡ seen → IsInState seen state → P (record state { world = now })
     → Runs P (stage_of now network halts tries)
 in_world world now network halts tries seen state P is at has = record {
   new = record state { world = now };
@@ -48,7 +48,7 @@ in_world world now network halts tries seen state P is at has = record {
 }
 
 -- one rule more
-pub in_network : {S V : Type 0} (world : View S V) (network now : Network) (halts : List Halt) (tries : ℕ) (seen : Stage S V) (state : State S V) (rule : Rule) (P : State S V → Type 0) → stage_of world network halts tries ≡ seen → IsIn seen state
+pub in_network : {S V : Type 0} (world : View S V) (network now : Network) (halts : List Halt) (tries : ℕ) (seen : Stage S V) (state : State S V) (rule : Rule) (P : State S V → Type 0) → stage_of world network halts tries ≡ seen → IsInState seen state
     → (IsNetwork network (Ruled state.rules) → IsNetwork now (Ruled (rule ∷ state.rules))) → P (record state { rules = rule ∷ state.rules }) → Runs P (stage_of world now halts tries)
 in_network world network now halts tries seen state rule P is at goes has = record {
   new = record state { rules = rule ∷ state.rules };
@@ -57,7 +57,7 @@ in_network world network now halts tries seen state rule P is at goes has = reco
 }
 
 -- one halt more
-pub in_halts : {S V : Type 0} (world : View S V) (network : Network) (halts : List Halt) (tries : ℕ) (seen : Stage S V) (state : State S V) (index place : ℕ) (next : Halt) (P : State S V → Type 0) → stage_of world network halts tries ≡ seen → IsIn seen state → index ≡ place
+pub in_halts : {S V : Type 0} (world : View S V) (network : Network) (halts : List Halt) (tries : ℕ) (seen : Stage S V) (state : State S V) (index place : ℕ) (next : Halt) (P : State S V → Type 0) → stage_of world network halts tries ≡ seen → IsInState seen state → index ≡ place
     → P (record state { halts = slice_set state.halts place next }) → Runs P (stage_of world network (slice_set halts index next) tries)
 in_halts world network halts tries seen state index place next P is at same has = record {
   new = record state { halts = slice_set state.halts place next };

@@ -55,11 +55,11 @@ pub data RestartsProposer {S V : Type 0} (m : Meaning S V) (old : View S V) (id 
 
 -- ---- late frames
 -- the late frame of that place strays in: there is none, the record is full, or there was no memory
-pub data StraysIn {S V : Type 0} (m : Meaning S V) (old : View S V) (index : ℕ) : EventAnswer → View S V → Type 0 where
-  absent : length old.flow.late ≤ index → StraysIn m old index event.Absent old
-  strays : {new : View S V} → Step m old (Stray index) new → StraysIn m old index event.Ok new
-  full : index < length old.flow.late → length old.marks + reserved_in_all old ≡ most_marks → StraysIn m old index event.RecordFull old
-  no_memory : {new : View S V} → index < length old.flow.late → Step m old RefuseStray new → StraysIn m old index event.NoMemory new
+pub data AnswersStray {S V : Type 0} (m : Meaning S V) (old : View S V) (index : ℕ) : EventAnswer → View S V → Type 0 where
+  absent : length old.flow.late ≤ index → AnswersStray m old index event.Absent old
+  strays : {new : View S V} → Step m old (Stray index) new → AnswersStray m old index event.Ok new
+  full : index < length old.flow.late → length old.marks + reserved_in_all old ≡ most_marks → AnswersStray m old index event.RecordFull old
+  no_memory : {new : View S V} → index < length old.flow.late → Step m old RefuseStray new → AnswersStray m old index event.NoMemory new
 
 -- ---- slots
 abbrev pub shown_of : Option Slot → Shown
@@ -67,7 +67,7 @@ shown_of None = shown.Nothing
 shown_of (Some slot) = shown.Kept slot
 
 -- what the acceptor keeps for the key, if it is up
-pub data IsShown {S V : Type 0} (m : Meaning S V) (view : View S V) (id : ℕ) (key : List ℕ) : Shown → Type 0 where
-  absent : is_up view id ≡ None → IsShown m view id key shown.Nothing
-  down : is_up view id ≡ Some false → IsShown m view id key shown.Down
-  keeps : is_up view id ≡ Some true → (acceptor : AcceptorView S) → IsAt view.acceptors id acceptor → IsShown m view id key (shown_of (kept_at (m.shelves.contents acceptor.shelf) key))
+pub data IsShownSlot {S V : Type 0} (m : Meaning S V) (view : View S V) (id : ℕ) (key : List ℕ) : Shown → Type 0 where
+  absent : is_up view id ≡ None → IsShownSlot m view id key shown.Nothing
+  down : is_up view id ≡ Some false → IsShownSlot m view id key shown.Down
+  keeps : is_up view id ≡ Some true → (acceptor : AcceptorView S) → IsAt view.acceptors id acceptor → IsShownSlot m view id key (shown_of (kept_at (m.shelves.contents acceptor.shelf) key))

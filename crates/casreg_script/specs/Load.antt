@@ -5,7 +5,7 @@ use Rattle.rand_pcg.specs.Lcg.{Lcg}
 use Rattle.cas_fate.specs.Generator.{drawn_line}
 use Rattle.cas_fate.specs.Seeded.{generator_of_seed}
 use Rattle.cas_fate.specs.declared.generator.Drawn.{Drawn}
-use Rattle.cas_lines.specs.Command.{Asked, change_of}
+use Rattle.cas_lines.specs.Command.{AskedChange, change_of}
 use Rattle.cas_lines.specs.Summary.{summary_of}
 use Rattle.cas_lines.specs.declared.answer.EventAnswer.{EventAnswer}
 use Rattle.cas_lines.specs.declared.command.Command.{Command}
@@ -55,7 +55,7 @@ load_opening load world = record { world = world; network = DrawnBy (generator_o
 -- ---- a line
 -- the next line is drawn and run, as the one of that number
 pub record AnswersDrawn {S V : Type 0} (m : Meaning S V) (load : Load) (line : ℕ) (old : LoadState S V) (answer : Answer) (new : LoadState S V) : Type 0 where
-  pub asked : Asked
+  pub asked : AskedChange
   pub asks : change_of (command_of line (drawn_line load.proposers old.lines).0) ≡ Some asked
   pub after : Halt
   pub change : IsChange m load.tries old.network asked.caller asked.key asked.program nowhere old.world answer new.network after new.world
@@ -104,10 +104,10 @@ pub record SumsUp {S V : Type 0} (m : Meaning S V) (load : Load) (old : View S V
   pub ends : last.world ≡ new
 
 -- It broke off for want of memory: before a line, or behind the one that was run last, before the collection that was due.
-pub data BreaksOff {S V : Type 0} (m : Meaning S V) (load : Load) (old new : View S V) : Type 0 where
-  before_line : {answers : List Answer} {last : LoadState S V} → LoadRun m load (load_opening load old) answers last → last.world ≡ new → BreaksOff m load old new
+pub data LoadBreaksOff {S V : Type 0} (m : Meaning S V) (load : Load) (old new : View S V) : Type 0 where
+  before_line : {answers : List Answer} {last : LoadState S V} → LoadRun m load (load_opening load old) answers last → last.world ≡ new → LoadBreaksOff m load old new
   before_collection : {answers : List Answer} {last answered : LoadState S V} {answer : Answer} → LoadRun m load (load_opening load old) answers last → AnswersDrawn m load (length answers) last answer answered
-      → StopsBehind m load (length answers) answered.world new → length answers % 100 ≡ 99 → BreaksOff m load old new
+      → StopsBehind m load (length answers) answered.world new → length answers % 100 ≡ 99 → LoadBreaksOff m load old new
 
 -- ---- loads
 -- as many acceptors, proposers and tries as a load may have

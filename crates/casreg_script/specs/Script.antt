@@ -2,7 +2,7 @@
 use Rattle.std.specs.Prelude.{◌≡◌, ℕ, suc, Bool, true, false, List, [], ◌∷◌, ◌++◌, Option, Some, None, Err, replicate, slice_set}
 use Rattle.cas_change_text.specs.declared.refusal.Why.{Why}
 use Rattle.cas_lines.specs.Answers.{change_line, bad_line, event_line, op_line, shown_line}
-use Rattle.cas_lines.specs.Command.{IsLine, Asked, change_of}
+use Rattle.cas_lines.specs.Command.{IsLine, AskedChange, change_of}
 use Rattle.cas_lines.specs.Reading.{line_in}
 use Rattle.cas_lines.specs.declared.answer.EventAnswer.{EventAnswer}
 use Rattle.cas_lines.specs.declared.answer.EventAnswer.TheVariants as event
@@ -19,7 +19,7 @@ use Rattle.cas_model.specs.View.{Meaning, View, IsAt}
 use Rattle.casreg_script.specs.Calls.Changes.{IsChange}
 use Rattle.casreg_script.specs.Collection.Collections.{IsCollection}
 use Rattle.casreg_script.specs.Frames.Conditions.{Rule, Ruled}
-use Rattle.casreg_script.specs.Events.{CrashesAcceptor, RestartsAcceptor, RestartsProposer, StraysIn, IsShown}
+use Rattle.casreg_script.specs.Events.{CrashesAcceptor, RestartsAcceptor, RestartsProposer, AnswersStray, IsShownSlot}
 use Rattle.casreg_script.specs.Eras.Membership.{ChangesMembers}
 use Rattle.casreg_script.specs.Frames.Network.{IsNetwork}
 use Rattle.casreg_script.specs.Exchanges.Probes.{IsProbe}
@@ -53,7 +53,7 @@ pub data LineAnswer : Type 0 where
   Remark : LineAnswer
 
 -- a line that asks for a change runs it, and the halts of its proposer may be used up
-pub record RunsChange {S V : Type 0} (m : Meaning S V) (tries : ℕ) (old : State S V) (asked : Asked) (answer : Answer) (new : State S V) : Type 0 where
+pub record RunsChange {S V : Type 0} (m : Meaning S V) (tries : ℕ) (old : State S V) (asked : AskedChange) (answer : Answer) (new : State S V) : Type 0 where
   pub halt : Halt
   pub at_halt : IsAt old.halts asked.caller halt
   pub after : Halt
@@ -70,7 +70,7 @@ pub data RunsEvent {S V : Type 0} (m : Meaning S V) (old : State S V) : Command 
   restart_proposer : {proposer : ℕ} {answer : EventAnswer} {world : View S V} → RestartsProposer m old.world proposer answer world → RunsEvent m old (RestartProposer proposer) answer (record old { world = world })
   halt_prepared : {proposer : ℕ} (halt : Halt) {new : State S V} → IsAt old.halts proposer halt → new ≡ record old { halts = slice_set old.halts proposer (record halt { after_prepare = true }) } → RunsEvent m old (HaltPrepared proposer) event.Ok new
   halt_proposed : {proposer : ℕ} (halt : Halt) {new : State S V} → IsAt old.halts proposer halt → new ≡ record old { halts = slice_set old.halts proposer (record halt { after_propose = true }) } → RunsEvent m old (HaltProposed proposer) event.Ok new
-  stray : {index : ℕ} {answer : EventAnswer} {world : View S V} → StraysIn m old.world index answer world → RunsEvent m old (Stray index) answer (record old { world = world })
+  stray : {index : ℕ} {answer : EventAnswer} {world : View S V} → AnswersStray m old.world index answer world → RunsEvent m old (Stray index) answer (record old { world = world })
 
 -- a line that asks for a probe runs it
 pub record RunsProbe {S V : Type 0} (m : Meaning S V) (old : State S V) (key : List ℕ) (answer : OpAnswer) (new : State S V) : Type 0 where
@@ -104,10 +104,10 @@ pub record RunsCollection {S V : Type 0} (m : Meaning S V) (tries : ℕ) (old : 
 
 -- the line is run as its words say, by a script of so many tries
 pub data IsAnswered {S V : Type 0} (m : Meaning S V) (tries : ℕ) (old : State S V) (line : List ℕ) : LineAnswer → State S V → Type 0 where
-  changes : {answer : Answer} {new : State S V} (command : Command) (asked : Asked) → IsLine old.world.last_proposer line (Some command) → change_of command ≡ Some asked → RunsChange m tries old asked answer new
+  changes : {answer : Answer} {new : State S V} (command : Command) (asked : AskedChange) → IsLine old.world.last_proposer line (Some command) → change_of command ≡ Some asked → RunsChange m tries old asked answer new
       → IsAnswered m tries old line (Changed asked.caller answer) new
   happens : {answer : EventAnswer} {new : State S V} (command : Command) → IsLine old.world.last_proposer line (Some command) → RunsEvent m old command answer new → IsAnswered m tries old line (Happened answer) new
-  shows : {shown : Shown} (id : ℕ) (key : List ℕ) → IsLine old.world.last_proposer line (Some (Show id key)) → IsShown m old.world id key shown → IsAnswered m tries old line (Shows id key shown) old
+  shows : {shown : Shown} (id : ℕ) (key : List ℕ) → IsLine old.world.last_proposer line (Some (Show id key)) → IsShownSlot m old.world id key shown → IsAnswered m tries old line (Shows id key shown) old
   probes : {answer : OpAnswer} {new : State S V} (key : List ℕ) → IsLine old.world.last_proposer line (Some (Probe key)) → RunsProbe m old key answer new → IsAnswered m tries old line (Operated answer) new
   collects : {answer : OpAnswer} {new : State S V} (key : List ℕ) → IsLine old.world.last_proposer line (Some (Collect key)) → RunsCollection m tries old key answer new → IsAnswered m tries old line (Operated answer) new
   changes_members : {answer : OpAnswer} {new : State S V} (command : Command) (asked : operator.Asked) → IsLine old.world.last_proposer line (Some command) → membership_of command ≡ Some asked → RunsMembership m tries old asked answer new
@@ -138,7 +138,7 @@ transcript_of number (answer ∷ later) = text_of number answer ++ transcript_of
 
 -- ---- scripts
 -- a script is in this state
-pub record IsIn {S V : Type 0} (stage : Stage S V) (state : State S V) : Type 0 where
+pub record IsInState {S V : Type 0} (stage : Stage S V) (state : State S V) : Type 0 where
   pub world : stage.world ≡ state.world
   pub network : IsNetwork stage.network (Ruled state.rules)
   pub halts : stage.halts ≡ state.halts
@@ -147,19 +147,19 @@ pub record IsIn {S V : Type 0} (stage : Stage S V) (state : State S V) : Type 0 
 pub record AnswersLine {S V : Type 0} (m : Meaning S V) (tries : ℕ) (old : State S V) (line : List ℕ) (number : ℕ) (text : List ℕ) (stage : Stage S V) : Type 0 where
   pub answer : LineAnswer
   pub new : State S V
-  pub is_in : IsIn stage new
+  pub is_in : IsInState stage new
   pub run : IsAnswered m tries old line answer new
   pub text_is : text ≡ text_of number answer
 
 -- where there was no memory the line was run, or was not
 pub data RanOrNot {S V : Type 0} (m : Meaning S V) (tries : ℕ) (old : State S V) (line : List ℕ) (stage : Stage S V) : Type 0 where
-  not_run : IsIn stage old → RanOrNot m tries old line stage
-  ran : (answer : LineAnswer) (new : State S V) → IsIn stage new → IsAnswered m tries old line answer new → RanOrNot m tries old line stage
+  not_run : IsInState stage old → RanOrNot m tries old line stage
+  ran : (answer : LineAnswer) (new : State S V) → IsInState stage new → IsAnswered m tries old line answer new → RanOrNot m tries old line stage
 
 -- a script is in some state that has P
 pub record Runs {S V : Type 0} (P : State S V → Type 0) (stage : Stage S V) : Type 0 where
   pub new : State S V
-  pub is_in : IsIn stage new
+  pub is_in : IsInState stage new
   pub has : P new
 
 -- it is an event line that does something

@@ -7,10 +7,10 @@ ghost use Rattle.cas_model.specs.Calls.Step.{Rescans};
 ghost use Rattle.cas_model.specs.View.{meaning};
 ghost use Rattle.cas_record.specs.declared.answer.Answer.TheVariants as answer;
 ghost use Rattle.cas_world.specs.Calls.Beginning.{is_refusal, HasNoCall};
-ghost use Rattle.casreg_script.specs.Calls.Changes.{AllTurned, FailsToTurn, EndsPrepare, IsAccepted, IsCutOff, IsCutShort, IsRound, AreRounds, IsChange, HasQuorum, Strikes};
+ghost use Rattle.casreg_script.specs.Calls.Changes.{AllTurned, FailsToTurn, EndsPrepare, EndsAcceptPhase, IsCutOff, IsCutShort, IsRound, AreRounds, IsChange, HasQuorum, Strikes};
 ghost use Rattle.casreg_script.specs.Frames.Conditions.{NetworkView};
 ghost use Rattle.casreg_script.specs.Frames.Network.{IsNetwork, Through};
-ghost use Rattle.casreg_script.specs.Calls.Playing.{Asked, HasBegun, IsPlaying, IsOver, is_conflict};
+ghost use Rattle.casreg_script.specs.Calls.Playing.{AskedCall, HasBegun, IsPlaying, IsOver, is_conflict};
 
 use crate::halt::Halt;
 use crate::network::{Network, is_to_repeat};
@@ -98,11 +98,11 @@ fn round<S: Shelf, V: Disk>(
     proposer: u8,
 ) -> Answer
     requires known { proposer ≤ world.old.last_proposer }
-    requires begun { (asked : Asked) × HasBegun world.old proposer asked }
+    requires begun { (asked : AskedCall) × HasBegun world.old proposer asked }
     requires network { (by : NetworkView) × IsNetwork network.old by }
     ensures round { Through network.old network.new (λ by next. IsRound (meaning S.Shelf V.Disk) by proposer halt.old world.old next halt.new world.new) }
     ensures network { (by : NetworkView) → IsNetwork network.old by → (next : NetworkView) × IsNetwork network.new next }
-    ensures over { (asked : Asked) → HasBegun world.old proposer asked → IsOver world.new proposer asked result }
+    ensures over { (asked : AskedCall) → HasBegun world.old proposer asked → IsOver world.new proposer asked result }
     ensures last_proposer { world.new.last_proposer ≡ world.old.last_proposer }
 {
     if world.has_proposed(proposer) {
@@ -122,13 +122,13 @@ fn prepare<S: Shelf, V: Disk>(
     proposer: u8,
 ) -> Result<(), Answer>
     requires known { proposer ≤ world.old.last_proposer }
-    requires open { (asked : Asked) × IsPlaying world.old proposer asked false }
+    requires open { (asked : AskedCall) × IsPlaying world.old proposer asked false }
     requires network { (by : NetworkView) × IsNetwork network.old by }
     ensures proposed { OnOk result (Through network.old network.new (λ by next. EndsPrepare (meaning S.Shelf V.Disk) by proposer halt.old world.old next world.new)) }
     ensures same_halt { OnOk result (halt.new ≡ halt.old) }
-    ensures plays { (asked : Asked) → IsPlaying world.old proposer asked false → OnOk result (IsPlaying world.new proposer asked true) }
+    ensures plays { (asked : AskedCall) → IsPlaying world.old proposer asked false → OnOk result (IsPlaying world.new proposer asked true) }
     ensures refused { OnErr result (Through network.old network.new (λ by next. IsRound (meaning S.Shelf V.Disk) by proposer halt.old world.old next halt.new world.new)) }
-    ensures over { (asked : Asked) → IsPlaying world.old proposer asked false → IfErr result (IsOver world.new proposer asked) }
+    ensures over { (asked : AskedCall) → IsPlaying world.old proposer asked false → IfErr result (IsOver world.new proposer asked) }
     ensures network { (by : NetworkView) → IsNetwork network.old by → (next : NetworkView) × IsNetwork network.new next }
     ensures last_proposer { world.new.last_proposer ≡ world.old.last_proposer }
 {
@@ -145,14 +145,14 @@ pub(crate) fn prepare_turns<S: Shelf, V: Disk>(
     proposer: u8,
 ) -> Result<(), Answer>
     requires known { proposer ≤ world.old.last_proposer }
-    requires open { (asked : Asked) × IsPlaying world.old proposer asked false }
+    requires open { (asked : AskedCall) × IsPlaying world.old proposer asked false }
     requires network { (by : NetworkView) × IsNetwork network.old by }
     ensures turned { OnOk result (Through network.old network.new (λ by next. AllTurned (meaning S.Shelf V.Disk) by proposer world.old next world.new)) }
     ensures goes_on { OnOk result (Strikes halt.old world.new proposer → ⊥) }
     ensures same_halt { OnOk result (halt.new ≡ halt.old) }
-    ensures plays { (asked : Asked) → IsPlaying world.old proposer asked false → OnOk result (IsPlaying world.new proposer asked false) }
+    ensures plays { (asked : AskedCall) → IsPlaying world.old proposer asked false → OnOk result (IsPlaying world.new proposer asked false) }
     ensures cut_off { OnErr result (Through network.old network.new (λ by next. IsCutOff (meaning S.Shelf V.Disk) by proposer halt.old world.old next halt.new world.new)) }
-    ensures over { (asked : Asked) → IsPlaying world.old proposer asked false → IfErr result (IsOver world.new proposer asked) }
+    ensures over { (asked : AskedCall) → IsPlaying world.old proposer asked false → IfErr result (IsOver world.new proposer asked) }
     ensures not_done { IfErr result (λ told. is_done told ≡ false) }
     ensures network { (by : NetworkView) → IsNetwork network.old by → (next : NetworkView) × IsNetwork network.new next }
     ensures council { world.new.council ≡ world.old.council }
@@ -176,10 +176,10 @@ fn accept<S: Shelf, V: Disk>(
     proposer: u8,
 ) -> Answer
     requires known { proposer ≤ world.old.last_proposer }
-    requires open { (asked : Asked) × IsPlaying world.old proposer asked true }
+    requires open { (asked : AskedCall) × IsPlaying world.old proposer asked true }
     requires network { (by : NetworkView) × IsNetwork network.old by }
-    ensures accepted { Through network.old network.new (λ by next. IsAccepted (meaning S.Shelf V.Disk) by proposer halt.old world.old next halt.new world.new) }
-    ensures over { (asked : Asked) → IsPlaying world.old proposer asked true → IsOver world.new proposer asked result }
+    ensures accepted { Through network.old network.new (λ by next. EndsAcceptPhase (meaning S.Shelf V.Disk) by proposer halt.old world.old next halt.new world.new) }
+    ensures over { (asked : AskedCall) → IsPlaying world.old proposer asked true → IsOver world.new proposer asked result }
     ensures network { (by : NetworkView) → IsNetwork network.old by → (next : NetworkView) × IsNetwork network.new next }
     ensures last_proposer { world.new.last_proposer ≡ world.old.last_proposer }
 {
@@ -198,14 +198,14 @@ pub(crate) fn accept_turns<S: Shelf, V: Disk>(
     proposer: u8,
 ) -> Result<(), Answer>
     requires known { proposer ≤ world.old.last_proposer }
-    requires open { (asked : Asked) × IsPlaying world.old proposer asked true }
+    requires open { (asked : AskedCall) × IsPlaying world.old proposer asked true }
     requires network { (by : NetworkView) × IsNetwork network.old by }
     ensures turned { OnOk result (Through network.old network.new (λ by next. AllTurned (meaning S.Shelf V.Disk) by proposer world.old next world.new)) }
     ensures goes_on { OnOk result (halt.old.after_propose ≡ false) }
     ensures same_halt { OnOk result (halt.new ≡ halt.old) }
-    ensures plays { (asked : Asked) → IsPlaying world.old proposer asked true → OnOk result (IsPlaying world.new proposer asked true) }
+    ensures plays { (asked : AskedCall) → IsPlaying world.old proposer asked true → OnOk result (IsPlaying world.new proposer asked true) }
     ensures cut_short { OnErr result (Through network.old network.new (λ by next. IsCutShort (meaning S.Shelf V.Disk) by proposer halt.old world.old next halt.new world.new)) }
-    ensures over { (asked : Asked) → IsPlaying world.old proposer asked true → IfErr result (IsOver world.new proposer asked) }
+    ensures over { (asked : AskedCall) → IsPlaying world.old proposer asked true → IfErr result (IsOver world.new proposer asked) }
     ensures not_done { IfErr result (λ told. is_done told ≡ false) }
     ensures network { (by : NetworkView) → IsNetwork network.old by → (next : NetworkView) × IsNetwork network.new next }
     ensures council { world.new.council ≡ world.old.council }
@@ -232,8 +232,8 @@ fn all_turns<S: Shelf, V: Disk>(
     requires network { (by : NetworkView) × IsNetwork network.old by }
     ensures through { OnOk result (Through network.old network.new (λ by next. AllTurned (meaning S.Shelf V.Disk) by proposer world.old next world.new)) }
     ensures fails { OnErr result (Through network.old network.new (λ by next. FailsToTurn (meaning S.Shelf V.Disk) by proposer world.old next world.new)) }
-    ensures plays { (asked : Asked) (proposed : Bool) → IsPlaying world.old proposer asked proposed → OnOk result (IsPlaying world.new proposer asked proposed) }
-    ensures told { (asked : Asked) (proposed : Bool) → IsPlaying world.old proposer asked proposed → OnErr result (IsOver world.new proposer asked (answer.NoMemory proposed)) }
+    ensures plays { (asked : AskedCall) (proposed : Bool) → IsPlaying world.old proposer asked proposed → OnOk result (IsPlaying world.new proposer asked proposed) }
+    ensures told { (asked : AskedCall) (proposed : Bool) → IsPlaying world.old proposer asked proposed → OnErr result (IsOver world.new proposer asked (answer.NoMemory proposed)) }
     ensures network { (by : NetworkView) → IsNetwork network.old by → (next : NetworkView) × IsNetwork network.new next }
     ensures last_proposer { world.new.last_proposer ≡ world.old.last_proposer }
 {
@@ -250,7 +250,7 @@ fn all_turns<S: Shelf, V: Disk>(
 /// Whether a quorum confirmed in the open phase of the proposer's round.
 fn has_quorum<S: Shelf, V: Disk>(world: &World<S, V>, proposer: u8) -> bool
     requires known { proposer ≤ world.now.last_proposer }
-    requires open { (asked : Asked) × (proposed : Bool) × IsPlaying world.now proposer asked proposed }
+    requires open { (asked : AskedCall) × (proposed : Bool) × IsPlaying world.now proposer asked proposed }
     ensures { IsTrue result ↔ HasQuorum world.now proposer }
 {
     is_quorum(world.verdict(proposer))
@@ -266,9 +266,9 @@ fn is_quorum(verdict: Option<RoundVerdict>) -> bool
 /// The proposer crashes within its round, which is open. Gives what its caller is told.
 fn crash<S: Shelf, V: Disk>(world: &mut World<S, V>, proposer: u8) -> Answer
     requires known { proposer ≤ world.old.last_proposer }
-    requires open { (asked : Asked) × (proposed : Bool) × IsPlaying world.old proposer asked proposed }
+    requires open { (asked : AskedCall) × (proposed : Bool) × IsPlaying world.old proposer asked proposed }
     ensures step { Step (meaning S.Shelf V.Disk) world.old (CrashProposer proposer) world.new }
-    ensures over { (asked : Asked) (proposed : Bool) → IsPlaying world.old proposer asked proposed → IsOver world.new proposer asked result }
+    ensures over { (asked : AskedCall) (proposed : Bool) → IsPlaying world.old proposer asked proposed → IsOver world.new proposer asked result }
     ensures not_done { is_done result ≡ false }
     ensures last_proposer { world.new.last_proposer ≡ world.old.last_proposer }
 {

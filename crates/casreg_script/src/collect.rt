@@ -15,11 +15,11 @@ ghost use Rattle.cas_world.specs.Eras.Plans.{HasCollectedAll};
 ghost use Rattle.cas_world.specs.Readers.{next_number};
 ghost use Rattle.casreg_script.specs.Calls.Changes.{EndsPrepareBy, IsAcceptedBy, IsRoundBy};
 ghost use Rattle.casreg_script.specs.Collection.Collecting.{HasStopped, IsBuried, IsDue, IsInRound, IsRunning};
-ghost use Rattle.casreg_script.specs.Collection.Collections.{AreTombstoneRounds, EndsReading, EndsVoting, HasRounds, HasTaken, IsCalled, IsCarriedOut, IsCollection};
+ghost use Rattle.casreg_script.specs.Collection.Collections.{AreTombstoneRounds, EndsReading, EndsVoting, HasRounds, HasTaken, IsCalled, CollectsWhole, IsCollection};
 ghost use Rattle.casreg_script.specs.Frames.Conditions.{NetworkView};
 ghost use Rattle.casreg_script.specs.Frames.Network.{IsNetwork, Through};
 ghost use Rattle.casreg_script.specs.Exchanges.Orders.{IsOrdered, IsFree, KeepsIdle};
-ghost use Rattle.casreg_script.specs.Calls.Playing.{Asked as Wanted};
+ghost use Rattle.casreg_script.specs.Calls.Playing.{AskedCall as Wanted};
 
 use crate::changes::{accept_turns, prepare_turns};
 use crate::exchange::exchange;
@@ -98,7 +98,7 @@ fn carry_out<S: Shelf, V: Disk>(
     requires program { program.now ≡ keep_always }
     requires some { 1 ≤ tries }
     requires network { (by : NetworkView) × IsNetwork network.old by }
-    ensures carried { Through network.old network.new (λ by next. IsCarriedOut (meaning S.Shelf V.Disk) tries by key.now halt.old world.old next halt.new world.new) }
+    ensures carried { Through network.old network.new (λ by next. CollectsWhole (meaning S.Shelf V.Disk) tries by key.now halt.old world.old next halt.new world.new) }
     ensures end { OnOk result (IsDue world.new key.now EndStep) }
     ensures told { IfErr result (WasToldOrder world.new) }
     ensures network { (by : NetworkView) → IsNetwork network.old by → (next : NetworkView) × IsNetwork network.new next }

@@ -2,7 +2,7 @@
 
 ghost use Rattle.std.specs.Prelude.{◌≡◌, ◌≤◌, IfOk};
 ghost use Rattle.cas_model.specs.View.{meaning};
-ghost use Rattle.casreg_script.specs.Events.{CrashesAcceptor, RestartsAcceptor, RestartsProposer, StraysIn, IsShown, shelf_answer, vault_answer, shown_of};
+ghost use Rattle.casreg_script.specs.Events.{CrashesAcceptor, RestartsAcceptor, RestartsProposer, AnswersStray, IsShownSlot, shelf_answer, vault_answer, shown_of};
 
 use cas_ballot::AcceptorId;
 use cas_change::Key;
@@ -79,7 +79,7 @@ fn vault_answer(restarted: Result<(), VaultError>) -> EventAnswer
 
 /// The late frame of that place strays in, if there is one.
 pub(crate) fn stray<S: Shelf, V: Disk>(world: &mut World<S, V>, index: u64) -> EventAnswer
-    ensures { StraysIn (meaning S.Shelf V.Disk) world.old index result world.new }
+    ensures { AnswersStray (meaning S.Shelf V.Disk) world.old index result world.new }
 {
     let late = world.late() as u64;
     if index >= late {
@@ -98,7 +98,7 @@ pub(crate) fn show<S: Shelf, V: Disk>(
     id: AcceptorId,
     key: &Key,
 ) -> Result<Shown, AllocError>
-    ensures { IfOk result (IsShown (meaning S.Shelf V.Disk) world.now id key.now) }
+    ensures { IfOk result (IsShownSlot (meaning S.Shelf V.Disk) world.now id key.now) }
 {
     match world.acceptor_up(id) {
         Some(true) => Ok(shown(world.slot_of(id, key)?)),

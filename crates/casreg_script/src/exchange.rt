@@ -7,7 +7,7 @@ ghost use Rattle.cas_record.specs.declared.answer.Answer.TheVariants as answer;
 ghost use Rattle.cas_record.specs.declared.operator.OpAnswer.TheVariants as op;
 ghost use Rattle.cas_world.specs.Exchanges.Exchange.{MayAskThis, WasToldOrder, asking_of};
 ghost use Rattle.casreg_script.specs.Frames.Conditions.{NetworkView};
-ghost use Rattle.casreg_script.specs.Exchanges.Exchanges.{AllAskTurned, FailsToAsk, AsksMembers, CameOf, IsAsking, KeepsCalls, KeepsOrder, answers_of, listing_left};
+ghost use Rattle.casreg_script.specs.Exchanges.Exchanges.{AllAskTurned, BreaksOffAsking, AsksMembers, CameOf, IsAsking, KeepsCalls, KeepsOrder, answers_of, listing_left};
 ghost use Rattle.casreg_script.specs.Frames.Network.{IsNetwork, Through};
 
 use crate::network::{Network, is_to_repeat};
@@ -49,7 +49,7 @@ fn ask_turns<S: Shelf, V: Disk>(
     requires asks { (question : Question) × IsAsking world.old question }
     requires network { (by : NetworkView) × IsNetwork network.old by }
     ensures through { OnOk result (Through network.old network.new (λ by next. AllAskTurned (meaning S.Shelf V.Disk) by world.old next world.new)) }
-    ensures fails { OnErr result (Through network.old network.new (λ by next. FailsToAsk (meaning S.Shelf V.Disk) by world.old next world.new)) }
+    ensures fails { OnErr result (Through network.old network.new (λ by next. BreaksOffAsking (meaning S.Shelf V.Disk) by world.old next world.new)) }
     ensures asks { (question : Question) → IsAsking world.old question → OnOk result (IsAsking world.new question) }
     ensures order { OnOk result (KeepsOrder world.old world.new) }
     ensures told { OnErr result (WasToldOrder world.new (op.Stopped (answer.NoMemory false))) }

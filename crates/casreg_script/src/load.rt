@@ -5,7 +5,7 @@ ghost use Rattle.cas_model.specs.Council.{IsAtRest};
 ghost use Rattle.cas_model.specs.View.{meaning};
 ghost use Rattle.cas_world.specs.Calls.Beginning.{HasNoCall};
 ghost use Rattle.casreg_script.specs.Frames.Conditions.{NetworkView};
-ghost use Rattle.casreg_script.specs.Load.{AnswersDrawn, BreaksOff, CollectsBehind, IsLoad, StopsBehind, SumsUp, command_of, key_of, text_of};
+ghost use Rattle.casreg_script.specs.Load.{AnswersDrawn, LoadBreaksOff, CollectsBehind, IsLoad, StopsBehind, SumsUp, command_of, key_of, text_of};
 ghost use Rattle.casreg_script.specs.Frames.Network.{IsNetwork, Through};
 ghost use Rattle.casreg_script.specs.Exchanges.Orders.{KeepsIdle};
 ghost use Rattle.casreg_script.specs.Stage.{AllIdle};
@@ -62,7 +62,7 @@ pub fn run_load<S: Shelf, V: Disk>(
     requires idle { AllIdle world.old }
     requires quiet { IsAtRest world.old.council }
     ensures runs { IfOk result (λ summary. SumsUp (meaning S.Shelf V.Disk) load world.old summary world.new) }
-    ensures breaks_off { OnErr result (BreaksOff (meaning S.Shelf V.Disk) load world.old world.new) }
+    ensures breaks_off { OnErr result (LoadBreaksOff (meaning S.Shelf V.Disk) load world.old world.new) }
 {
     let mut network = Network::seeded(load.seed.wrapping_add(1));
     let mut generator = Generator::new(load.seed);

@@ -5,8 +5,8 @@ ghost use Rattle.cas_fate.specs.Legs.{row_of};
 ghost use Rattle.cas_fate.specs.Links.{verdict_at};
 ghost use Rattle.cas_fate.specs.Seeded.{generator_of_seed, random_of, drawn_verdict};
 ghost use Rattle.cas_fate.specs.declared.fate.Leg.{Leg as ALeg};
-ghost use Rattle.casreg_script.specs.Frames.Conditions.{Rule, NetworkView, Ruled, Drawn, Decides, Names, is_to_repeat, verdict_of};
-ghost use Rattle.casreg_script.specs.Frames.Network.{AgreesWith, IsNetwork, Through, ruled};
+ghost use Rattle.casreg_script.specs.Frames.Conditions.{Rule, NetworkView, Ruled, Drawn, DecidesVerdict, Names, is_to_repeat, verdict_of};
+ghost use Rattle.casreg_script.specs.Frames.Network.{TableAgrees, IsNetwork, Through, ruled};
 
 use cas_ballot::AcceptorId;
 use cas_fate::{Fate, Leg, Links, Seeded, Verdict};
@@ -65,7 +65,7 @@ impl Network {
     /// What becomes of a frame of this leg, at whose other end this acceptor is. Where the frame has its second turn nothing is drawn.
     pub fn verdict(&mut self, again: bool, leg: Leg, peer: AcceptorId) -> Verdict
         requires network { (by : NetworkView) × IsNetwork self.old by }
-        ensures decides { Through self.old self.new (λ by next. Decides (leg, peer) by again result next) }
+        ensures decides { Through self.old self.new (λ by next. DecidesVerdict (leg, peer) by again result next) }
         ensures network { (by : NetworkView) → IsNetwork self.old by → (next : NetworkView) × IsNetwork self.new next }
         ensures not_held { result ≢ Verdict.Hold }
     {
@@ -90,7 +90,7 @@ impl Network {
 /// From now on this becomes of the frames of this leg to or from this acceptor: of any leg, and of any acceptor, where it is `None`.
 fn set_rule(links: &mut Links, leg: Option<Leg>, who: Option<AcceptorId>, verdict: Verdict)
     requires { verdict ≢ Verdict.Hold }
-    ensures { (rules : List Rule) → AgreesWith links.old rules → AgreesWith links.new (record { leg = leg; who = who; verdict = verdict } ∷ rules) }
+    ensures { (rules : List Rule) → TableAgrees links.old rules → TableAgrees links.new (record { leg = leg; who = who; verdict = verdict } ∷ rules) }
 {
     match (leg, who) {
         (Some(leg), Some(peer)) => links.set(leg, peer, verdict),
@@ -130,9 +130,9 @@ fn set_all(links: &mut Links, verdict: Verdict)
 
 /// What a table says of a frame of this leg, at whose other end this acceptor is.
 fn table_verdict(links: &mut Links, leg: Leg, peer: AcceptorId) -> Verdict
-    ensures verdict { (rules : List Rule) → AgreesWith links.old rules → result ≡ verdict_of rules leg peer }
-    ensures same { (rules : List Rule) → AgreesWith links.old rules → AgreesWith links.new rules }
-    ensures not_held { (rules : List Rule) → AgreesWith links.old rules → result ≢ Verdict.Hold }
+    ensures verdict { (rules : List Rule) → TableAgrees links.old rules → result ≡ verdict_of rules leg peer }
+    ensures same { (rules : List Rule) → TableAgrees links.old rules → TableAgrees links.new rules }
+    ensures not_held { (rules : List Rule) → TableAgrees links.old rules → result ≢ Verdict.Hold }
 {
     links.verdict(leg, peer)
 }

@@ -11,11 +11,11 @@ use Rattle.std.proofs.KnownBytes.{Appends-nil, Appends-trans}
 use Rattle.cas_lines.specs.Sink.{AppendsFront}
 use Rattle.cas_record.specs.declared.mark.Mark.{Mark}
 use Rattle.cas_record.specs.Histories.Chain.{settled_of}
-use Rattle.cas_record.specs.Kept.Index.{IsAfter, IsListed, KeyLess}
+use Rattle.cas_record.specs.Kept.Index.{IsAfter, HasEntryOrFloor, KeyLess}
 use Rattle.cas_record.specs.Histories.Replay.{opening_state}
 use Rattle.cas_record.proofs.Kept.Rows.{key_cases, key_less_trans, key_not_less}
 use Rattle.casreg_tasks.specs.Histories.{AreHistories, AreSettledKeys, history_from, history_text}
-use Rattle.casreg_tasks.specs.Texts.{WroteFront, WroteText}
+use Rattle.casreg_tasks.specs.Texts.{WroteFrontOf, WroteText}
 use Rattle.casreg_tasks.proofs.SettledKeys.{none_or_some, settled_keys, are_settled, after_less, Rise}
 
 -- the settled keys are parted at this one: those up to it, and those behind
@@ -29,9 +29,9 @@ parted_first marks = record { are_keys = are_settled marks; passed = λ k d low.
 
 -- the next key that the record lists
 pub record IsNext (marks : List Mark) (after : Option (List ℕ)) (key : List ℕ) : Type 0 where
-  pub listed : IsListed key marks
+  pub listed : HasEntryOrFloor key marks
   pub is_after : IsAfter after key
-  pub least : (other : List ℕ) → IsListed other marks → IsAfter after other → KeyLess other key → ⊥
+  pub least : (other : List ℕ) → HasEntryOrFloor other marks → IsAfter after other → KeyLess other key → ⊥
 
 -- ---- one key on
 -- the keys parted at the next key, whose history is all that the first part gets
@@ -121,7 +121,7 @@ all_of : (marks : List Mark) (after : Option (List ℕ)) (done ahead : List (Lis
 all_of marks after done ahead parted = record { keys = done ++ ahead; are_keys = parted.are_keys; is = sym (flat_map-append (history_text marks) done ahead) }
 
 -- a front was written, also where no memory came for the next history
-pub front_of : (marks : List Mark) (after : Option (List ℕ)) (old new : Option (List ℕ)) → IsSoFar marks after old new → WroteFront (AreHistories marks) old new
+pub front_of : (marks : List Mark) (after : Option (List ℕ)) (old new : Option (List ℕ)) → IsSoFar marks after old new → WroteFrontOf (AreHistories marks) old new
 front_of marks after old new so_far = record {
   front = flat_map (history_text marks) so_far.done;
   rest = flat_map (history_text marks) so_far.ahead;
@@ -131,7 +131,7 @@ front_of marks after old new so_far = record {
 
 -- and where the sink failed within the next one
 pub front_within : (marks : List Mark) (after : Option (List ℕ)) (key text : List ℕ) (old held new : Option (List ℕ)) → IsSoFar marks after old held → IsNext marks after key
-    → text ≡ history_text marks key → AppendsFront held new text → WroteFront (AreHistories marks) old new
+    → text ≡ history_text marks key → AppendsFront held new text → WroteFrontOf (AreHistories marks) old new
 front_within marks after key text old held new so_far next is appended =
     let on = parted_on marks after key next so_far.done so_far.ahead so_far.parted in
     let before = flat_map (history_text marks) so_far.done in
@@ -149,7 +149,7 @@ front_within marks after key text old held new so_far next is appended =
     }
 
 -- no key is left
-pub so_far_whole : (marks : List Mark) (after : Option (List ℕ)) (old new : Option (List ℕ)) → IsSoFar marks after old new → ((key : List ℕ) → IsListed key marks → IsAfter after key → ⊥) → WroteText (AreHistories marks) old new
+pub so_far_whole : (marks : List Mark) (after : Option (List ℕ)) (old new : Option (List ℕ)) → IsSoFar marks after old new → ((key : List ℕ) → HasEntryOrFloor key marks → IsAfter after key → ⊥) → WroteText (AreHistories marks) old new
 so_far_whole marks after old new so_far none = record {
   text = flat_map (history_text marks) so_far.done;
   has = record {

@@ -13,7 +13,7 @@ use Rattle.cas_base.proofs.Bools.{true_or_false}
 use Rattle.cas_record.specs.declared.entry.Entry.{Entry}
 use Rattle.cas_record.specs.declared.mark.Mark.{Mark}
 use Rattle.cas_record.specs.Histories.Chain.{settled_of}
-use Rattle.cas_record.specs.Kept.Index.{named_by, home_of, IsAfter, IsListed, KeyLess}
+use Rattle.cas_record.specs.Kept.Index.{named_by, home_of, IsAfter, HasEntryOrFloor, KeyLess}
 use Rattle.cas_record.proofs.Kept.Homes.{names_one, home_cases}
 use Rattle.cas_record.proofs.Histories.Next.{listed_named}
 use Rattle.cas_record.proofs.Kept.Rows.{key_less_trans, key_less_of_greater, key_of_equal, key_not_less}
@@ -118,7 +118,7 @@ home_named key (mark ∷ older) home is = elim (home_cases key mark older home i
       subst (λ (o : Option (List ℕ)). IsIn key (put_named o (named_keys older))) (sym named) (put_in key (named_keys older))
 ]
 
-pub listed_in : (key : List ℕ) (marks : List Mark) → IsListed key marks → IsIn key (named_keys marks)
+pub listed_in : (key : List ℕ) (marks : List Mark) → HasEntryOrFloor key marks → IsIn key (named_keys marks)
 listed_in key marks listed = let home = listed_named key marks listed in home_named key marks home.0 home.1
 
 -- ---- those that have an entry

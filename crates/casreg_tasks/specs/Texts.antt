@@ -9,7 +9,7 @@ pub record WroteText (P : List ℕ → Type 0) (old new : Option (List ℕ)) : T
   pub written : Appends old new text
 
 -- a front of such a text was written
-pub record WroteFront (P : List ℕ → Type 0) (old new : Option (List ℕ)) : Type 0 where
+pub record WroteFrontOf (P : List ℕ → Type 0) (old new : Option (List ℕ)) : Type 0 where
   pub front : List ℕ
   pub rest : List ℕ
   pub has : P (front ++ rest)

@@ -3,7 +3,7 @@
 ghost use Rattle.std.specs.Prelude.{◌≡◌, reverse, IfOk, OnOk, OnErr, IsErrOf};
 ghost use Rattle.cas_base.specs.Faults.{Rose};
 ghost use Rattle.casreg_tasks.specs.Histories.{AreHistories, entry_line, head_line, history_text};
-ghost use Rattle.casreg_tasks.specs.Texts.{WroteFront, WroteText};
+ghost use Rattle.casreg_tasks.specs.Texts.{WroteFrontOf, WroteText};
 
 use cas_change::{Key, State, apply};
 use cas_change_text::{print_program, push_state};
@@ -51,7 +51,7 @@ pub fn write_histories<K: Sink>(
     sink: &mut K,
 ) -> Result<(), HistoryFault>
     ensures all { OnOk result (WroteText (AreHistories (reverse book.now.marks)) (K.contents sink.old) (K.contents sink.new)) }
-    ensures front { OnErr result (WroteFront (AreHistories (reverse book.now.marks)) (K.contents sink.old) (K.contents sink.new)) }
+    ensures front { OnErr result (WroteFrontOf (AreHistories (reverse book.now.marks)) (K.contents sink.old) (K.contents sink.new)) }
     ensures write_fault { IsErrOf result HistoryFault.WriteFault → Rose (K.faults_of sink.old) (K.faults_of sink.new) }
 {
     let mut after = None;

@@ -2,7 +2,7 @@
 
 ghost use Rattle.std.specs.Prelude.{◌≡◌, ◌<◌, length, vec_len, All, IfOk};
 ghost use Rattle.cas_board.specs.Passes.{IsPassOf};
-ghost use Rattle.cas_board_steps.specs.Calls.Open.{IsFree};
+ghost use Rattle.cas_board_steps.specs.Calls.Open.{NothingIsOpen};
 
 use cas_ballot::Ballot;
 use cas_board::{Board, Pass};
@@ -73,8 +73,8 @@ fn change_often<R: Wait>(
     asked: Asked<'_>,
 )
     requires pass { IsPassOf board.now pass.old }
-    requires free { IsFree pass.old.own }
-    ensures { IsPassOf board.now pass.new × IsFree pass.new.own }
+    requires free { NothingIsOpen pass.old.own }
+    ensures { IsPassOf board.now pass.new × NothingIsOpen pass.new.own }
 {
     let mut fate = Links::new();
     for _ in 0..asked.changes {
@@ -91,8 +91,8 @@ pub fn change_in_threads<R: Threads + Wait + Sync>(
     asked: Asked<'_>,
 )
     requires some { 0 < threads }
-    requires idle { All (λ p. IsPassOf board.now p × IsFree p.own) passes.old }
-    ensures { All (λ p. IsPassOf board.now p × IsFree p.own) passes.new }
+    requires idle { All (λ p. IsPassOf board.now p × NothingIsOpen p.own) passes.old }
+    ensures { All (λ p. IsPassOf board.now p × NothingIsOpen p.own) passes.new }
 {
     thread::for_each_mut(
         rt,

@@ -2,7 +2,7 @@
 
 ghost use Rattle.std.specs.Prelude.{◌≡◌, All};
 ghost use Rattle.cas_board.specs.Passes.{IsPassOf};
-ghost use Rattle.cas_board_steps.specs.Calls.Open.{IsFree};
+ghost use Rattle.cas_board_steps.specs.Calls.Open.{NothingIsOpen};
 
 use crate::callers::{always, ballot, done_with, rack};
 use cas_board::{Board, Pass};
@@ -39,8 +39,8 @@ fn change<R: Wait>(
     key: &Key,
     act: Act,
 ) -> Option<Answer>
-    requires { All (λ p. IsPassOf board.now p × IsFree p.own) passes.old }
-    ensures { All (λ p. IsPassOf board.now p × IsFree p.own) passes.new }
+    requires { All (λ p. IsPassOf board.now p × NothingIsOpen p.own) passes.old }
+    ensures { All (λ p. IsPassOf board.now p × NothingIsOpen p.own) passes.new }
 {
     let Ok(program) = always(alloc, act) else {
         return None;
@@ -59,8 +59,8 @@ fn collect_first<R: Wait>(
     passes: &mut [Pass<MemoryDisk>],
     key: &Key,
 ) -> Option<OpAnswer>
-    requires { All (λ p. IsPassOf board.now p × IsFree p.own) passes.old }
-    ensures { All (λ p. IsPassOf board.now p × IsFree p.own) passes.new }
+    requires { All (λ p. IsPassOf board.now p × NothingIsOpen p.own) passes.old }
+    ensures { All (λ p. IsPassOf board.now p × NothingIsOpen p.own) passes.new }
 {
     if passes.is_empty() || passes[0].number() != 0 {
         return None;
@@ -78,8 +78,8 @@ fn told_in_turn<R: Wait>(
     key: &Key,
     text: Text,
 ) -> Told
-    requires { All (λ p. IsPassOf board.now p × IsFree p.own) passes.old }
-    ensures { All (λ p. IsPassOf board.now p × IsFree p.own) passes.new }
+    requires { All (λ p. IsPassOf board.now p × NothingIsOpen p.own) passes.old }
+    ensures { All (λ p. IsPassOf board.now p × NothingIsOpen p.own) passes.new }
 {
     let set = change(rt, alloc, board, passes, key, Act::PutText(text));
     let deleted = change(rt, alloc, board, passes, key, Act::Clear);

@@ -2,7 +2,7 @@
 
 ghost use Rattle.std.specs.Prelude.{All};
 ghost use Rattle.cas_board.specs.Passes.{IsPassOf};
-ghost use Rattle.cas_board_steps.specs.Calls.Open.{IsFree};
+ghost use Rattle.cas_board_steps.specs.Calls.Open.{NothingIsOpen};
 
 use crate::callers::{adds, rack};
 use cas_board::{Board, Pass};
@@ -44,8 +44,8 @@ fn change_in_turn<R: Wait>(
     program: &Program,
 )
     requires pass { IsPassOf board.now pass.old }
-    requires free { IsFree pass.old.own }
-    ensures { IsPassOf board.now pass.new × IsFree pass.new.own }
+    requires free { NothingIsOpen pass.old.own }
+    ensures { IsPassOf board.now pass.new × NothingIsOpen pass.new.own }
 {
     let mut fate = Seeded::new(u64::from(pass.number()));
     for change in 0..CHANGES {
@@ -65,8 +65,8 @@ fn change_all<R: Threads + Wait + Sync>(
     keys: &[Key],
     program: &Program,
 )
-    requires idle { All (λ p. IsPassOf board.now p × IsFree p.own) passes.old }
-    ensures { All (λ p. IsPassOf board.now p × IsFree p.own) passes.new }
+    requires idle { All (λ p. IsPassOf board.now p × NothingIsOpen p.own) passes.old }
+    ensures { All (λ p. IsPassOf board.now p × NothingIsOpen p.own) passes.new }
 {
     thread::for_each_mut(
         rt,

@@ -3,7 +3,7 @@
 ghost use Rattle.std.specs.Prelude.{◌≡◌};
 ghost use Rattle.cas_board.specs.Passes.{IsPassOf};
 ghost use Rattle.test_board.specs.Meetings.{HasHeardOf};
-ghost use Rattle.cas_board_steps.specs.Calls.Open.{IsFree};
+ghost use Rattle.cas_board_steps.specs.Calls.Open.{NothingIsOpen};
 
 use crate::callers::{adds, ballot, done, rack, tells};
 use cas_board::{Board, Pass};
@@ -26,8 +26,8 @@ fn change_and_meet<R: Wait>(
     key: &Key,
     program: &Program,
 ) -> (Answer, Answer)
-    requires first { IsPassOf board.now first.old × IsFree first.old.own }
-    requires second { IsPassOf board.now second.old × IsFree second.old.own }
+    requires first { IsPassOf board.now first.old × NothingIsOpen first.old.own }
+    requires second { IsPassOf board.now second.old × NothingIsOpen second.old.own }
     ensures first { IsPassOf board.now first.new }
     ensures second { IsPassOf board.now second.new }
     ensures heard { HasHeardOf first.old.number result.0 second.new.seen }

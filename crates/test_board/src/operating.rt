@@ -2,7 +2,7 @@
 
 ghost use Rattle.std.specs.Prelude.{◌≡◌, All};
 ghost use Rattle.cas_board.specs.Passes.{IsPassOf};
-ghost use Rattle.cas_board_steps.specs.Calls.Open.{IsFree};
+ghost use Rattle.cas_board_steps.specs.Calls.Open.{NothingIsOpen};
 
 use crate::callers::{Asked as Wanted, adds, ballot, change_in_threads, rack};
 use cas_ballot::{AcceptorId, Ballot};
@@ -25,8 +25,8 @@ fn probe_first<R: Wait>(
     passes: &mut [Pass<MemoryDisk>],
     key: &Key,
 ) -> Option<OpAnswer>
-    requires { All (λ p. IsPassOf board.now p × IsFree p.own) passes.old }
-    ensures { All (λ p. IsPassOf board.now p × IsFree p.own) passes.new }
+    requires { All (λ p. IsPassOf board.now p × NothingIsOpen p.own) passes.old }
+    ensures { All (λ p. IsPassOf board.now p × NothingIsOpen p.own) passes.new }
 {
     if passes.is_empty() || passes[0].number() != 0 {
         return None;
@@ -100,8 +100,8 @@ fn join_and_leave<R: Wait>(
 ) -> [OpAnswer; 2]
     requires pass { IsPassOf board.now pass.old }
     requires operator { pass.old.number ≡ 0 }
-    requires free { IsFree pass.old.own }
-    ensures { IsPassOf board.now pass.new × IsFree pass.new.own }
+    requires free { NothingIsOpen pass.old.own }
+    ensures { IsPassOf board.now pass.new × NothingIsOpen pass.new.own }
 {
     let mut fate = Links::new();
     let joined = board.join_member(rt, pass, &mut fate, id, 8);
@@ -116,8 +116,8 @@ fn join_and_leave_first<R: Wait>(
     passes: &mut [Pass<MemoryDisk>],
     id: AcceptorId,
 ) -> Option<[OpAnswer; 2]>
-    requires { All (λ p. IsPassOf board.now p × IsFree p.own) passes.old }
-    ensures { All (λ p. IsPassOf board.now p × IsFree p.own) passes.new }
+    requires { All (λ p. IsPassOf board.now p × NothingIsOpen p.own) passes.old }
+    ensures { All (λ p. IsPassOf board.now p × NothingIsOpen p.own) passes.new }
 {
     if passes.is_empty() || passes[0].number() != 0 {
         return None;

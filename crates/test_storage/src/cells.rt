@@ -3,7 +3,7 @@
 
 ghost use Rattle.std.specs.Prelude.{◌≡◌, OnOk};
 ghost use Rattle.cas_cells.specs.Format.{IsPayload, TellsSame};
-ghost use Rattle.cas_cells.specs.Cells.{cells_of, Stands};
+ghost use Rattle.cas_cells.specs.Cells.{cells_of, CellsStand};
 
 use crate::bytes::{set, stand_at};
 use cas_cells::{CellFault, Cells};
@@ -31,7 +31,7 @@ fn over(
 
 // Changes cell 0 by the three steps.
 fn change<D: Disk>(cells: &mut Cells<D>, payload: &[u8]) -> Result<(), CellFault>
-    requires stands { Stands D.tells D.seen D.may_leave cells.old }
+    requires stands { CellsStand D.tells D.seen D.may_leave cells.old }
     requires fits { IsPayload 512 payload.now }
     requires same_count { TellsSame payload.now (cells_of cells.old) }
 {
@@ -42,7 +42,7 @@ fn change<D: Disk>(cells: &mut Cells<D>, payload: &[u8]) -> Result<(), CellFault
 
 // Crashes the disk and reads its cells, and does so again where the disk failed in that.
 fn recovered<D: Disk>(cells: &mut Cells<D>) -> Result<(), CellFault>
-    ensures { OnOk result (Stands D.tells D.seen D.may_leave cells.new) }
+    ensures { OnOk result (CellsStand D.tells D.seen D.may_leave cells.new) }
 {
     cells.crash();
     match cells.recover() {

@@ -1,7 +1,7 @@
 //! Vaults on a disk in memory. A life of a vault is a table of calls, and what each of them answers.
 
 ghost use Rattle.std.specs.Prelude.{OnOk};
-ghost use Rattle.cas_vault.specs.Vault.{Stands};
+ghost use Rattle.cas_vault.specs.Vault.{VaultStands};
 
 use crate::bytes::{clear_from, set, stand_at};
 use Step::{Crashes, Draws, EntersEra, Forwards, RaisesAge, Reopens};
@@ -33,8 +33,8 @@ fn bytes_of(alloc: Global, vault: Vault<MemoryDisk>) -> Result<Vec<u8>, AllocErr
 
 // Draws so many numbers, and answers the last.
 fn draw_last<V: Disk>(vault: &mut Vault<V>, count: u64) -> Result<u64, VaultError>
-    requires { Stands V.tells V.seen V.may_leave vault.old }
-    ensures { OnOk result (Stands V.tells V.seen V.may_leave vault.new) }
+    requires { VaultStands V.tells V.seen V.may_leave vault.old }
+    ensures { OnOk result (VaultStands V.tells V.seen V.may_leave vault.new) }
 {
     let mut last = vault.counter();
     for _ in 0..count {
@@ -45,7 +45,7 @@ fn draw_last<V: Disk>(vault: &mut Vault<V>, count: u64) -> Result<u64, VaultErro
 
 // Reopens a vault, and does so again where the disk failed in that.
 fn reopened<V: Disk>(vault: &mut Vault<V>) -> Result<(), VaultError>
-    ensures { OnOk result (Stands V.tells V.seen V.may_leave vault.new) }
+    ensures { OnOk result (VaultStands V.tells V.seen V.may_leave vault.new) }
 {
     match vault.reopen() {
         Err(VaultError::VaultFault) => vault.reopen(),
@@ -69,8 +69,8 @@ enum Step {
 }
 
 fn take<V: Disk>(vault: &mut Vault<V>, step: Step) -> Result<u64, VaultError>
-    requires { Stands V.tells V.seen V.may_leave vault.old }
-    ensures { OnOk result (Stands V.tells V.seen V.may_leave vault.new) }
+    requires { VaultStands V.tells V.seen V.may_leave vault.old }
+    ensures { OnOk result (VaultStands V.tells V.seen V.may_leave vault.new) }
 {
     match step {
         Draws(count) => return draw_last(vault, count),
@@ -102,8 +102,8 @@ struct Life {
 
 // Whether each call answers what stands beside it.
 fn follow<V: Disk>(vault: &mut Vault<V>, steps: &[(Step, u64)]) -> Result<bool, VaultError>
-    requires { Stands V.tells V.seen V.may_leave vault.old }
-    ensures { OnOk result (Stands V.tells V.seen V.may_leave vault.new) }
+    requires { VaultStands V.tells V.seen V.may_leave vault.old }
+    ensures { OnOk result (VaultStands V.tells V.seen V.may_leave vault.new) }
 {
     let mut holds = true;
     for row in steps {
@@ -391,8 +391,8 @@ fn draw_above<V: Disk>(
     vault: &mut Vault<V>,
     last: &mut u64,
 ) -> Result<(), VaultError>
-    requires { Stands V.tells V.seen V.may_leave vault.old }
-    ensures { OnOk result (Stands V.tells V.seen V.may_leave vault.new) }
+    requires { VaultStands V.tells V.seen V.may_leave vault.old }
+    ensures { OnOk result (VaultStands V.tells V.seen V.may_leave vault.new) }
 {
     let number = vault.draw()?;
     assert!(rt; number > *last);
@@ -402,7 +402,7 @@ fn draw_above<V: Disk>(
 
 // Draws numbers, raises the age and goes into another era.
 fn work<V: Disk>(rt: &impl Abort, vault: &mut Vault<V>, last: &mut u64) -> Result<(), VaultError>
-    requires { Stands V.tells V.seen V.may_leave vault.old }
+    requires { VaultStands V.tells V.seen V.may_leave vault.old }
 {
     draw_above(rt, vault, last)?;
     draw_above(rt, vault, last)?;

@@ -17,7 +17,7 @@ ghost use Rattle.cas_world.specs.Readers.{next_number};
 ghost use Rattle.casreg_script.specs.Collection.Collecting.{HasStopped, IsBuried, IsDue, IsInRound, IsRunning};
 ghost use Rattle.casreg_script.specs.Exchanges.Exchanges.{CameOf, IsAsking, KeepsOrder};
 ghost use Rattle.casreg_script.specs.Exchanges.Orders.{IsOrdered, IsFree};
-ghost use Rattle.casreg_script.specs.Calls.Playing.{Asked as Wanted, IsOver, IsPlaying};
+ghost use Rattle.casreg_script.specs.Calls.Playing.{AskedCall as Wanted, IsOver, IsPlaying};
 ghost use Rattle.test_world.specs.Play.{Goes, Leads};
 
 use cas_ballot::AcceptorId;

@@ -3,7 +3,7 @@
 ghost use Rattle.std.specs.Prelude.{◌≡◌, ◌≤◌, ◌^◌, ℕ, [], ◌∷◌, vec_len, IfOk};
 ghost use Rattle.cas_slot.specs.Limits.{AllBallotsFit};
 ghost use Rattle.cas_slot.specs.Contents.{Contents};
-ghost use Rattle.cas_model.specs.Openings.{Holds};
+ghost use Rattle.cas_model.specs.Openings.{HoldsFloors};
 ghost use Rattle.cas_model.specs.View.{IsAt};
 ghost use Rattle.cas_world.specs.Openings.OpeningOn.{opening_of};
 
@@ -56,7 +56,7 @@ fn floor(alloc: Global) -> Result<OpeningFloor, Fail>
 fn holding(alloc: Global, floor: &OpeningFloor) -> Result<MapShelf, Fail>
     requires { floor.now.ballot ≡ record { counter = 7; proposer = 1 } }
     ensures up { IfOk result AllBallotsFit }
-    ensures holds { IfOk result (Holds (opening_of floor.now ∷ [])) }
+    ensures holds { IfOk result (HoldsFloors (opening_of floor.now ∷ [])) }
 {
     let mut shelf = MapShelf::new(alloc);
     let slot = Slot {
@@ -76,7 +76,7 @@ fn holding(alloc: Global, floor: &OpeningFloor) -> Result<MapShelf, Fail>
 /// A shelf in memory for each acceptor, each of which holds the floor and no other slot.
 fn shelves(alloc: Global, floor: &OpeningFloor) -> Result<Vec<MapShelf>, Fail>
     requires { floor.now.ballot ≡ record { counter = 7; proposer = 1 } }
-    ensures { IfOk result (λ shelves. (id : ℕ) (shelf : Contents) → IsAt shelves.items id shelf → AllBallotsFit shelf × Holds (opening_of floor.now ∷ []) shelf) }
+    ensures { IfOk result (λ shelves. (id : ℕ) (shelf : Contents) → IsAt shelves.items id shelf → AllBallotsFit shelf × HoldsFloors (opening_of floor.now ∷ []) shelf) }
 {
     let mut shelves = Vec::new(alloc);
     for _place in 0..64usize {

@@ -21,7 +21,7 @@ use Rattle.cas_record.specs.declared.answer.Answer.{Answer}
 use Rattle.cas_record.specs.declared.answer.Answer.TheVariants as answer
 use Rattle.cas_record.specs.declared.answer.Cause.{Cause}
 use Rattle.cas_record.specs.declared.answer.Cause.TheVariants as cause
-use Rattle.cas_audit.specs.Spelling.Lines.{IsNumber, IsBallot, IsShort, IsCause, IsStop, IsTook, IsAnswer}
+use Rattle.cas_audit.specs.Spelling.Lines.{IsNumber, IsBallot, SpellsShort, IsCause, IsStop, IsTook, IsAnswer}
 use Rattle.cas_audit.specs.Spelling.Reading.{u8_of, u32_of, ballot_of, said_at, named_at, behind_name, stop_name, cause_name, took_name, told_name, cause_of, cause_at, proposed_from}
 use Rattle.cas_audit.specs.Spelling.Reading.{proposed_at, stop_of, stop_in, took_of, took_at, done_at, answer_at}
 use Rattle.cas_audit.specs.declared.names.StopName.{StopName}
@@ -101,7 +101,7 @@ pair_found {X} {Y} value make Says found name left z e end =
 -- a shortfall was read behind the name
 short_found : {Y : Type 0} (make : ℕ → ℕ → Y) (left : WordsLeft) (z : Y × WordsLeft)
     → (said_at u32_of left >>= λ x. (said_at u32_of x.1 >>= λ y. done {A = Y × WordsLeft} (make x.0 y.0, y.1))) ≡ Ok z → z.1.words ≡ []
-    → (got need : ℕ) × (make got need ≡ z.0) × IsShort (codes "short" ∷ left.words) got need
+    → (got need : ℕ) × (make got need ≡ z.0) × SpellsShort (codes "short" ∷ left.words) got need
 short_found {Y} make left z e end =
     let g = bind_ok (said_at u32_of left) _ z e in
     let n = bind_ok (said_at u32_of g.0.1) _ z g.2 in

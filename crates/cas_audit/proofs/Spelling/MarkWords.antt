@@ -27,7 +27,7 @@ use Rattle.cas_record.specs.declared.operator.Asked.{Asked}
 use Rattle.cas_record.specs.declared.operator.Asked.TheVariants as asked
 use Rattle.cas_record.specs.declared.operator.OpAnswer.{OpAnswer}
 use Rattle.cas_record.specs.declared.operator.OpAnswer.TheVariants as told
-use Rattle.cas_audit.specs.Spelling.Lines.{IsNumber, IsCall, IsBallot, IsSet, IsVersion, IsAsked, IsFinished, IsTold, IsQuorum, harm_word, IsMarkLine, IsCountLine}
+use Rattle.cas_audit.specs.Spelling.Lines.{IsNumber, SpellsCall, IsBallot, IsSet, IsVersion, SpellsAsked, IsFinished, SpellsTold, IsQuorum, harm_word, IsMarkLine, IsCountLine}
 use Rattle.cas_audit.specs.Spelling.Reading.{u8_of, u32_of, call_of, ballot_of, members_of, said_at, named_at, behind_name, numbered_at, marked_version_at, mark_name, asked_name, told_name}
 use Rattle.cas_audit.specs.Spelling.Reading.{harm_name, answer_at, stop_in, asked_of, asked_at, finished_at, collected_at, not_in, not_at, told_of, told_by, told_at, begun_at, quorum_at}
 use Rattle.cas_audit.specs.Spelling.Reading.{proposal_at, acknowledgment_at, voted_at, floor_at, entered_at, ended_at, harmed_at, told_mark_at, mark_of, mark_at, line_mark}
@@ -64,10 +64,10 @@ key_read : (key : List ℕ) → IsKey key → (at : ℕ) (rest : List Word) → 
 unfolding key_at
 key_read key is at rest = rw (key_in-again at key is) refl
 
-call_one : (left : WordsLeft) (x : (ℕ × ℕ) × WordsLeft) → said_at call_of left ≡ Ok x → (word : Word) × (left.words ≡ word ∷ x.1.words) × IsCall x.0.0 x.0.1 word
-call_one left x e = said_one call_of (λ c. IsCall c.0 c.1) call_found left x e
+call_one : (left : WordsLeft) (x : (ℕ × ℕ) × WordsLeft) → said_at call_of left ≡ Ok x → (word : Word) × (left.words ≡ word ∷ x.1.words) × SpellsCall x.0.0 x.0.1 word
+call_one left x e = said_one call_of (λ c. SpellsCall c.0 c.1) call_found left x e
 
-call_read : (word : Word) (caller call : ℕ) → IsCall caller call word → (at : ℕ) (rest : List Word) → said_at call_of (from at (word ∷ rest)) ≡ Ok ((caller, call), from (at + 1) rest)
+call_read : (word : Word) (caller call : ℕ) → SpellsCall caller call word → (at : ℕ) (rest : List Word) → said_at call_of (from at (word ∷ rest)) ≡ Ok ((caller, call), from (at + 1) rest)
 call_read word caller call is at rest = said_again call_of word (caller, call) (call_says word caller call is) at rest
 
 u32_read : (word : Word) (n : ℕ) → IsNumber 32 n word → (at : ℕ) (rest : List Word) → said_at u32_of (from at (word ∷ rest)) ≡ Ok (n, from (at + 1) rest)
@@ -119,7 +119,7 @@ asked_named word name e = is_named asked_word (asks.Join ∷ asks.Leave ∷ asks
 
 -- the words that were read, and those behind them
 abbrev AskedOf : List Word → Asked × WordsLeft → Type 0
-AskedOf words z = (front : List Word) × (words ≡ front ++ z.1.words) × IsAsked front z.0
+AskedOf words z = (front : List Word) × (words ≡ front ++ z.1.words) × SpellsAsked front z.0
 
 asked_of-found : (name : AskedName) (left : WordsLeft) (z : Asked × WordsLeft) → asked_of name left ≡ Ok z → AskedOf (asked_word name ∷ left.words) z
 unfolding asked_of
@@ -155,7 +155,7 @@ asked_found left z e =
     let first = named_one asked_name asked_word asked_named left n.0 n.1 in
     subst (λ (ws : List Word). AskedOf ws z) (sym first) (asked_of-found n.0.0 n.0.1 z n.2)
 
-asked_again : (words : List Word) (a : Asked) → IsAsked words a → (at : ℕ) (rest : List Word) → asked_at (from at (words ++ rest)) ≡ Ok (a, from (at + 1 + 1) rest)
+asked_again : (words : List Word) (a : Asked) → SpellsAsked words a → (at : ℕ) (rest : List Word) → asked_at (from at (words ++ rest)) ≡ Ok (a, from (at + 1 + 1) rest)
 unfolding asked_at asked_of named_at
 asked_again words (asked.Join id) is at rest = ap (λ (ws : List Word). asked_at (from at (ws ++ rest))) is.1 ∙ rw (acceptor_read is.0 id is.2 (at + 1) rest) refl
 asked_again words (asked.Leave id) is at rest = ap (λ (ws : List Word). asked_at (from at (ws ++ rest))) is.1 ∙ rw (acceptor_read is.0 id is.2 (at + 1) rest) refl
@@ -198,7 +198,7 @@ finished_found name left x e end =
     subst (λ (f : ℕ × ℕ × ℕ). IsFinished (name ∷ left.words) name f.0 f.1 f.2) p.0
     (who.0, era.0, count.0, ap (λ (ws : List Word). name ∷ ws) (who.1 ∙ ap (λ (ws : List Word). who.0 ∷ ws) middle), who.2, era.2, count.2)
 
-collected_found : (left : WordsLeft) (z : OpAnswer × WordsLeft) → collected_at left ≡ Ok z → z.1.words ≡ [] → IsTold (codes "collected" ∷ left.words) z.0
+collected_found : (left : WordsLeft) (z : OpAnswer × WordsLeft) → collected_at left ≡ Ok z → z.1.words ≡ [] → SpellsTold (codes "collected" ∷ left.words) z.0
 unfolding collected_at
 collected_found left z e end =
     let k = bind_ok (key_at left) _ z e in
@@ -216,7 +216,7 @@ collected_found left z e end =
     let counts : b.0.1.words ≡ codes "removed" ∷ removed.0 ∷ codes "kept" ∷ kept.0 ∷ [] = removed.1 ∙ ap (λ (ws : List Word). codes "removed" ∷ removed.0 ∷ ws) last in
     let behind : k.0.1.words ≡ codes "at" ∷ ballot.0 ∷ codes "removed" ∷ removed.0 ∷ codes "kept" ∷ kept.0 ∷ [] =
     name ∙ ap (λ (ws : List Word). codes "at" ∷ ws) (ballot.1 ∙ ap (λ (ws : List Word). ballot.0 ∷ ws) counts) in
-    subst (IsTold (codes "collected" ∷ left.words)) p.0
+    subst (SpellsTold (codes "collected" ∷ left.words)) p.0
     (ballot.0, removed.0, kept.0, ap (λ (ws : List Word). codes "collected" ∷ ws) (key.0 ∙ ap (λ (ws : List Word). k.0.0 ∷ ws) behind), key.1, ballot.2, removed.2, kept.2)
 
 behind_v : (word digits : Word) → after_v word ≡ Some digits → word ≡ codes "v" ++ digits
@@ -242,14 +242,14 @@ version_found left z e =
     subst (λ (x : ℕ × WordsLeft). (word : Word) × (left.words ≡ word ∷ x.1.words) × IsVersion x.0 word) same
     (w.0.0, word_took left.at left.words w.0.0 w.0.1 w.1, (d.0, is, number))
 
-not_in-found : (at : ℕ) (word : Word) (behind : WordsLeft) (z : OpAnswer × WordsLeft) → not_in at word behind ≡ Ok z → z.1.words ≡ [] → IsTold (codes "not" ∷ word ∷ behind.words) z.0
+not_in-found : (at : ℕ) (word : Word) (behind : WordsLeft) (z : OpAnswer × WordsLeft) → not_in at word behind ≡ Ok z → z.1.words ≡ [] → SpellsTold (codes "not" ∷ word ∷ behind.words) z.0
 unfolding not_in
 not_in-found at word behind z e end =
     elim (chosen (bytes_eq word (codes "in")) (done {A = OpAnswer × WordsLeft} (told.Refused fault.NotIn, behind)) _ (Ok z) e) [
       | inl q ↦
           let p = nothing_more (told.Refused fault.NotIn) behind z q.1 end in
           let is : word ≡ codes "in" = (bytes_eq-Decides word (codes "in")).0 q.0 in
-          subst (IsTold (codes "not" ∷ word ∷ behind.words)) p.0 (λ i. codes "not" ∷ is i ∷ p.1 i)
+          subst (SpellsTold (codes "not" ∷ word ∷ behind.words)) p.0 (λ i. codes "not" ∷ is i ∷ p.1 i)
       | inr r ↦ elim (chosen (bytes_eq word (codes "empty")) (marked_version_at behind >>= λ x. done {A = OpAnswer × WordsLeft} (told.NotEmpty x.0, x.1)) (Err (record { why = why.UnknownWord; word = at })) (Ok z) r.1) [
         | inl q ↦
             let v = bind_ok (marked_version_at behind) _ z q.1 in
@@ -257,7 +257,7 @@ not_in-found at word behind z e end =
             let version = version_found behind v.0 v.1 in
             let is : word ≡ codes "empty" = (bytes_eq-Decides word (codes "empty")).0 q.0 in
             let last : behind.words ≡ version.0 ∷ [] = version.1 ∙ ap (λ (ws : List Word). version.0 ∷ ws) p.1 in
-            subst (IsTold (codes "not" ∷ word ∷ behind.words)) p.0 (version.0, (λ i. codes "not" ∷ is i ∷ last i), version.2)
+            subst (SpellsTold (codes "not" ∷ word ∷ behind.words)) p.0 (version.0, (λ i. codes "not" ∷ is i ∷ last i), version.2)
         | inr q ↦ absurd (cc (q.1))
       ]
     ]
@@ -271,64 +271,64 @@ refused_found first second answer left z e end =
     let p = nothing_more answer n.0 z n.2 end in
     (p.0, ap (λ (ws : List Word). first ∷ ws) (name_found second left n.0 n.1 ∙ ap (λ (ws : List Word). second ∷ ws) p.1))
 
-told_of-found : (name : ToldName) (left : WordsLeft) (z : OpAnswer × WordsLeft) → told_of name left ≡ Ok z → z.1.words ≡ [] → IsTold (told_word name ∷ left.words) z.0
+told_of-found : (name : ToldName) (left : WordsLeft) (z : OpAnswer × WordsLeft) → told_of name left ≡ Ok z → z.1.words ≡ [] → SpellsTold (told_word name ∷ left.words) z.0
 unfolding told_of not_at acceptor_at said_at
 told_of-found tells.Joined left z e end =
     let f = bind_ok (finished_at left) _ z e in
     let p = nothing_more (told.Joined f.0.0.0 f.0.0.1 f.0.0.2) f.0.1 z f.2 end in
-    subst (IsTold (codes "joined" ∷ left.words)) p.0 (finished_found (codes "joined") left f.0 f.1 p.1)
+    subst (SpellsTold (codes "joined" ∷ left.words)) p.0 (finished_found (codes "joined") left f.0 f.1 p.1)
 told_of-found tells.Left left z e end =
     let f = bind_ok (finished_at left) _ z e in
     let p = nothing_more (told.Left f.0.0.0 f.0.0.1 f.0.0.2) f.0.1 z f.2 end in
-    subst (IsTold (codes "left" ∷ left.words)) p.0 (finished_found (codes "left") left f.0 f.1 p.1)
+    subst (SpellsTold (codes "left" ∷ left.words)) p.0 (finished_found (codes "left") left f.0 f.1 p.1)
 told_of-found tells.Already left z e end =
     let p = refused_found (codes "already") (codes "in") (told.Refused fault.AlreadyIn) left z e end in
-    subst (IsTold (codes "already" ∷ left.words)) p.0 p.1
+    subst (SpellsTold (codes "already" ∷ left.words)) p.0 p.1
 told_of-found tells.Not left z e end =
     let w = bind_ok (word_at left) _ z e in
     let split : left.words ≡ w.0.0 ∷ w.0.1.words = word_took left.at left.words w.0.0 w.0.1 w.1 in
-    subst (λ (ws : List Word). IsTold (codes "not" ∷ ws) z.0) (sym split) (not_in-found left.at w.0.0 w.0.1 z w.2 end)
+    subst (λ (ws : List Word). SpellsTold (codes "not" ∷ ws) z.0) (sym split) (not_in-found left.at w.0.0 w.0.1 z w.2 end)
 told_of-found tells.Id left z e end =
     let p = refused_found (codes "id") (codes "used") (told.Refused fault.IdUsed) left z e end in
-    subst (IsTold (codes "id" ∷ left.words)) p.0 p.1
+    subst (SpellsTold (codes "id" ∷ left.words)) p.0 p.1
 told_of-found tells.Too left z e end =
     let p = refused_found (codes "too") (codes "many") (told.Refused fault.TooMany) left z e end in
-    subst (IsTold (codes "too" ∷ left.words)) p.0 p.1
+    subst (SpellsTold (codes "too" ∷ left.words)) p.0 p.1
 told_of-found tells.Last left z e end =
     let p = nothing_more (told.Refused fault.Last) left z e end in
-    subst (IsTold (codes "last" ∷ left.words)) p.0 (ap (λ (ws : List Word). codes "last" ∷ ws) p.1)
+    subst (SpellsTold (codes "last" ∷ left.words)) p.0 (ap (λ (ws : List Word). codes "last" ∷ ws) p.1)
 told_of-found tells.Busy left z e end =
     let p = pair_found u32_of (λ x. told.Busy x) (IsNumber 32) u32_found (codes "busy") left z e end in
-    subst (IsTold (codes "busy" ∷ left.words)) p.1 p.2
+    subst (SpellsTold (codes "busy" ∷ left.words)) p.1 p.2
 told_of-found tells.Collected left z e end = collected_found left z e end
 told_of-found tells.Absent left z e end =
     let p = pair_found acceptor_of (λ x. told.Absent x) IsAcceptor acceptor_found (codes "absent") left z e end in
-    subst (IsTold (codes "absent" ∷ left.words)) p.1 p.2
+    subst (SpellsTold (codes "absent" ∷ left.words)) p.1 p.2
 told_of-found tells.Proposer left z e end =
     let n = bind_ok (behind_name (codes "down") left) _ z e in
     let p = pair_found u8_of (λ x. told.ProposerDown x) (IsNumber 8) u8_found (codes "down") n.0 z n.2 end in
     let split : codes "proposer" ∷ left.words ≡ codes "proposer" ∷ codes "down" ∷ p.2.0 ∷ [] =
     ap (λ (ws : List Word). codes "proposer" ∷ ws) (name_found (codes "down") left n.0 n.1 ∙ p.2.1) in
-    subst (IsTold (codes "proposer" ∷ left.words)) p.1 (p.2.0, split, p.2.2)
+    subst (SpellsTold (codes "proposer" ∷ left.words)) p.1 (p.2.0, split, p.2.2)
 
 told_by-found : (name : Option ToldName) (at : ℕ) (word : Word) (behind : WordsLeft) (z : OpAnswer × WordsLeft) → told_name word ≡ name
-    → told_by name at word behind ≡ Ok z → z.1.words ≡ [] → IsTold (word ∷ behind.words) z.0
+    → told_by name at word behind ≡ Ok z → z.1.words ≡ [] → SpellsTold (word ∷ behind.words) z.0
 unfolding told_by
 told_by-found (Some name) at word behind z is e end =
-    subst (λ (w : Word). IsTold (w ∷ behind.words) z.0) (sym (told_named word name is)) (told_of-found name behind z e end)
+    subst (λ (w : Word). SpellsTold (w ∷ behind.words) z.0) (sym (told_named word name is)) (told_of-found name behind z e end)
 told_by-found None at word behind z is e end =
     let s = bind_ok (stop_in at word behind) _ z e in
     let p = nothing_more (told.Stopped s.0.0) s.0.1 z s.2 end in
-    subst (IsTold (word ∷ behind.words)) p.0 (stop_found at word behind s.0 s.1 p.1)
+    subst (SpellsTold (word ∷ behind.words)) p.0 (stop_found at word behind s.0 s.1 p.1)
 
-told_found : (left : WordsLeft) (z : OpAnswer × WordsLeft) → told_at left ≡ Ok z → z.1.words ≡ [] → IsTold left.words z.0
+told_found : (left : WordsLeft) (z : OpAnswer × WordsLeft) → told_at left ≡ Ok z → z.1.words ≡ [] → SpellsTold left.words z.0
 unfolding told_at
 told_found left z e end =
     let w = bind_ok (word_at left) _ z e in
     let split : left.words ≡ w.0.0 ∷ w.0.1.words = word_took left.at left.words w.0.0 w.0.1 w.1 in
-    subst (λ (ws : List Word). IsTold ws z.0) (sym split) (told_by-found (told_name w.0.0) left.at w.0.0 w.0.1 z refl w.2 end)
+    subst (λ (ws : List Word). SpellsTold ws z.0) (sym split) (told_by-found (told_name w.0.0) left.at w.0.0 w.0.1 z refl w.2 end)
 
-told_again : (words : List Word) (a : OpAnswer) → IsTold words a → ReadsAll told_at words a
+told_again : (words : List Word) (a : OpAnswer) → SpellsTold words a → ReadsAll told_at words a
 unfolding told_at told_by told_of behind_name numbered_at collected_at not_at not_in marked_version_at finished_at
 told_again words (told.Joined id era rescanned) is at = (
   at + 1 + 1 + 1 + 1 + 1 + 1,

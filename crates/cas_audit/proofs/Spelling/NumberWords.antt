@@ -18,7 +18,7 @@ use Rattle.cas_lines.specs.Command.{IsAcceptor}
 use Rattle.cas_lines.specs.Reading.{within, acceptor_of, begins_with_digit}
 use Rattle.cas_lines.proofs.Commands.{number_begins}
 use Rattle.cas_lines.proofs.EventLines.{within_some, within_again}
-use Rattle.cas_audit.specs.Spelling.Lines.{IsNumber, IsCall, IsBallot, AreRising, IsSet}
+use Rattle.cas_audit.specs.Spelling.Lines.{IsNumber, SpellsCall, IsBallot, AreRising, IsSet}
 use Rattle.cas_audit.specs.Spelling.Reading.{is_point, is_comma, u8_of, u32_of, both_of, call_of, ballot_from, ballot_of, member_onto, members_from, members_of}
 use Rattle.cas_audit.proofs.Spelling.MemberWords.{no_comma_in, begins, no_dash}
 use Rattle.cas_audit.proofs.Spelling.TextWords.{first_part, before_digits, behind_digits}
@@ -80,7 +80,7 @@ both_found (Some one) (Some two) x y e =
 both_found (Some one) None x y e = absurd cc
 both_found None two x y e = absurd cc
 
-pub call_found : (word : Word) (call : ℕ × ℕ) → call_of word ≡ Some call → IsCall call.0 call.1 word
+pub call_found : (word : Word) (call : ℕ × ℕ) → call_of word ≡ Some call → SpellsCall call.0 call.1 word
 call_found word call e =
     let both = both_found (u8_of (before_first is_point word)) (u32_of (after_first is_point word)) call.0 call.1 e in
     let first = u8_found (before_first is_point word) call.0 both.0 in
@@ -94,7 +94,7 @@ before_is word front back n split says = ap (before_first is_point) split ∙ be
 behind_is : (word front back : Word) (n : ℕ) → word ≡ front ++ codes "." ++ back → u64_of front ≡ Some n → after_first is_point word ≡ back
 behind_is word front back n split says = ap (after_first is_point) split ∙ behind_digits front back (number_parts front n says).0
 
-pub call_says : (word : Word) (caller call : ℕ) → IsCall caller call word → call_of word ≡ Some (caller, call)
+pub call_says : (word : Word) (caller call : ℕ) → SpellsCall caller call word → call_of word ≡ Some (caller, call)
 call_says word caller call is =
     (λ i. both_of (u8_of (before_is word is.0 is.1 caller is.2 is.3.0 i)) (u32_of (behind_is word is.0 is.1 caller is.2 is.3.0 i)))
     ∙ (λ i. both_of (u8_says is.0 caller is.3 i) (u32_says is.1 call is.4 i))

@@ -32,8 +32,8 @@ abbrev pub IsPoint : ℕ → ℕ → ℕ → ℕ → Word → Type 0
 IsPoint bits first also second word = (front back : Word) × (word ≡ front ++ codes "." ++ back) × IsNumber bits first front × IsNumber also second back
 
 -- a caller, and the number of its call
-abbrev pub IsCall : ℕ → ℕ → Word → Type 0
-IsCall caller call word = IsPoint 8 caller 32 call word
+abbrev pub SpellsCall : ℕ → ℕ → Word → Type 0
+SpellsCall caller call word = IsPoint 8 caller 32 call word
 
 -- a counter, and its proposer
 abbrev pub IsBallot : Ballot → Word → Type 0
@@ -57,14 +57,14 @@ IsVersion version word = (digits : Word) × (word ≡ codes "v" ++ digits) × Is
 -- ---- answers
 
 -- how few acceptors confirmed, and how many were needed
-abbrev pub IsShort : List Word → ℕ → ℕ → Type 0
-IsShort words got need = (first second : Word) × (words ≡ codes "short" ∷ first ∷ second ∷ []) × IsNumber 32 got first × IsNumber 32 need second
+abbrev pub SpellsShort : List Word → ℕ → ℕ → Type 0
+SpellsShort words got need = (first second : Word) × (words ≡ codes "short" ∷ first ∷ second ∷ []) × IsNumber 32 got first × IsNumber 32 need second
 
 abbrev pub IsCause : List Word → Cause → Type 0
 IsCause words (cause.Met ballot) = IsPair words (codes "met") (IsBallot ballot)
 IsCause words (cause.Aged least) = IsPair words (codes "aged") (IsNumber 64 least)
 IsCause words (cause.Full acceptor) = IsPair words (codes "full") (IsAcceptor acceptor)
-IsCause words (cause.Short got need) = IsShort words got need
+IsCause words (cause.Short got need) = SpellsShort words got need
 IsCause words (cause.Moved era) = IsPair words (codes "moved") (IsNumber 32 era)
 IsCause words cause.Crashed = words ≡ codes "crashed" ∷ []
 
@@ -74,7 +74,7 @@ IsStop words (answer.Done state took ballot) = ⊥
 IsStop words (answer.Conflict met) = IsPair words (codes "conflict") (IsBallot met)
 IsStop words (answer.Aged least) = IsPair words (codes "aged") (IsNumber 64 least)
 IsStop words (answer.Full acceptor) = IsPair words (codes "full") (IsAcceptor acceptor)
-IsStop words (answer.Short got need) = IsShort words got need
+IsStop words (answer.Short got need) = SpellsShort words got need
 IsStop words (answer.Moved era) = IsPair words (codes "moved") (IsNumber 32 era)
 IsStop words answer.Crashed = words ≡ codes "crashed" ∷ []
 IsStop words (answer.Unsettled why) = (rest : List Word) × (words ≡ codes "unsettled" ∷ rest) × IsCause rest why
@@ -100,11 +100,11 @@ IsAnswer words other = IsStop words other
 -- ---- operators
 
 -- what an operator asks for
-abbrev pub IsAsked : List Word → Asked → Type 0
-IsAsked words (asked.Join id) = IsPair words (codes "join") (IsAcceptor id)
-IsAsked words (asked.Leave id) = IsPair words (codes "leave") (IsAcceptor id)
-IsAsked words (asked.Collect key) = (words ≡ codes "collect" ∷ key ∷ []) × IsKey key
-IsAsked words (asked.Probe key) = (words ≡ codes "probe" ∷ key ∷ []) × IsKey key
+abbrev pub SpellsAsked : List Word → Asked → Type 0
+SpellsAsked words (asked.Join id) = IsPair words (codes "join") (IsAcceptor id)
+SpellsAsked words (asked.Leave id) = IsPair words (codes "leave") (IsAcceptor id)
+SpellsAsked words (asked.Collect key) = (words ≡ codes "collect" ∷ key ∷ []) × IsKey key
+SpellsAsked words (asked.Probe key) = (words ≡ codes "probe" ∷ key ∷ []) × IsKey key
 
 -- a plan of this name is finished: for whom, in which era, and how many keys were proposed anew
 abbrev pub IsFinished : List Word → Word → ℕ → ℕ → ℕ → Type 0
@@ -121,19 +121,19 @@ refusal_words fault.TooMany = codes "too" ∷ codes "many" ∷ []
 refusal_words fault.Last = codes "last" ∷ []
 
 -- what an operator is answered; no probe's answer has words, and none says that a change is done
-abbrev pub IsTold : List Word → OpAnswer → Type 0
-IsTold words (told.Joined id era rescanned) = IsFinished words (codes "joined") id era rescanned
-IsTold words (told.Left id era rescanned) = IsFinished words (codes "left") id era rescanned
-IsTold words (told.Refused reason) = words ≡ refusal_words reason
-IsTold words (told.Busy era) = IsPair words (codes "busy") (IsNumber 32 era)
-IsTold words (told.Collected key ballot removed kept) =
+abbrev pub SpellsTold : List Word → OpAnswer → Type 0
+SpellsTold words (told.Joined id era rescanned) = IsFinished words (codes "joined") id era rescanned
+SpellsTold words (told.Left id era rescanned) = IsFinished words (codes "left") id era rescanned
+SpellsTold words (told.Refused reason) = words ≡ refusal_words reason
+SpellsTold words (told.Busy era) = IsPair words (codes "busy") (IsNumber 32 era)
+SpellsTold words (told.Collected key ballot removed kept) =
     (at first last : Word) × (words ≡ codes "collected" ∷ key ∷ codes "at" ∷ at ∷ codes "removed" ∷ first ∷ codes "kept" ∷ last ∷ [])
     × IsKey key × IsBallot ballot at × IsNumber 32 removed first × IsNumber 32 kept last
-IsTold words (told.NotEmpty version) = (last : Word) × (words ≡ codes "not" ∷ codes "empty" ∷ last ∷ []) × IsVersion version last
-IsTold words (told.Absent acceptor) = IsPair words (codes "absent") (IsAcceptor acceptor)
-IsTold words (told.ProposerDown proposer) = (last : Word) × (words ≡ codes "proposer" ∷ codes "down" ∷ last ∷ []) × IsNumber 8 proposer last
-IsTold words (told.Probed key found) = ⊥
-IsTold words (told.Stopped answer) = IsStop words answer
+SpellsTold words (told.NotEmpty version) = (last : Word) × (words ≡ codes "not" ∷ codes "empty" ∷ last ∷ []) × IsVersion version last
+SpellsTold words (told.Absent acceptor) = IsPair words (codes "absent") (IsAcceptor acceptor)
+SpellsTold words (told.ProposerDown proposer) = (last : Word) × (words ≡ codes "proposer" ∷ codes "down" ∷ last ∷ []) × IsNumber 8 proposer last
+SpellsTold words (told.Probed key found) = ⊥
+SpellsTold words (told.Stopped answer) = IsStop words answer
 
 -- ---- lines
 
@@ -149,10 +149,10 @@ harm_word true = codes "down"
 -- the words of a mark's line, of which there is one form for each kind of mark
 abbrev pub IsMarkLine : List Word → Mark → Type 0
 IsMarkLine words (Begun caller call key program) =
-    (at : Word) × (rest : List Word) × (words ≡ codes "begun" ∷ at ∷ key ∷ rest) × IsCall caller call at × IsKey key × IsProgram rest program
+    (at : Word) × (rest : List Word) × (words ≡ codes "begun" ∷ at ∷ key ∷ rest) × SpellsCall caller call at × IsKey key × IsProgram rest program
 IsMarkLine words (Proposed p) =
     (at ballot read : Word) × (rest : List Word) × (words ≡ codes "proposed" ∷ at ∷ p.key ∷ ballot ∷ codes "read" ∷ read ∷ rest)
-    × IsCall p.caller p.call at × IsKey p.key × IsBallot p.ballot ballot × IsBallot p.read read × IsQuorum rest p.era p.prepared_by
+    × SpellsCall p.caller p.call at × IsKey p.key × IsBallot p.ballot ballot × IsBallot p.read read × IsQuorum rest p.era p.prepared_by
 IsMarkLine words (Voted acceptor key ballot) =
     (first last : Word) × (words ≡ codes "voted" ∷ first ∷ key ∷ last ∷ []) × IsAcceptor acceptor first × IsKey key × IsBallot ballot last
 IsMarkLine words (Acked a) =
@@ -162,10 +162,10 @@ IsMarkLine words (Floor key ballot state) =
 IsMarkLine words (EraEntered proposer number) =
     (first last : Word) × (words ≡ codes "entered" ∷ first ∷ last ∷ []) × IsNumber 8 proposer first × IsNumber 32 number last
 IsMarkLine words (Ended caller call rounds answer) =
-    (at count : Word) × (rest : List Word) × (words ≡ codes "ended" ∷ at ∷ count ∷ rest) × IsCall caller call at × IsNumber 32 rounds count × IsAnswer rest answer
-IsMarkLine words (Harmed caller call down) = (at : Word) × (words ≡ codes "harmed" ∷ at ∷ harm_word down ∷ []) × IsCall caller call at
+    (at count : Word) × (rest : List Word) × (words ≡ codes "ended" ∷ at ∷ count ∷ rest) × SpellsCall caller call at × IsNumber 32 rounds count × IsAnswer rest answer
+IsMarkLine words (Harmed caller call down) = (at : Word) × (words ≡ codes "harmed" ∷ at ∷ harm_word down ∷ []) × SpellsCall caller call at
 IsMarkLine words (Told asked answer) =
-    (front rest : List Word) × (words ≡ codes "told" ∷ front ++ codes "->" ∷ rest) × IsAsked front asked × IsTold rest answer
+    (front rest : List Word) × (words ≡ codes "told" ∷ front ++ codes "->" ∷ rest) × SpellsAsked front asked × SpellsTold rest answer
 
 -- the line in front of the marks, which says how many there are
 abbrev pub IsCountLine : List Word → ℕ → Type 0

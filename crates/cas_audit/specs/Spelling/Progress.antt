@@ -38,7 +38,7 @@ pub record AreLines {S : Type 0} (gives : S → Taken → S → Type 0) (old new
   pub known : IfSome input (λ bytes. lines ≡ lines_of bytes)
 
 -- what was found in the lines of a whole input
-pub record IsFoundIn {S : Type 0} (gives : S → Taken → S → Type 0) (old new : S) (input : Option (List ℕ)) (finding : Finding) : Type 0 where
+pub record IsFoundInInput {S : Type 0} (gives : S → Taken → S → Type 0) (old new : S) (input : Option (List ℕ)) (finding : Finding) : Type 0 where
   pub lines : List (List ℕ)
   pub are : AreLines gives old new input lines
   pub found : IsFound lines finding
@@ -46,5 +46,5 @@ pub record IsFoundIn {S : Type 0} (gives : S → Taken → S → Type 0) (old ne
 -- a front of the line that says what was found there was written, and not all of it
 pub record WroteFront {S : Type 0} (gives : S → Taken → S → Type 0) (old new : S) (input held_old held_new : Option (List ℕ)) : Type 0 where
   pub finding : Finding
-  pub found : IsFoundIn gives old new input finding
+  pub found : IsFoundInInput gives old new input finding
   pub front : AppendsFront held_old held_new (finding_line finding)

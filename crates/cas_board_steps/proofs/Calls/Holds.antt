@@ -24,12 +24,12 @@ use Rattle.cas_world.specs.Readers.{next_number}
 use Rattle.cas_world.specs.Calls.Reading.{HasProposed}
 use Rattle.cas_world.specs.World.{WasTold}
 use Rattle.cas_board_steps.specs.Calls.Conflicts.{is_conflict, told_conflict}
-use Rattle.cas_board_steps.specs.Calls.Deeds.{BeginsIn, IsRefusal, LeavesIdle, BeginsNot, ends_at_once, is_refused, GoesOnIn, EndsIn, StraysIn, harm_by}
+use Rattle.cas_board_steps.specs.Calls.Deeds.{BeginsIn, IsRefusalBehind, LeavesIdle, BeginsNot, ends_at_once, is_refused, GoesOnIn, EndsMarked, StraysIn, harm_by}
 use Rattle.cas_board_steps.specs.Kept.{IsStaged, running, IsKept, Makes}
 use Rattle.cas_board_steps.specs.Mine.{mine, call_of, AreOfCall, losses, Wanted, wants, wanted_after, wanted_by}
 use Rattle.cas_board_steps.specs.Owners.{owner_of}
 use Rattle.cas_board_steps.specs.OwnParts.{plan_part, council_part, own_part}
-use Rattle.cas_board_steps.specs.Calls.Open.{IsFree, IsIdle, HasOpen, rounds_after}
+use Rattle.cas_board_steps.specs.Calls.Open.{NothingIsOpen, IsIdle, HasOpen, rounds_after}
 use Rattle.cas_board_steps.proofs.Calls.Acts.{Acts, acts_then, acts_aside, makes_aside, kept_aside, spares_same, spares_rounds, part_same, makes_of, OwnKept, was_desk, staged_same, kept_by}
 use Rattle.cas_board_steps.proofs.Calls.Events.{Fine, fine_none, CallGoesOn, CallIsOver, LetsIn, quiet_rescans, rescans_unasked, end_ends, stray_lets_in, refused_stray_lets_in, first_begins, again_goes_on, over_where_told, turn_goes_on, refused_turn_goes_on, propose_goes_on, count_is_over, refused_acts}
 use Rattle.cas_board_steps.proofs.Fronts.{wanted_append}
@@ -113,7 +113,7 @@ over_at_once n most old caller was at is = record {
 }
 
 -- the end of a call leaves what stood beside it, where that was no call of the operator
-rest_still : {S V : Type 0} (n : ℕ) (key : List ℕ) (told : Answer) (old new : View S V) → calls.Rescans old.council n key told new.council → IsFree (rest_of old n) → rest_of new n ≡ rest_of old n
+rest_still : {S V : Type 0} (n : ℕ) (key : List ℕ) (told : Answer) (old new : View S V) → calls.Rescans old.council n key told new.council → NothingIsOpen (rest_of old n) → rest_of new n ≡ rest_of old n
 rest_still zero key told old new then_ free =
     let none : old.council.order ≡ None = no_order old.council.order (is_like old.council (with_plan free.plan) (free.is ∙ sym (append-nil (plan_part free.plan)))).order in
     ap council_part (quiet_rescans 0 old.council new.council key told (λ first_. none) then_)
@@ -130,7 +130,7 @@ only_ended : (n call rounds : ℕ) (told : Answer) → OnlyOwnedBy owner_of n (E
 only_ended n call rounds told = All-cons (λ i. (m : ℕ) → owner_of i ≡ Some m → m ≡ n) (Ended n call rounds told) [] (λ m e. sym (some_is e)) (All-nil (λ i. (m : ℕ) → owner_of i ≡ Some m → m ≡ n))
 
 pub ends_in : {S V : Type 0} (m : Meaning S V) (n call most : ℕ) (told : Answer) (old mid new : View S V) (caller : CallerView) (was entered : CallView) → IsAt old.callers n caller → caller.call ≡ Some was → Enters was entered → HasOpen call (own_part old n) → IsKept old → CallIsOver n most old mid caller entered
-    → StepEnd m mid n told new → Held old new (EndsIn n call most old new told)
+    → StepEnd m mid n told new → Held old new (EndsMarked n call most old new told)
 ends_in {S} {V} m n call most told old mid new caller was entered at is enters has kept over by =
     let number : caller.number ≡ call = number_of old n call has caller at in
     let next_caller : CallerView = record caller { call = Some over.goes.next } in
@@ -157,7 +157,7 @@ ends_in {S} {V} m n call most told old mid new caller was entered at is enters h
         few = over.goes.fine.few;
         rescans = λ one one_was at_one_ one_is. subst (λ (k : List ℕ). calls.Rescans old.council n k told new.council) (ap (λ (c : CallView). c.key) (some_is (sym is ∙ ap (λ (c : CallerView). c.call) (at_one old.callers n at at_one_) ∙ one_is))) then_;
         is_idle = now_idle new n next_none ended.at_next refl (λ is_first. rescans_unasked n old.council new.council was.key told then_ ∙ (open_quiet old n call has is_first).exchange);
-        still = λ free. own_closed new n next_none ended.at_next refl ∙ rest_still n was.key told old new then_ (subst IsFree (beside_part old n caller was at is) free) ∙ sym (beside_part old n caller was at is);
+        still = λ free. own_closed new n next_none ended.at_next refl ∙ rest_still n was.key told old new then_ (subst NothingIsOpen (beside_part old n caller was at is) free) ∙ sym (beside_part old n caller was at is);
       };
       kept = kept_aside n old new all acts only kept (idle_kept n new next_none ended.at_next refl);
       last_proposer = acts.last_proposer;
@@ -215,7 +215,7 @@ leaves_idle : {S V : Type 0} (n : ℕ) (key : List ℕ) (told : Answer) (old new
 leaves_idle n key told old new caller next at none idle at_next next_none then_ = record {
   rescans = then_;
   is_idle = now_idle new n next at_next next_none (λ is_first. rescans_unasked n old.council new.council key told then_ ∙ (idle_quiet old n idle is_first).exchange);
-  still = λ free. own_closed new n next at_next next_none ∙ rest_still n key told old new then_ (subst IsFree (own_closed old n caller at none) free) ∙ sym (own_closed old n caller at none);
+  still = λ free. own_closed new n next at_next next_none ∙ rest_still n key told old new then_ (subst NothingIsOpen (own_closed old n caller at none) free) ∙ sym (own_closed old n caller at none);
 }
 
 -- it is told why no round begins, and ends at once
@@ -246,7 +246,7 @@ passes_in {S} {V} m n key program told old mid new caller at none idle kept by n
     }
 
 -- why it is not begun, before as many marks as there were
-pub refusal_then : {S V : Type 0} (told : Answer) (old new : View S V) → (told ≡ answer.RecordFull) ⊎ (told ≡ answer.NoMemory false) → (told ≡ answer.RecordFull → 999000 < length old.marks) → new.marks ≡ old.marks → IsRefusal (length new.marks) told
+pub refusal_then : {S V : Type 0} (told : Answer) (old new : View S V) → (told ≡ answer.RecordFull) ⊎ (told ≡ answer.NoMemory false) → (told ≡ answer.RecordFull → 999000 < length old.marks) → new.marks ≡ old.marks → IsRefusalBehind (length new.marks) told
 refusal_then told old new (inl full) long same = inl (full, subst (λ (l : List Mark). 999000 < length l) (sym same) (long full))
 refusal_then told old new (inr none) long same = inr none
 
@@ -363,7 +363,7 @@ again_told A m n call key program told old new has (inr not_begun) =
     absurd (cc (sym not_begun.1.none_open ∙ ap (λ (c : CallerView). c.call) (at_one old.callers n not_begun.1.at_caller o.at_caller) ∙ o.is_open))
 
 pub again_ends : {S V : Type 0} (A : Type 0) (m : Meaning S V) (n call most : ℕ) (key : List ℕ) (program : List Clause) (told : Answer) (old mid new : View S V) → HasOpen call (own_part old n) → IsKept old → BeginsOrNot {A = A} m old n call key program (Err told) mid → StepEnd m mid n told new
-    → Held old new (EndsIn n call most old new told)
+    → Held old new (EndsMarked n call most old new told)
 again_ends A m n call most key program told old mid new has kept begun ends =
     let o = open_at old n call has in
     let by = again_told A m n call key program told old mid has begun in
@@ -399,7 +399,7 @@ turn_told {S} {V} m n call proposed old mid has by says =
     same_callers (frames.stays same) = ap (λ (w : View S V). w.callers) same
     same_callers (frames.kept id acceptor now there finds same) = ap (λ (w : View S V). w.callers) same
 
-pub turn_ends : {S V : Type 0} (m : Meaning S V) (n call most : ℕ) (told : Answer) (old mid new : View S V) → HasOpen call (own_part old n) → IsKept old → ((desk : DeskView V) → IsAt old.desks n desk → IsSome desk.round) → StepRefuseTurn m old n mid → WasTold mid n call told → StepEnd m mid n told new → Held old new (EndsIn n call most old new told)
+pub turn_ends : {S V : Type 0} (m : Meaning S V) (n call most : ℕ) (told : Answer) (old mid new : View S V) → HasOpen call (own_part old n) → IsKept old → ((desk : DeskView V) → IsAt old.desks n desk → IsSome desk.round) → StepRefuseTurn m old n mid → WasTold mid n call told → StepEnd m mid n told new → Held old new (EndsMarked n call most old new told)
 turn_ends m n call most told old mid new has kept running_ by was ends =
     let runs = runs_there old n by.of_call.caller by.of_call.call kept by.of_call.at_caller by.of_call.is_open running_ in
     ends_in m n call most told old mid new by.of_call.caller by.of_call.call by.of_call.call by.of_call.at_caller by.of_call.is_open (enters_same by.of_call.call runs.unmet) has kept (over_where_told n most old mid by.of_call.caller by.of_call.call call told (refused_turn_goes_on m n most old mid by) was) ends
@@ -426,17 +426,17 @@ propose_is_met m n call most told old new has kept unproposed was conflict by =
     goes_on_in n call most old new by.at_round.of_call.caller by.at_round.of_call.call by.at_round.of_call.call by.at_round.of_call.at_caller by.at_round.of_call.is_open (enters_same by.at_round.of_call.call runs.unmet) has kept goes
     (λ desk at_desk. propose_met m n call told old new unproposed was conflict by (record by.at_round.of_call.caller { call = Some goes.next }) goes.next goes.at_next refl (goes.closed runs.unclosed) desk at_desk)
 
-pub propose_ends : {S V : Type 0} (m : Meaning S V) (n call most : ℕ) (told : Answer) (old mid new : View S V) → HasOpen call (own_part old n) → IsKept old → WasTold mid n call told → StepPropose m old n mid → StepEnd m mid n told new → Held old new (EndsIn n call most old new told)
+pub propose_ends : {S V : Type 0} (m : Meaning S V) (n call most : ℕ) (told : Answer) (old mid new : View S V) → HasOpen call (own_part old n) → IsKept old → WasTold mid n call told → StepPropose m old n mid → StepEnd m mid n told new → Held old new (EndsMarked n call most old new told)
 propose_ends m n call most told old mid new has kept was by ends =
     ends_in m n call most told old mid new by.at_round.of_call.caller by.at_round.of_call.call by.at_round.of_call.call by.at_round.of_call.at_caller by.at_round.of_call.is_open (enters_same by.at_round.of_call.call (round_runs old n by.at_round kept).unmet) has kept
     (over_where_told n most old mid by.at_round.of_call.caller by.at_round.of_call.call call told (propose_goes_on m n most old mid by) was) ends
 
 -- ---- the ends of a call
-pub count_ends : {S V : Type 0} (m : Meaning S V) (n call most : ℕ) (told : Answer) (old mid new : View S V) → HasOpen call (own_part old n) → IsKept old → StepCount m old n mid → StepEnd m mid n told new → Held old new (EndsIn n call most old new told)
+pub count_ends : {S V : Type 0} (m : Meaning S V) (n call most : ℕ) (told : Answer) (old mid new : View S V) → HasOpen call (own_part old n) → IsKept old → StepCount m old n mid → StepEnd m mid n told new → Held old new (EndsMarked n call most old new told)
 count_ends m n call most told old mid new has kept by ends =
     ends_in m n call most told old mid new by.at_round.of_call.caller by.at_round.of_call.call by.at_round.of_call.call by.at_round.of_call.at_caller by.at_round.of_call.is_open (enters_same by.at_round.of_call.call (round_runs old n by.at_round kept).unmet) has kept (count_is_over m n most old mid by) ends
 
-pub closed_ends : {S V : Type 0} (m : Meaning S V) (n call most : ℕ) (told : Answer) (old new : View S V) (has : HasOpen call (own_part old n)) → IsKept old → told_conflict (open_at old n call has).open_call.told ≡ false → StepEnd m old n told new → Held old new (EndsIn n call most old new told)
+pub closed_ends : {S V : Type 0} (m : Meaning S V) (n call most : ℕ) (told : Answer) (old new : View S V) (has : HasOpen call (own_part old n)) → IsKept old → told_conflict (open_at old n call has).open_call.told ≡ false → StepEnd m old n told new → Held old new (EndsMarked n call most old new told)
 closed_ends m n call most told old new has kept unmet ends =
     let o = open_at old n call has in
     ends_in m n call most told old old new o.caller o.open_call o.open_call o.at_caller o.is_open (enters_same o.open_call unmet) has kept (over_at_once n most old o.caller o.open_call o.at_caller o.is_open) ends

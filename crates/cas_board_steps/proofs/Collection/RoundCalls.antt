@@ -42,7 +42,7 @@ use Rattle.cas_world.specs.Calls.Reading.{HasProposed}
 use Rattle.cas_world.specs.World.{WasTold}
 use Rattle.cas_board_steps.specs.Collection.Collecting as collecting_
 use Rattle.cas_board_steps.specs.Eras.Counting.{EntersEras}
-use Rattle.cas_board_steps.specs.Collection.Collecting.{CollectsAt, HasBurial, IsBurialMark, IsCollectAnswer, IsCollectingMark, IsRefusedBurial, IsWithin, TellsRefusal, Stops}
+use Rattle.cas_board_steps.specs.Collection.Collecting.{CollectsAt, HasBurial, IsBurialMark, IsCollectAnswer, IsCollectingMark, IsRefusedBurial, HasRoundsWithin, TellsRefusal, Stops}
 use Rattle.cas_board_steps.specs.Calls.Conflicts.{is_conflict, told_conflict}
 use Rattle.cas_board_steps.specs.Calls.Deeds.{harm_by}
 use Rattle.cas_board_steps.specs.Kept.{IsStaged, running, is_met, is_closed, IsKept}
@@ -554,16 +554,16 @@ done_calling {S} {V} m old new key call said has kept by was =
     }
 
 -- ---- its rounds
-pub keeps_within : (tries rounds : ℕ) (own now : List ℕ) → rounds_in now ≡ rounds_in own → (is_met_in now ≡ true → rounds < tries) → IsWithin tries rounds own → IsWithin tries rounds now
+pub keeps_within : (tries rounds : ℕ) (own now : List ℕ) → rounds_in now ≡ rounds_in own → (is_met_in now ≡ true → rounds < tries) → HasRoundsWithin tries rounds own → HasRoundsWithin tries rounds now
 keeps_within tries rounds own now same more w = record { counted = same ∙ w.counted; some = w.some; within = w.within; more = more }
 
-pub begun_within : {S V : Type 0} (m : Meaning S V) (key : List ℕ) (call tries : ℕ) (old new : View S V) → HasOrder (asked.Collect key) (own_part old 0) → StepBeginCollect m (λ before after. StepBegin m before 0 key keep_always after) old key new → HasCollected new call key → 1 ≤ tries → IsWithin tries 1 (own_part new 0)
+pub begun_within : {S V : Type 0} (m : Meaning S V) (key : List ℕ) (call tries : ℕ) (old new : View S V) → HasOrder (asked.Collect key) (own_part old 0) → StepBeginCollect m (λ before after. StepBegin m before 0 key keep_always after) old key new → HasCollected new call key → 1 ≤ tries → HasRoundsWithin tries 1 (own_part new 0)
 begun_within {S} {V} m key call tries old new has by round some = by_case (begins_burial m key old new was by)
   where
     was : IsOrdered old (asked.Collect key)
     was = is_ordered old (asked.Collect key) has
 
-    by_case : BeginsBurial m key old new → IsWithin tries 1 (own_part new 0)
+    by_case : BeginsBurial m key old new → HasRoundsWithin tries 1 (own_part new 0)
     by_case (refuses leaves said order answers planned) = absurd (cc (sym (was.no_call round.of_round.caller (subst (λ (l : List CallerView). IsAt l 0 round.of_round.caller) leaves.callers round.of_round.at_caller)) ∙ round.of_round.is_call))
     by_case (begins caller at_old middle b council is at none_asked unplanned) =
         let now : CallerView = record { number = suc caller.number; call = Some b.next } in
@@ -574,7 +574,7 @@ begun_within {S} {V} m key call tries old new has by round some = by_case (begin
 one_more_some : (n : ℕ) → 1 ≤ one_more n
 one_more_some n = omega arith
 
-pub again_within : {S V : Type 0} (m : Meaning S V) (key : List ℕ) (call tries rounds now : ℕ) (old new : View S V) → HasBurial key call (own_part old 0) old.marks → StepBeginCollect m (λ before after. StepBegin m before 0 key keep_always after) old key new → now ≡ one_more rounds → IsWithin tries rounds (own_part old 0) → IsWithin tries now (own_part new 0)
+pub again_within : {S V : Type 0} (m : Meaning S V) (key : List ℕ) (call tries rounds now : ℕ) (old new : View S V) → HasBurial key call (own_part old 0) old.marks → StepBeginCollect m (λ before after. StepBegin m before 0 key keep_always after) old key new → now ≡ one_more rounds → HasRoundsWithin tries rounds (own_part old 0) → HasRoundsWithin tries now (own_part new 0)
 again_within {S} {V} m key call tries rounds now old new has by is_now w =
     let was = is_burying old key call old.marks has in
     let parts = again_begins m key call old new was by in
@@ -595,17 +595,17 @@ again_within {S} {V} m key call tries rounds now old new has by is_now w =
       more = λ now_met. absurd (cc (unmet, now_met));
     }
 
-pub turn_within : {S V : Type 0} (m : Meaning S V) (key : List ℕ) (call tries rounds : ℕ) (v : Verdict) (old new : View S V) → HasBurial key call (own_part old 0) old.marks → IsKept old → ((desk : DeskView V) → IsAt old.desks 0 desk → IsSome desk.round) → StepTurn m old 0 v new → IsWithin tries rounds (own_part old 0) → IsWithin tries rounds (own_part new 0)
+pub turn_within : {S V : Type 0} (m : Meaning S V) (key : List ℕ) (call tries rounds : ℕ) (v : Verdict) (old new : View S V) → HasBurial key call (own_part old 0) old.marks → IsKept old → ((desk : DeskView V) → IsAt old.desks 0 desk → IsSome desk.round) → StepTurn m old 0 v new → HasRoundsWithin tries rounds (own_part old 0) → HasRoundsWithin tries rounds (own_part new 0)
 turn_within {S} {V} m key call tries rounds v old new has kept was by w =
     let held = turn_held m key call v old new has kept was by in
     let unmet = unmet_there new 0 call (burial_open key call (own_part new 0) new.marks held.does.1) held.kept (turn_running m 0 v old new was by) in
     keeps_within tries rounds (own_part old 0) (own_part new 0) (same_rounds (harm_by v) old new by.of_call.caller by.of_call.call by.of_call.at_caller by.of_call.is_open (turn_goes_on m 0 v old new by)) (λ met. absurd (cc (unmet, met))) w
 
-pub proposed_within : {S V : Type 0} (m : Meaning S V) (key : List ℕ) (call tries rounds : ℕ) (old new : View S V) → HasBurial key call (own_part old 0) old.marks → IsKept old → HasProposed new 0 → StepPropose m old 0 new → IsWithin tries rounds (own_part old 0) → IsWithin tries rounds (own_part new 0)
+pub proposed_within : {S V : Type 0} (m : Meaning S V) (key : List ℕ) (call tries rounds : ℕ) (old new : View S V) → HasBurial key call (own_part old 0) old.marks → IsKept old → HasProposed new 0 → StepPropose m old 0 new → HasRoundsWithin tries rounds (own_part old 0) → HasRoundsWithin tries rounds (own_part new 0)
 proposed_within m key call tries rounds old new has kept proposed by w =
     let held = proposed_held m key call 0 old new has kept proposed by in
     let unmet = unmet_there new 0 call (burial_open key call (own_part new 0) new.marks held.does.1) held.kept (proposed_running new 0 proposed) in
     keeps_within tries rounds (own_part old 0) (own_part new 0) (propose_rounds m old new by) (λ met. absurd (cc (unmet, met))) w
 
-pub met_within : {S V : Type 0} (m : Meaning S V) (tries rounds : ℕ) (old new : View S V) → StepPropose m old 0 new → rounds < tries → IsWithin tries rounds (own_part old 0) → IsWithin tries rounds (own_part new 0)
+pub met_within : {S V : Type 0} (m : Meaning S V) (tries rounds : ℕ) (old new : View S V) → StepPropose m old 0 new → rounds < tries → HasRoundsWithin tries rounds (own_part old 0) → HasRoundsWithin tries rounds (own_part new 0)
 met_within m tries rounds old new by low w = keeps_within tries rounds (own_part old 0) (own_part new 0) (propose_rounds m old new by) (λ met. low) w

@@ -39,8 +39,8 @@ use Rattle.cas_board_steps.proofs.Calls.Acts.{Acts, spares_same, kept_by, staged
 use Rattle.cas_board_steps.proofs.Calls.Events.{only_one, desks_set}
 use Rattle.cas_model.proofs.Places.{some_is, at_one, at_set}
 use Rattle.cas_world.specs.Exchanges.Exchange as world
-use Rattle.cas_world.specs.Exchanges.Exchange.{MayAsk, MayGather, HasGathered, WasToldOrder, asks_as, place_of, turn_of, refusal_of, gathering_by, gathering_of, question_in}
-use Rattle.cas_world.specs.Eras.Plans.{HasFinished, IsFor, IsUnderWay, IsPartial, MayEnter, MayOpenPlan, entrant_of, rescanned_of, step_of}
+use Rattle.cas_world.specs.Exchanges.Exchange.{MayAskMembers, MayGather, HasGathered, WasToldOrder, asks_as, place_of, turn_of, refusal_of, gathering_by, gathering_of, question_in}
+use Rattle.cas_world.specs.Eras.Plans.{HasFinished, IsFor, IsUnderWay, IsPartial, MayEnterNext, MayOpenPlan, entrant_of, rescanned_of, step_of}
 use Rattle.cas_model.specs.Eras.Course.{next_era}
 use Rattle.cas_model_causes.specs.Eras.Tellings.{IsPassing}
 use Rattle.cas_board_steps.specs.Calls.Deeds.{harm_by}
@@ -379,7 +379,7 @@ finishes old new asked told has kept ends by =
     (λ enters. end_counts asked told (new_order asked) old new was.order refl ends refl (subst (λ (o : OrderView). IsFinishedBy old.council o told) (some_is (sym by.is_open ∙ was.order)) by.finished)) (λ not. absurd (not (λ p e. tt)))
 
 -- ---- members are asked for their next keys
-pub may_list : {S V : Type 0} (view : View S V) (asked : Asked) → IsKept view → HasPlan asked (own_part view 0) → step_of view.council.plan ≡ Some Settle → IsPartial view.council.plan → MayAsk view (question_in view query.List)
+pub may_list : {S V : Type 0} (view : View S V) (asked : Asked) → IsKept view → HasPlan asked (own_part view 0) → step_of view.council.plan ≡ Some Settle → IsPartial view.council.plan → MayAskMembers view (question_in view query.List)
 may_list {S} {V} view asked kept has settles partial =
     let is = is_changing view asked has in
     record {
@@ -600,13 +600,13 @@ gather_list_told {S} {V} m most old mid new asked told has kept step_ said ends 
 pub may_open : {S V : Type 0} (view : View S V) (asked : Asked) → HasOrder asked (own_part view 0) → (IsFor view.council.plan asked → ⊥) → MayOpenPlan view asked
 may_open view asked has not_yet = let is = is_ordered view asked has in record { order = new_order asked; is_open = is.order; is_for = refl; not_yet = not_yet }
 
-pub may_enter : {S V : Type 0} (view : View S V) (asked : Asked) (proposer : ℕ) → HasPlan asked (own_part view 0) → entrant_of view.council.plan ≡ Some proposer → MayEnter view proposer
+pub may_enter : {S V : Type 0} (view : View S V) (asked : Asked) (proposer : ℕ) → HasPlan asked (own_part view 0) → entrant_of view.council.plan ≡ Some proposer → MayEnterNext view proposer
 may_enter {S} {V} view asked proposer has next = by_next (next_era (Some is.plan)) refl
   where
     is : IsChanging view asked
     is = is_changing view asked has
 
-    by_next : (o : Option Era) → next_era (Some is.plan) ≡ o → MayEnter view proposer
+    by_next : (o : Option Era) → next_era (Some is.plan) ≡ o → MayEnterNext view proposer
     by_next None none = absurd (cc (sym (ap entrant_of is.is_plan ∙ ap (option_map (λ era. is.plan.entered)) none) ∙ next))
     by_next (Some era) some = record {
       order = new_order asked;

@@ -24,9 +24,9 @@ use Rattle.cas_world.specs.Eras.Plans.{rescanned_of}
 use Rattle.cas_board_steps.specs.Calls.Conflicts.{is_conflict}
 use Rattle.cas_board_steps.specs.Calls.Deeds as deeds
 use Rattle.cas_board_steps.specs.Eras.Counting.{CountsTo, EntersEras}
-use Rattle.cas_board_steps.specs.Calls.Deeds.{BeginsIn, BeginsNot, GoesOnIn, EndsIn, IsRefusal}
+use Rattle.cas_board_steps.specs.Calls.Deeds.{BeginsIn, BeginsNot, GoesOnIn, EndsMarked, IsRefusalBehind}
 use Rattle.cas_board_steps.specs.Kept.{IsKept, Makes}
-use Rattle.cas_board_steps.specs.Eras.Membership.{HasPlan, IsDue, HasRescan, IsPlanMark, IsRescanMark}
+use Rattle.cas_board_steps.specs.Eras.Membership.{HasPlan, KeyIsDue, HasRescan, IsPlanMark, IsRescanMark}
 use Rattle.cas_board_steps.specs.Mine.{mine, losses, done_calls, call_of, AreOfCall, Wanted, wants, wanted_by}
 use Rattle.cas_board_steps.specs.Calls.Open.{IsIdle, rounds_after}
 use Rattle.cas_board_steps.specs.Exchanges.Orders.{new_order, OperatesIn, IsToldIn}
@@ -87,7 +87,7 @@ record DueIn (council : Council) (asked : Asked) (key : List ℕ) : Type 0 where
   is_for : plan.asked ≡ asked
   due : due_key plan ≡ Some key
 
-due_in_council : (council : Council) (asked : Asked) (key : List ℕ) → IsDue asked key (council_part council) → DueIn council asked key
+due_in_council : (council : Council) (asked : Asked) (key : List ℕ) → KeyIsDue asked key (council_part council) → DueIn council asked key
 due_in_council c asked key is =
     let like : IsLikeCouncil c is.has_plan.council = is_like c is.has_plan.council is.has_plan.is in
     let p = plan_told c.plan is.has_plan.plan (like.plan ∙ ap plan_part is.has_plan.is_plan) in
@@ -125,7 +125,7 @@ pub plan_is_idle : (asked : Asked) (own : List ℕ) → HasPlan asked own → Is
 plan_is_idle asked own has = record { council = has.council; unasked = has.unasked; is = has.is }
 
 -- the key that the store names as due
-pub is_due : {S V : Type 0} (view : View S V) (asked : Asked) (key : List ℕ) → HasPlan asked (own_part view 0) → due_in view.council.plan ≡ Some key → IsDue asked key (own_part view 0)
+pub is_due : {S V : Type 0} (view : View S V) (asked : Asked) (key : List ℕ) → HasPlan asked (own_part view 0) → due_in view.council.plan ≡ Some key → KeyIsDue asked key (own_part view 0)
 is_due view asked key has due =
     let is = is_changing view asked has in
     record { has_plan = record { council = view.council; is = own_is_council view is.no_call; order = is.order; unasked = is.unasked; plan = is.plan; is_plan = is.is_plan; is_for = is.is_for }; due = sym (ap due_in is.is_plan) ∙ due }
@@ -146,7 +146,7 @@ rescan_begins call old new asked key has due b = (
         (ap done_calls (mine_own 0 (Begun 0 call key keep_always) b.more refl) ∙ none_done call (mine 0 b.more) b.of_call) (ap (λ (k : Council). rescanned_of k.plan) b.council);
     keeps = λ not. ap (λ (k : Council). rescanned_of k.plan) b.council;
   },
-  record { called = b.is_open; due = subst (IsDue asked key) (sym b.beside) (is_due old asked key has due) },
+  record { called = b.is_open; due = subst (KeyIsDue asked key) (sym b.beside) (is_due old asked key has due) },
 )
 
 -- what was made, where the end of the call leaves nothing open
@@ -161,7 +161,7 @@ record EndsRescan {S V : Type 0} (such : Mark → Type 0) (most : ℕ) (old mid 
   counts : CountsTo (rescanned_of mid.council.plan) old mid
 
 -- a call that is not begun is not done
-refused_undone : {made : ℕ} {told : Answer} → IsRefusal made told → is_done told ≡ false
+refused_undone : {made : ℕ} {told : Answer} → IsRefusalBehind made told → is_done told ≡ false
 refused_undone (inl full) = ap is_done full.0
 refused_undone (inr none) = ap is_done none
 
@@ -200,7 +200,7 @@ begins_not old mid asked key told has due (deeds.is_refused refusal makes leaves
 pub rescan_goes_on : {S V : Type 0} (call most : ℕ) (old new : View S V) (asked : Asked) (key : List ℕ) → HasRescan asked call key (own_part old 0) → GoesOnIn 0 call most old new → OperatesIn IsPlanMark most old new × HasRescan asked call key (own_part new 0)
 rescan_goes_on call most old new asked key has g = (
   record { marks = g.marks; makes = g.makes; all_such = call_of_rescan call (mine 0 g.marks) g.of_call; few = g.few; counts = λ enters. counts_still old new g.marks g.makes.made (none_done call (mine 0 g.marks) g.of_call) (ap (λ (k : Council). rescanned_of k.plan) g.council); keeps = λ not. ap (λ (k : Council). rescanned_of k.plan) g.council },
-  record { called = g.is_open; due = subst (IsDue asked key) (sym g.beside) has.due },
+  record { called = g.is_open; due = subst (KeyIsDue asked key) (sym g.beside) has.due },
 )
 
 losses_end : (marks : List Mark) (n call rounds : ℕ) (told : Answer) → losses (marks ++ Ended n call rounds told ∷ []) ≡ losses marks
@@ -217,7 +217,7 @@ losses_end (Ended caller one some answer_ ∷ marks) n call rounds told = losses
 losses_end (Told what answer_ ∷ marks) n call rounds told = losses_end marks n call rounds told
 
 ends_rescan : {S V : Type 0} (such : Mark → Type 0) (call most : ℕ) (old mid : View S V) (asked : Asked) (key : List ℕ) (program : List Clause) (told : Answer) → ((mark : Mark) → IsPlanMark mark → such mark) → such (Ended 0 call (rounds_after (own_part old 0)) told)
-    → HasRescan asked call key (own_part old 0) → IsKept old → wanted_by 0 old.marks ≡ Some (wants call key program) → EndsIn 0 call most old mid told → EndsRescan such most old mid asked told
+    → HasRescan asked call key (own_part old 0) → IsKept old → wanted_by 0 old.marks ≡ Some (wants call key program) → EndsMarked 0 call most old mid told → EndsRescan such most old mid asked told
 ends_rescan {S} {V} such call most old mid asked key program told weaker such_end has kept wanted e =
     let o = open_at old 0 call has.called in
     let rounds : ℕ = rounds_after (own_part old 0) in
@@ -226,7 +226,7 @@ ends_rescan {S} {V} such call most old mid asked key program told weaker such_en
     let none = idle_call mid 0 e.is_idle in
     let same_key : o.open_call.key ≡ key = ap (λ (w : Wanted). w.key) (some_is (sym (kept.wanted 0 o.caller o.open_call o.at_caller o.is_open) ∙ wanted)) in
     let rescans_so : Rescans old.council 0 key told mid.council = subst (λ (k : List ℕ). Rescans old.council 0 k told mid.council) same_key (e.rescans o.caller o.open_call o.at_caller o.is_open) in
-    let due = due_in_council old.council asked key (subst (IsDue asked key) (beside_part old 0 o.caller o.open_call o.at_caller o.is_open) has.due) in
+    let due = due_in_council old.council asked key (subst (KeyIsDue asked key) (beside_part old 0 o.caller o.open_call o.at_caller o.is_open) has.due) in
     record {
       marks = e.marks ++ ended ∷ [];
       makes = e.makes;
@@ -272,7 +272,7 @@ module _ {S V : Type 0} (old mid : View S V) (asked : Asked) (key : List ℕ) (t
   not_begun_stops new = stops_so IsPlanMark (λ p e. tt) 0 old mid new asked told (begins_not old mid asked key told has due begun)
 
 -- ---- by how it ended
-module _ {S V : Type 0} (call most : ℕ) (old mid : View S V) (asked : Asked) (key : List ℕ) (program : List Clause) (told : Answer) (has : HasRescan asked call key (own_part old 0)) (kept : IsKept old) (wanted : wanted_by 0 old.marks ≡ Some (wants call key program)) (ended : EndsIn 0 call most old mid told) where
+module _ {S V : Type 0} (call most : ℕ) (old mid : View S V) (asked : Asked) (key : List ℕ) (program : List Clause) (told : Answer) (has : HasRescan asked call key (own_part old 0)) (kept : IsKept old) (wanted : wanted_by 0 old.marks ≡ Some (wants call key program)) (ended : EndsMarked 0 call most old mid told) where
   pub ended_counted : is_done told ≡ true → OperatesIn IsPlanMark most old mid × HasPlan asked (own_part mid 0)
   ended_counted done = counted_on most old mid asked told (ends_rescan IsPlanMark call most old mid asked key program told (λ mark such. such) (done_no_conflict told done) has kept wanted ended) done
 

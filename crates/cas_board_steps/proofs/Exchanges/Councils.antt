@@ -9,7 +9,7 @@ use Rattle.cas_model.specs.Council.{MemberPlace, Question, Probe, NextKeys, NewA
 use Rattle.cas_model.specs.View.{View, CallView, CallerView, IsAt}
 use Rattle.cas_model.proofs.Places.{some_is}
 use Rattle.cas_board_steps.specs.OwnParts.{framed, open_part, caller_part, asked_part, due_part, question_part, asked_of, harms_part, order_part, exchange_part, plan_part, collection_part, council_part, own_part}
-use Rattle.cas_board_steps.specs.Calls.Open.{IsFree}
+use Rattle.cas_board_steps.specs.Calls.Open.{NothingIsOpen}
 use Rattle.cas_board_steps.specs.Exchanges.Orders.{new_order, HasOrder, HasProbe, HasHarms, WasAskedBehind}
 
 -- ---- lists in front of others
@@ -262,12 +262,12 @@ pub record IsIdle {S V : Type 0} (view : View S V) : Type 0 where
   pub exchange : view.council.exchange ≡ None
   pub collection : view.council.collection ≡ None
 
-pub free_idle : {S V : Type 0} (view : View S V) → IsFree (own_part view 0) → IsIdle view
+pub free_idle : {S V : Type 0} (view : View S V) → NothingIsOpen (own_part view 0) → IsIdle view
 free_idle view free =
     let it = none_beside view (with_plan free.plan) (free.is ∙ sym (append-nil (plan_part free.plan))) in
     record { no_call = it.no_call; order = no_order view.council.order it.like.order; exchange = no_exchange view.council.exchange it.like.exchange; collection = no_collection view.council.collection it.like.collection }
 
-pub idle_free : {S V : Type 0} (view : View S V) → IsIdle view → IsFree (own_part view 0)
+pub idle_free : {S V : Type 0} (view : View S V) → IsIdle view → NothingIsOpen (own_part view 0)
 idle_free view idle = record {
   plan = view.council.plan;
   is = own_is_council view idle.no_call ∙ parts view.council.order view.council.exchange view.council.plan view.council.collection idle.order idle.exchange idle.collection;

@@ -30,11 +30,11 @@ use Rattle.cas_world.specs.Calls.Beginning.{HasNoCall}
 use Rattle.cas_world.specs.Exchanges.Exchange as world
 use Rattle.cas_world.specs.declared.exchange.Exchange.{Exchange}
 use Rattle.cas_world.specs.declared.exchange.Exchange.TheVariants as exchange
-use Rattle.cas_world.specs.Exchanges.Exchange.{MayAsk, MayAskThis, asking_of, MayGather, HasGathered, WasToldOrder, asks_as, place_of, turn_of, refusal_of, gathering_by, gathering_of}
+use Rattle.cas_world.specs.Exchanges.Exchange.{MayAskMembers, MayAskThis, asking_of, MayGather, HasGathered, WasToldOrder, asks_as, place_of, turn_of, refusal_of, gathering_by, gathering_of}
 use Rattle.cas_world.specs.Eras.Plans.{rescanned_of}
 use Rattle.cas_board_steps.specs.Calls.Deeds.{harm_by}
 use Rattle.cas_board_steps.specs.Kept.{IsKept, Makes}
-use Rattle.cas_board_steps.specs.Calls.Open.{IsFree}
+use Rattle.cas_board_steps.specs.Calls.Open.{NothingIsOpen}
 use Rattle.cas_board_steps.specs.Exchanges.Orders.{new_order, HasOrder, HasProbe, HasHarms, WasAskedBehind, OperatesIn, IsToldIn, IsAskingHarm, IsProbeAnswer, IsSilentAtMost, IsTrueProbe, AreAllConfirmers, MarksHarms, named_in}
 use Rattle.cas_board_steps.specs.OwnParts.{asked_of, harms_part, own_part}
 use Rattle.cas_model_causes.specs.Exchanges.Answering.{silent_in, tellers_of, IsHearing}
@@ -58,7 +58,7 @@ use Rattle.cas_board_steps.proofs.Calls.Stages.{some_waits, none_waits}
 use Rattle.cas_board_steps.proofs.Exchanges.Operating.{Leaves, leaves_desks, leaves_others, none_then, silently, operates, tells_in, TurnsAsking, turns_asking, refuses_asking, refusal_planned, says_same, turns_planned, was_told_so}
 
 -- ---- its order
-pub order_held : {S V : Type 0} (old new : View S V) (asked : Asked) → IsFree (own_part old 0) → IsKept old → StepOrder old asked new → Held old new (Makes 0 old new [] × HasOrder asked (own_part new 0))
+pub order_held : {S V : Type 0} (old new : View S V) (asked : Asked) → NothingIsOpen (own_part old 0) → IsKept old → StepOrder old asked new → Held old new (Makes 0 old new [] × HasOrder asked (own_part new 0))
 order_held {S} {V} old new asked free kept by =
     let idle = free_idle old free in
     let leaves : Leaves old new [] = leaves_desks old _ new [] by.view refl refl refl (sym (append-nil old.marks)) in
@@ -78,17 +78,17 @@ order_held {S} {V} old new asked free kept by =
     }
 
 -- it is refused, or no memory was found for it
-pub unordered : {S V : Type 0} (old new : View S V) → new ≡ old → IsFree (own_part old 0) → IsKept old → Held old new (Makes 0 old new [])
+pub unordered : {S V : Type 0} (old new : View S V) → new ≡ old → NothingIsOpen (own_part old 0) → IsKept old → Held old new (Makes 0 old new [])
 unordered old new same free kept = silently old new (leaves_desks old old new [] same refl refl refl (sym (append-nil old.marks))) kept (free_idle old free).no_call
 
-pub free_still : {S V : Type 0} (old new : View S V) → new ≡ old → IsFree (own_part old 0) → IsFree (own_part new 0)
-free_still {S} {V} old new same free = subst (λ (w : View S V). IsFree (own_part w 0)) (sym same) free
+pub free_still : {S V : Type 0} (old new : View S V) → new ≡ old → NothingIsOpen (own_part old 0) → NothingIsOpen (own_part new 0)
+free_still {S} {V} old new same free = subst (λ (w : View S V). NothingIsOpen (own_part w 0)) (sym same) free
 
 -- ---- its question
 pub no_call_at : {S V : Type 0} (view : View S V) → IsKept view → ((caller : CallerView) → IsAt view.callers 0 caller → caller.call ≡ None) → HasNoCall view 0
 no_call_at view kept none = let there = at_low view.callers 0 (let long = kept.places.callers in omega (arith, long)) in record { caller = there.0; at_caller = there.1; none_open = none there.0 there.1 }
 
-pub may_probe : {S V : Type 0} (view : View S V) (key : List ℕ) → IsKept view → HasOrder (asked.Probe key) (own_part view 0) → MayAsk view (Probe key)
+pub may_probe : {S V : Type 0} (view : View S V) (key : List ℕ) → IsKept view → HasOrder (asked.Probe key) (own_part view 0) → MayAskMembers view (Probe key)
 may_probe view key kept has =
     let is = is_ordered view (asked.Probe key) has in
     record { order = new_order (asked.Probe key); is_open = is.order; is_for = refl; none_open = is.exchange; idle = no_call_at view kept is.no_call }

@@ -5,7 +5,7 @@ use Rattle.cas_model.specs.Calls.Step.{one_more}
 use Rattle.cas_board_steps.specs.OwnParts.{call_part, plan_part, council_part}
 
 -- nothing is open, but a change of membership may be
-pub record IsFree (own : List ℕ) : Type 0 where
+pub record NothingIsOpen (own : List ℕ) : Type 0 where
   pub plan : Option PlanView
   pub is : own ≡ plan_part plan
 

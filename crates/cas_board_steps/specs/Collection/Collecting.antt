@@ -54,7 +54,7 @@ most_rounds zero = 1
 most_rounds (suc n) = suc n
 
 -- that call has had so many rounds of those that it may have, and behind a conflict there is another
-pub record IsWithin (tries rounds : ℕ) (own : List ℕ) : Type 0 where
+pub record HasRoundsWithin (tries rounds : ℕ) (own : List ℕ) : Type 0 where
   pub counted : rounds_in own ≡ rounds
   pub some : 1 ≤ rounds
   pub within : rounds ≤ tries
@@ -79,7 +79,7 @@ pub record HasQuestion (key : List ℕ) (due : CollectStep) (own : List ℕ) : T
 -- the collection of the key has come so far, whose call may have so many rounds
 abbrev pub HasCourse : List ℕ → ℕ → Course → List ℕ → List Mark → Type 0
 HasCourse key tries course.Ordered own marks = HasOrder (asked.Collect key) own
-HasCourse key tries (course.Buries call rounds) own marks = HasBurial key call own marks × IsWithin tries rounds own
+HasCourse key tries (course.Buries call rounds) own marks = HasBurial key call own marks × HasRoundsWithin tries rounds own
 HasCourse key tries course.Buried own marks = HasStep key step.Round own
 HasCourse key tries course.Renews own marks = HasStep key step.Ages own ⊎ ((proposer : ℕ) × HasStep key (step.Renew proposer) own)
 HasCourse key tries course.HearsAges own marks = HasQuestion key step.Ages own

@@ -48,14 +48,14 @@ pub record HasListing (asked : Asked) (own : List ℕ) : Type 0 where
   pub is_for : plan.asked ≡ asked
 
 -- this key is due
-pub record IsDue (asked : Asked) (key own : List ℕ) : Type 0 where
+pub record KeyIsDue (asked : Asked) (key own : List ℕ) : Type 0 where
   pub has_plan : HasPlan asked own
   pub due : due_key has_plan.plan ≡ Some key
 
 -- and caller 0's call of that number proposes it anew
 pub record HasRescan (asked : Asked) (call : ℕ) (key own : List ℕ) : Type 0 where
   pub called : HasOpen call own
-  pub due : IsDue asked key (beside_in own)
+  pub due : KeyIsDue asked key (beside_in own)
 
 -- ---- its rounds
 -- it has had one round, which no conflict has ended
@@ -115,6 +115,6 @@ IsRescannedTo what call key own (rescanning.Goes stage) = HasRescan what call ke
 IsRescannedTo what call key own rescanning.Counted = HasPlan what own
 
 -- while it is open its rounds are kept so
-abbrev pub HasRounds : Bool → List ℕ → List ℕ → Rescanning → Type 0
-HasRounds may_repeat was own (rescanning.Goes stage) = KeepsRounds may_repeat was own stage
-HasRounds may_repeat was own rescanning.Counted = ⊤
+abbrev pub RoundsAreKept : Bool → List ℕ → List ℕ → Rescanning → Type 0
+RoundsAreKept may_repeat was own (rescanning.Goes stage) = KeepsRounds may_repeat was own stage
+RoundsAreKept may_repeat was own rescanning.Counted = ⊤

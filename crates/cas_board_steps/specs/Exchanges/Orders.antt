@@ -19,7 +19,7 @@ use Rattle.cas_world.specs.Eras.Plans.{rescanned_of}
 use Rattle.cas_board_steps.specs.Eras.Counting.{CountsTo, EntersEras, TellsCount}
 use Rattle.cas_board_steps.specs.Kept.{Makes}
 use Rattle.cas_board_steps.specs.Mine.{mine, losses}
-use Rattle.cas_board_steps.specs.Calls.Open.{IsFree}
+use Rattle.cas_board_steps.specs.Calls.Open.{NothingIsOpen}
 use Rattle.cas_board_steps.specs.OwnParts.{asked_of, harms_part, council_part, own_part}
 use Rattle.cas_model_causes.specs.Exchanges.Answering.{silent_in}
 use Rattle.cas_model_causes.specs.Exchanges.Confirmed.{era_marked}
@@ -82,7 +82,7 @@ pub record IsToldIn {S V : Type 0} (asked : Asked) (such : Mark → Type 0) (mos
   pub makes : Makes 0 old new (marks ++ told_marks asked answer)
   pub all_such : All such (mine 0 marks)
   pub few : losses (mine 0 marks) ≤ most
-  pub is_free : IsFree (own_part new 0)
+  pub is_free : NothingIsOpen (own_part new 0)
   pub counts : EntersEras such → TellsCount answer old new
   pub keeps : (EntersEras such → ⊥) → rescanned_of new.council.plan ≡ rescanned_of old.council.plan
 

@@ -18,9 +18,9 @@ use Rattle.cas_model.specs.Collection.Logged.{AsksAboveFor}
 use Rattle.cas_model.specs.Council.{ListingView, Question, Probe, NextKeys, NewAges, Removal, PlanView}
 use Rattle.cas_model.specs.Eras.Listed.{IsPlanTrue}
 use Rattle.cas_model.specs.Exchanges.Step.{question_to, HasTag, WhereDrawn}
-use Rattle.cas_model.specs.Calls.Desks.{GoesOn, HasKept}
+use Rattle.cas_model.specs.Calls.Desks.{VaultGoesOn, HasKept}
 use Rattle.cas_proposer.specs.Desk.{DeskView}
-use Rattle.cas_model.specs.Parties.{IsMessageTrue, AreMessagesTrue, IsAged, IsVaultTrue, AreReady, IsInHand, IsCallerTrue}
+use Rattle.cas_model.specs.Parties.{IsMessageTrue, AreMessagesTrue, IsAged, IsVaultTrue, ArePromisesHeld, IsInHand, IsCallerTrue}
 use Rattle.cas_protocol.specs.Protocol.{IsEndedAsk, Made, GlobalState, IsMadeAsk, IsAskable, Asks}
 use Rattle.cas_model.specs.View.{DiskMeaning, Meaning, View, CallerView}
 use Rattle.cas_model.proofs.Around.{Around, around_more}
@@ -89,9 +89,9 @@ asked_hand f tos log id era key ballot = asked_all f (λ l. IsInHand l id era ke
 -- promises stay where none of the requests is to accept what they rode on
 pub asked_ready : (cluster : Cluster) (f : ℕ → Request) (tos : List ℕ) (log : List Happening) (all : List Made) (id era : ℕ) (cache : List (List ℕ × Ready))
     → ((to : ℕ) (key : List ℕ) (ready : Ready) → Contains cache (key, ready) → AsksToRide (Asked (f to)) key ready.read ready.ballot)
-    → AreReady cluster log all id era cache → AreReady cluster (asked_log f tos log) all id era cache
+    → ArePromisesHeld cluster log all id era cache → ArePromisesHeld cluster (asked_log f tos log) all id era cache
 asked_ready cluster f tos log all id era cache rides =
-    asked_all f (λ l. AreReady cluster l all id era cache)
+    asked_all f (λ l. ArePromisesHeld cluster l all id era cache)
     (λ to l were key ready has_it. ready_still cluster (Asked (f to)) l all (asked_not (f to) key ready.ballot) (asked_none (f to)) (rides to key ready has_it) (were key ready has_it)) tos log
 
 -- ---- that they may be made
@@ -164,6 +164,6 @@ where_drawn (Some listing) is = absurd is
 pub goes_same : {V : Type 0} (m : DiskMeaning V) (vault : Vault V) → HasKept m vault vault
 goes_same m vault = record { shows = record { counter = refl; kept = refl }; goes_on = record { still_past = λ tells n past. past; ages = λ tells age is. is; era = λ tells era other is. is; never_falls = omega arith } }
 
-pub tag_goes_on : {V : Type 0} (m : DiskMeaning V) (listing : Option ListingView) (desk now : DeskView V) (tag : Ballot) → HasTag m listing desk now tag → GoesOn m desk.vault now.vault
+pub tag_goes_on : {V : Type 0} (m : DiskMeaning V) (listing : Option ListingView) (desk now : DeskView V) (tag : Ballot) → HasTag m listing desk now tag → VaultGoesOn m desk.vault now.vault
 tag_goes_on m None desk now tag drawn = drawn.goes_on
-tag_goes_on {V} m (Some listing) desk now tag (same_tag, same_vault) = subst (λ (v : Vault V). GoesOn m desk.vault v) (sym same_vault) (goes_same m desk.vault).goes_on
+tag_goes_on {V} m (Some listing) desk now tag (same_tag, same_vault) = subst (λ (v : Vault V). VaultGoesOn m desk.vault v) (sym same_vault) (goes_same m desk.vault).goes_on

@@ -23,7 +23,7 @@ use Rattle.cas_slot.specs.declared.message.Request.{Request}
 use Rattle.cas_vault.specs.Vault.{kept_of}
 use Rattle.cas_record.specs.Logs.Happening.{Happening, Asked}
 use Rattle.cas_record.specs.Logs.Lawful.{Cluster}
-use Rattle.cas_model.specs.Parties.{AreMessagesTrue, IsEraOf, AreReady, HaveOneEach, HasNone, IsInHand, IsOfPhase, waits, IsPhaseHeard, IsRoundTrue, IsOpenTrue, IsDeskTrue, asked_in}
+use Rattle.cas_model.specs.Parties.{AreMessagesTrue, IsEraOf, ArePromisesHeld, HaveOneEach, HasNone, IsInHand, IsOfPhase, waits, IsPhaseHeard, IsRoundTrue, IsOpenTrue, IsDeskTrue, asked_in}
 use Rattle.cas_protocol.specs.Protocol.{GlobalState}
 use Rattle.cas_model.specs.Calls.Step.{Sends, prepares_to}
 use Rattle.cas_model.specs.Calls.Desks.{BeginsToPrepare, HasDrawn}
@@ -156,7 +156,7 @@ begins_to_prepare {S} {V} m cluster global old id caller call desk now ballot ro
       same_id = ap (λ (d : DeskView V). d.id) begins.desk ∙ of.same_id;
       known = of.known;
       vault = asked_vault m f (era_at old id).prep middle.log id era now.vault (λ to. begins.aged tells) (drew_vault m global.log id era call.key desk.vault now.vault (Some ballot) tells drawn of.vault);
-      cached = subst (AreReady cluster log global.made id era) (sym (ap (λ (d : DeskView V). d.cache) begins.desk))
+      cached = subst (ArePromisesHeld cluster log global.made id era) (sym (ap (λ (d : DeskView V). d.cache) begins.desk))
           (ready_fewer cluster log global.made id era (without call.key desk.cache) desk.cache (λ entry h. contains_without call.key desk.cache h)
           (asked_ready cluster f (era_at old id).prep middle.log global.made id era desk.cache (λ to k ready has_it request e asked state now is. absurd (not_accept now is))
           (drew_ready cluster global.log global.made id era desk.cache call.key (Some ballot) of.cached)));

@@ -14,7 +14,7 @@ use Rattle.cas_round.proofs.Lists.{Has, has, contains}
 use Rattle.cas_record.proofs.Tests.{key_same, key_is}
 use Rattle.cas_record.specs.Logs.Happening.{Happening}
 use Rattle.cas_record.specs.Logs.Lawful.{Cluster}
-use Rattle.cas_model.specs.Parties.{AreReady, HaveOneEach}
+use Rattle.cas_model.specs.Parties.{ArePromisesHeld, HaveOneEach}
 use Rattle.cas_protocol.specs.Protocol.{Made}
 use Rattle.cas_model.proofs.Places.{some_is, contains_none, contains_take, newest_or_older}
 
@@ -61,7 +61,7 @@ kept_or_held round (Some ready) cache entry c = elim (true_or_false (may_keep ro
 
 -- what was held is held where the cache has no more
 pub ready_fewer : (cluster : Cluster) (log : List Happening) (all : List Made) (id era : ℕ) (fewer cache : List (List ℕ × Ready)) → ((entry : List ℕ × Ready) → Contains fewer entry → Contains cache entry)
-    → AreReady cluster log all id era cache → AreReady cluster log all id era fewer
+    → ArePromisesHeld cluster log all id era cache → ArePromisesHeld cluster log all id era fewer
 ready_fewer cluster log all id era fewer cache within were key ready h = were key ready (within (key, ready) h)
 
 -- ---- one promise each

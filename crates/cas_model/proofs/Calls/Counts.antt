@@ -28,7 +28,7 @@ use Rattle.cas_record.specs.Legal.{IsBegun, IsEnded, IsAcked}
 use Rattle.cas_record.specs.Places.{here}
 use Rattle.cas_record.proofs.PlaceLemmas.{newest_or}
 use Rattle.cas_record.proofs.Logs.Lemmas.{mark_at}
-use Rattle.cas_model.specs.Parties.{AreMessagesTrue, IsEraOf, AreReady, IsHeldReady, HaveOneEach, IsAcceptTrue, IsDeskTrue, IsDoneTrue, IsToldTrue, IsCallTrue, AreEnded, IsCallerTrue}
+use Rattle.cas_model.specs.Parties.{AreMessagesTrue, IsEraOf, ArePromisesHeld, IsHeldReady, HaveOneEach, IsAcceptTrue, IsDeskTrue, IsDoneTrue, IsToldTrue, IsCallTrue, AreEnded, IsCallerTrue}
 use Rattle.cas_protocol.specs.Protocol.{Made, GlobalState, HasHistory, Counts, EndsDone, EndsElse, with_mark}
 use Rattle.cas_model.specs.Calls.Step.{offered_by, over, with_call}
 use Rattle.cas_model.specs.Calls.Desks.{EndsRound}
@@ -137,7 +137,7 @@ counts {S} {V} m cluster global old id caller call desk now round outcome by tel
       acked = record { acknowledgment = a; stands = record { older = marks_of global.log; at = here }; same_key = sym accept.same_key; same_ballot = refl };
     }
 
-    held_ready : AreReady cluster global.log global.made id (era_at old id).number (cache_after round (offered_by round round.ride outcome.state by) desk.cache)
+    held_ready : ArePromisesHeld cluster global.log global.made id (era_at old id).number (cache_after round (offered_by round round.ride outcome.state by) desk.cache)
     held_ready key ready has_it = by_case (kept_or_held round (offered_by round round.ride outcome.state by) desk.cache (key, ready) has_it)
       where
         by_case : IsKeptOr round (offered_by round round.ride outcome.state by) desk.cache (key, ready) → IsHeldReady cluster global.log global.made id (era_at old id).number key ready
@@ -156,7 +156,7 @@ counts {S} {V} m cluster global old id caller call desk now round outcome by tel
       known = of.known;
       vault = vault_still m h global.log (λ b k e same x. absurd (cc same)) (λ e same. absurd (cc same)) (λ k f s same. absurd (cc same)) (λ request same own. absurd (cc same)) (vault_goes_on m global.log id (era_at old id).number tells ends.goes_on of.vault);
       cached = ready_mild cluster h global.log global.made id (era_at old id).number now.cache (acked_mild a)
-          (subst (AreReady cluster global.log global.made id (era_at old id).number) (sym (ap (λ (d : DeskView V). d.cache) ends.desk)) held_ready);
+          (subst (ArePromisesHeld cluster global.log global.made id (era_at old id).number) (sym (ap (λ (d : DeskView V). d.cache) ends.desk)) held_ready);
       one_each = subst HaveOneEach (sym (ap (λ (d : DeskView V). d.cache) ends.desk)) (one_after round (offered_by round round.ride outcome.state by) desk.cache of.one_each);
       none_open = ap (λ (d : DeskView V). d.round) ends.desk;
     }

@@ -14,9 +14,9 @@ use Rattle.cas_record.specs.Logs.Orderly.{IsAboveFloors}
 use Rattle.cas_record.specs.Places.{here}
 use Rattle.cas_record.proofs.PlaceLemmas.{newest_or}
 use Rattle.cas_protocol.specs.Desks.{IsPastAll}
-use Rattle.cas_model.specs.Parties.{AreMessagesTrue, WereMade, IsAged, IsVaultTrue, AreReady, IsInHand, IsCallerTrue}
+use Rattle.cas_model.specs.Parties.{AreMessagesTrue, WereMade, IsAged, IsVaultTrue, ArePromisesHeld, IsInHand, IsCallerTrue}
 use Rattle.cas_protocol.specs.Protocol.{Made, GlobalState, HasHistory, Draws as DrawsEvent}
-use Rattle.cas_model.specs.Calls.Desks.{GoesOn, HasDrawn, MayHaveDrawn}
+use Rattle.cas_model.specs.Calls.Desks.{VaultGoesOn, HasDrawn, MayHaveDrawn}
 use Rattle.cas_model.specs.View.{DiskMeaning, Meaning, View, CallerView, era_at}
 use Rattle.cas_model.proofs.Around.{Around, around_more}
 use Rattle.cas_protocol.proofs.Events.{keeps}
@@ -30,10 +30,10 @@ pub record Lasts {V : Type 0} (m : DiskMeaning V) (old new : Vault V) : Type 0 w
   pub still_past : (n : ℕ) → IsPast m.may_leave n old → IsPast m.may_leave n new
   pub ages : (age : ℕ) → IsAged m age old → IsAged m age new
 
-pub lasts : {V : Type 0} {m : DiskMeaning V} {old new : Vault V} → m.tells → GoesOn m old new → Lasts m old new
+pub lasts : {V : Type 0} {m : DiskMeaning V} {old new : Vault V} → m.tells → VaultGoesOn m old new → Lasts m old new
 lasts tells on = record { still_past = on.still_past tells; ages = on.ages tells }
 
-pub vault_goes_on : {S V : Type 0} (m : Meaning S V) (log : List Happening) (id era : ℕ) {old new : Vault V} → m.disks.tells → GoesOn m.disks old new → IsVaultTrue m log id era old → IsVaultTrue m log id era new
+pub vault_goes_on : {S V : Type 0} (m : Meaning S V) (log : List Happening) (id era : ℕ) {old new : Vault V} → m.disks.tells → VaultGoesOn m.disks old new → IsVaultTrue m log id era old → IsVaultTrue m log id era new
 vault_goes_on m log id era tells on was = record {
   past = λ ballot key e stands own. on.still_past tells ballot.counter (was.past ballot key e stands own);
   past_floors = λ key floor has. on.still_past tells floor.counter (was.past_floors key floor has);
@@ -98,7 +98,7 @@ drew_calls : (ballot : Ballot) (key : List ℕ) (era id : ℕ) → LeavesCalls (
 drew_calls ballot key era id = record { begins = λ n k p now. absurd (cc now); ends = λ n r a now. absurd (cc now); proposes = λ p now. absurd (cc now) }
 
 pub drew_ready : (cluster : Cluster) (log : List Happening) (all : List Made) (id era : ℕ) (cache : List (List ℕ × Ready)) (key : List ℕ) (ballot : Option Ballot)
-    → AreReady cluster log all id era cache → AreReady cluster (drew_log ballot key era log) all id era cache
+    → ArePromisesHeld cluster log all id era cache → ArePromisesHeld cluster (drew_log ballot key era log) all id era cache
 drew_ready cluster log all id era cache key None were = λ k ready has. were k ready has
 drew_ready cluster log all id era cache key (Some ballot) were = λ k ready has. ready_still cluster (Drew ballot key era) log all (drew_not k ready.ballot) drew_none (drew_asks k ready.read ready.ballot) (were k ready has)
 

@@ -26,10 +26,10 @@ use Rattle.cas_record.specs.Logs.Happening.{Happening, marks_of}
 use Rattle.cas_record.specs.Logs.Lawful.{Cluster}
 use Rattle.cas_record.specs.Legal.{IsProposed, harms_of}
 use Rattle.cas_record.specs.Logs.Orderly.{Orderly}
-use Rattle.cas_model.specs.Parties.{AreMessagesTrue, IsEraOf, IsVaultTrue, AreReady, HaveOneEach, HasNone, IsPrepareTrue, IsAcceptTrue, IsOpenTrue, IsDeskTrue, IsToldTrue, IsCallTrue, IsCallerTrue, asked_in}
+use Rattle.cas_model.specs.Parties.{AreMessagesTrue, IsEraOf, IsVaultTrue, ArePromisesHeld, HaveOneEach, HasNone, IsPrepareTrue, IsAcceptTrue, IsOpenTrue, IsDeskTrue, IsToldTrue, IsCallTrue, IsCallerTrue, asked_in}
 use Rattle.cas_protocol.specs.Protocol.{Made, GlobalState}
 use Rattle.cas_model.specs.Calls.Step.{IsNoBeginning, over, with_call, refusal_by, cause_by}
-use Rattle.cas_model.specs.Calls.Desks.{GoesOn, MayHaveDrawn, EndsRound, FailsToDraw, LosesMemory}
+use Rattle.cas_model.specs.Calls.Desks.{VaultGoesOn, MayHaveDrawn, EndsRound, FailsToDraw, LosesMemory}
 use Rattle.cas_model.specs.View.{Meaning, View, CallView, CallerView, IsAt, with_desk, era_at}
 use Rattle.cas_model.proofs.Around.{Whole, Around, around, settles, leaves_both, leaves_desk}
 use Rattle.cas_model.proofs.Calls.Caches.{contains_without, ready_fewer, one_without}
@@ -120,7 +120,7 @@ pub record IsQuiet {S V : Type 0} (m : Meaning S V) (cluster : Cluster) (log : L
   pub same_id : desk.id ≡ id
   pub known : id ≤ cluster.last_proposer
   pub vault : IsVaultTrue m log id era desk.vault
-  pub cached : AreReady cluster log all id era desk.cache
+  pub cached : ArePromisesHeld cluster log all id era desk.cache
   pub one_each : HaveOneEach desk.cache
   pub none_open : desk.round ≡ None
 
@@ -138,10 +138,10 @@ quiet_true m cluster log all id era caller waiting desk none is = record {
 
 -- the cache has no more than it had
 same_or_without : {S V : Type 0} (m : Meaning S V) (cluster : Cluster) (log : List Happening) (all : List Made) (id era : ℕ) (key : List ℕ) (old new : List (List ℕ × Ready)) → (new ≡ old) ⊎ (new ≡ without key old)
-    → AreReady cluster log all id era old → HaveOneEach old → AreReady cluster log all id era new × HaveOneEach new
-same_or_without m cluster log all id era key old new (inl same) were one = (subst (AreReady cluster log all id era) (sym same) were, subst HaveOneEach (sym same) one)
+    → ArePromisesHeld cluster log all id era old → HaveOneEach old → ArePromisesHeld cluster log all id era new × HaveOneEach new
+same_or_without m cluster log all id era key old new (inl same) were one = (subst (ArePromisesHeld cluster log all id era) (sym same) were, subst HaveOneEach (sym same) one)
 same_or_without m cluster log all id era key old new (inr fewer) were one =
-    (subst (AreReady cluster log all id era) (sym fewer) (ready_fewer cluster log all id era (without key old) old (λ entry h. contains_without key old h) were), subst HaveOneEach (sym fewer) (one_without key old one))
+    (subst (ArePromisesHeld cluster log all id era) (sym fewer) (ready_fewer cluster log all id era (without key old) old (λ entry h. contains_without key old h) were), subst HaveOneEach (sym fewer) (one_without key old one))
 
 pub quiet_fails : {S V : Type 0} (m : Meaning S V) (cluster : Cluster) (log : List Happening) (all : List Made) (id era : ℕ) (caller : CallerView) (waiting : List Message) (key : List ℕ) (desk now : DeskView V) → m.disks.tells
     → IsDeskTrue m cluster log all era id caller waiting desk → FailsToDraw m.disks key desk now → IsQuiet m cluster log all id era now
@@ -240,7 +240,7 @@ told_ends m cluster global old id caller call desk now round told tells at_calle
 
 -- the desk stays as it was, but for what its vault does not show
 pub told_kept : {S V : Type 0} (m : Meaning S V) (cluster : Cluster) (global : GlobalState) (old : View S V) (id : ℕ) (caller : CallerView) (call : CallView) (desk now : DeskView V) (told : Answer) → m.disks.tells
-    → IsAt old.callers id caller → caller.call ≡ Some call → IsAt old.desks id desk → desk.round ≡ None → GoesOn m.disks desk.vault now.vault → now ≡ record desk { vault = now.vault } → IsToldTrue global.log global.made id caller.number told
+    → IsAt old.callers id caller → caller.call ≡ Some call → IsAt old.desks id desk → desk.round ≡ None → VaultGoesOn m.disks desk.vault now.vault → now ≡ record desk { vault = now.vault } → IsToldTrue global.log global.made id caller.number told
     → Whole m cluster global old → Whole m cluster global (with_call (with_desk old id now) id caller (over call told))
 told_kept {S} {V} m cluster global old id caller call desk now told tells at_caller is_open at_desk idle on is_now is whole =
     let was = whole.parties.callers id tt caller at_caller in
@@ -251,7 +251,7 @@ told_kept {S} {V} m cluster global old id caller call desk now told tells at_cal
       same_id = ap (λ (d : DeskView V). d.id) is_now ∙ of.same_id;
       known = of.known;
       vault = vault_goes_on m global.log id (era_at old id).number tells on of.vault;
-      cached = subst (AreReady cluster global.log global.made id (era_at old id).number) (sym (ap (λ (d : DeskView V). d.cache) is_now)) of.cached;
+      cached = subst (ArePromisesHeld cluster global.log global.made id (era_at old id).number) (sym (ap (λ (d : DeskView V). d.cache) is_now)) of.cached;
       one_each = subst HaveOneEach (sym (ap (λ (d : DeskView V). d.cache) is_now)) of.one_each;
       none_open = ap (λ (d : DeskView V). d.round) is_now ∙ idle;
     })

@@ -34,7 +34,7 @@ use Rattle.cas_record.specs.Places.{here}
 use Rattle.cas_record.proofs.Logs.Lemmas.{part_of}
 use Rattle.cas_record.proofs.Logs.Orders.{reason}
 use Rattle.cas_record.proofs.PlaceLemmas.{newest_or, stands_part}
-use Rattle.cas_model.specs.Parties.{AreMessagesTrue, IsEraOf, IsAged, IsVaultTrue, AreReady, HaveOneEach, HasNone, IsInHand, IsOfPhase, waits, IsPhaseHeard, IsRideTrue, IsRoundTrue, IsOpenTrue, IsDeskTrue, IsCallTrue, IsCallerTrue, asked_in}
+use Rattle.cas_model.specs.Parties.{AreMessagesTrue, IsEraOf, IsAged, IsVaultTrue, ArePromisesHeld, HaveOneEach, HasNone, IsInHand, IsOfPhase, waits, IsPhaseHeard, IsRideTrue, IsRoundTrue, IsOpenTrue, IsDeskTrue, IsCallTrue, IsCallerTrue, asked_in}
 use Rattle.cas_protocol.specs.Proposers.{AllRide}
 use Rattle.cas_protocol.specs.Protocol.{Made, GlobalState, HasHistory, IsAskable, with_proposal}
 use Rattle.cas_model.specs.Calls.Step.{Sends, accepts_to, proposal_of, proposing, proposed_view}
@@ -126,7 +126,7 @@ pub record IsReadyToPropose {S V : Type 0} (m : Meaning S V) (cluster : Cluster)
   pub same_id : now.id ≡ id
   pub vault : IsVaultTrue m global.log id (era_at old id).number now.vault
   pub aged : IsAged m.disks age now.vault
-  pub cached : AreReady cluster global.log global.made id (era_at old id).number now.cache
+  pub cached : ArePromisesHeld cluster global.log global.made id (era_at old id).number now.cache
   pub one_each : HaveOneEach now.cache
   pub none_open : HasNone (Some round) now.cache
   pub is_round : now.round ≡ Some round

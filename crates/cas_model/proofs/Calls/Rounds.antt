@@ -27,7 +27,7 @@ use Rattle.cas_record.specs.declared.mark.Proposal.{Proposal}
 use Rattle.cas_record.specs.Logs.Happening.{Happening, Entered, marks_of}
 use Rattle.cas_record.specs.Logs.Lawful.{Cluster}
 use Rattle.cas_record.specs.Places.{Stands}
-use Rattle.cas_model.specs.Parties.{WereMade, IsEraOf, IsAged, IsVaultTrue, AreReady, IsHeldReady, HaveOneEach, HasNone, IsInHand, IsPrepareTrue, IsOpenTrue, IsDeskTrue, IsCallerTrue}
+use Rattle.cas_model.specs.Parties.{WereMade, IsEraOf, IsAged, IsVaultTrue, ArePromisesHeld, IsHeldReady, HaveOneEach, HasNone, IsInHand, IsPrepareTrue, IsOpenTrue, IsDeskTrue, IsCallerTrue}
 use Rattle.cas_protocol.specs.Proposers.{IsOpenRound, state_read}
 use Rattle.cas_protocol.specs.Protocol.{Made, GlobalState, HasHistory, AllReplied, Proposes, ProposesByRide, with_proposal}
 use Rattle.cas_model.specs.Calls.Step.{Sends, accepts_to, proposal_of, proposed_view}
@@ -154,7 +154,7 @@ begins_by_promise {S} {V} m cluster global old id caller call desk now ready rid
       same_id = ap (λ (d : DeskView V). d.id) begins.desk ∙ of.same_id;
       vault = vault;
       aged = begins.aged tells;
-      cached = subst (AreReady cluster before.log before.made id era) (sym (ap (λ (d : DeskView V). d.cache) begins.desk))
+      cached = subst (ArePromisesHeld cluster before.log before.made id era) (sym (ap (λ (d : DeskView V). d.cache) begins.desk))
           (ready_fewer cluster before.log before.made id era (without call.key desk.cache) desk.cache (λ entry h. contains_without call.key desk.cache h) (drew_ready cluster global.log global.made id era desk.cache call.key ride of.cached));
       one_each = subst (λ (d : DeskView V). HaveOneEach d.cache) (sym begins.desk) (one_without call.key desk.cache of.one_each);
       none_open = subst (λ (d : DeskView V). HasNone (Some (record round { ride = ride })) d.cache) (sym begins.desk)
@@ -256,7 +256,7 @@ proposes_round {S} {V} m cluster global old id caller call desk now round phase_
       same_id = ap (λ (d : DeskView V). d.id) is_now ∙ of.same_id;
       vault = vault;
       aged = aged;
-      cached = subst (AreReady cluster before.log before.made id era) (sym (ap (λ (d : DeskView V). d.cache) is_now)) (drew_ready cluster global.log global.made id era desk.cache round.key ride of.cached);
+      cached = subst (ArePromisesHeld cluster before.log before.made id era) (sym (ap (λ (d : DeskView V). d.cache) is_now)) (drew_ready cluster global.log global.made id era desk.cache round.key ride of.cached);
       one_each = subst (λ (d : DeskView V). HaveOneEach d.cache) (sym is_now) of.one_each;
       none_open = subst (λ (d : DeskView V). HasNone (Some final) d.cache) (sym is_now) (subst (λ (r : Option Round). HasNone r desk.cache) is_round of.none_open);
       is_round = ap (λ (d : DeskView V). d.round) is_now;

@@ -23,7 +23,7 @@ use Rattle.cas_record.proofs.LegalLemmas.{counted, is_numbered}
 use Rattle.cas_record.proofs.PlaceLemmas.{newest_or, stands_deeper}
 use Rattle.cas_record.proofs.Tests.{nat_is}
 use Rattle.cas_model.specs.History.{IsLogged}
-use Rattle.cas_model.specs.Parties.{AreReady, IsOpenTrue, IsCallTrue, IsCallerTrue}
+use Rattle.cas_model.specs.Parties.{ArePromisesHeld, IsOpenTrue, IsCallTrue, IsCallerTrue}
 use Rattle.cas_protocol.specs.Protocol.{Made, GlobalState, Begins}
 use Rattle.cas_model.specs.Calls.Step.{round_marks, Opens, first, again, opened, tried_again, with_call}
 use Rattle.cas_model.specs.View.{Meaning, View, CallView, CallerView, IsAt, new_call, era_at}
@@ -52,7 +52,7 @@ IsMild h = ((key : List ℕ) (ballot : Ballot) → ProposesNot h key ballot) × 
 begun_mild : (id number : ℕ) (key : List ℕ) (program : List Clause) → IsMild (Marked (Begun id number key program))
 begun_mild id number key program = (λ k b p now. absurd (cc now), (λ k f s now. absurd (cc now), λ k b r request era asked state now. absurd (cc now)))
 
-pub ready_mild : (cluster : Cluster) (h : Happening) (log : List Happening) (all : List Made) (id era : ℕ) (cache : List (List ℕ × Ready)) → IsMild h → AreReady cluster log all id era cache → AreReady cluster (h ∷ log) all id era cache
+pub ready_mild : (cluster : Cluster) (h : Happening) (log : List Happening) (all : List Made) (id era : ℕ) (cache : List (List ℕ × Ready)) → IsMild h → ArePromisesHeld cluster log all id era cache → ArePromisesHeld cluster (h ∷ log) all id era cache
 ready_mild cluster h log all id era cache mild were key ready has = ready_still cluster h log all (mild.0 key ready.ballot) mild.1.0 (mild.1.1 key ready.read ready.ballot) (were key ready has)
 
 -- no acceptor was harmed

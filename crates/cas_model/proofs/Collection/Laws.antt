@@ -37,7 +37,7 @@ use Rattle.cas_slot.specs.declared.message.Tell.TheVariants as tell
 use Rattle.cas_slot.specs.declared.slot.Slot.{Slot}
 use Rattle.cas_quorum.specs.declared.era.Era.{Era}
 use Rattle.cas_protocol.specs.Acceptors.{IsAskState, IsEmptyAt, told_of}
-use Rattle.cas_model.specs.Collection.Laws.{IsUnderWay, waits, is_late, RequestsAreAged, IsRemovalDone, RemovalsAreDone, HasItsFloor, CollectedHaveFloors}
+use Rattle.cas_model.specs.Collection.Laws.{MessageIsUnderWay, waits, is_late, RequestsAreAged, IsRemovalDone, RemovalsAreDone, HasItsFloor, CollectedHaveFloors}
 use Rattle.cas_model.specs.Collection.Logged.{IsCollectionTrue, IsSoughtTrue, IsTombstoneTrue, is_after_floor, is_round}
 use Rattle.cas_model.specs.Collection.State.{CollectionView, confirmed_step, tomb_of}
 use Rattle.cas_model.specs.Council.{ExchangeView, Question, Removal}
@@ -70,7 +70,7 @@ requests_aged {S} {V} m shelves disks view key floor id acceptor request left sa
     stands : Stands (Asked request) log
     stands = by_place under
       where
-        by_place : IsUnderWay view (message.Request request) → Stands (Asked request) log
+        by_place : MessageIsUnderWay view (message.Request request) → Stands (Asked request) log
         by_place (waits place h) = is.followed.logged.agrees.own place (message.Request request) h
         by_place (is_late h) = is.followed.logged.agrees.late (message.Request request) h
 

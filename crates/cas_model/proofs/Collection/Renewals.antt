@@ -22,7 +22,7 @@ use Rattle.cas_model.specs.Step.{Event, Step, StepCount, StepEnd, StepCrashAccep
 use Rattle.cas_model.specs.Calls.Step as calls
 use Rattle.cas_model.specs.Calls.Step.{Rescans}
 use Rattle.cas_model.specs.Exchanges.Step as council
-use Rattle.cas_model.specs.Calls.Desks.{GoesOn, EndsRound, LosesMemory, FailsToDraw, Crashes, EntersEra, FailsToEnter}
+use Rattle.cas_model.specs.Calls.Desks.{VaultGoesOn, EndsRound, LosesMemory, FailsToDraw, Crashes, EntersEra, FailsToEnter}
 use Rattle.cas_model.specs.Frames.Step as frames
 use Rattle.cas_model.specs.Eras.Step as plans
 use Rattle.cas_model.specs.Stops.Step as stops
@@ -192,7 +192,7 @@ ask_renewed {S} {V} m old new question tells by were = in_case by.asks
     at : IsAt old.desks 0 by.desk
     at = by.may.at_desk
 
-    on : (now : DeskView V) → now ≡ record by.desk { vault = now.vault } → GoesOn m.disks by.desk.vault now.vault → KeepsAbove m.disks by.desk now
+    on : (now : DeskView V) → now ≡ record by.desk { vault = now.vault } → VaultGoesOn m.disks by.desk.vault now.vault → KeepsAbove m.disks by.desk now
     on now is_now goes = vault_above m.disks by.desk now (goes.still_past tells) (goes.ages tells) (ap (λ (d : DeskView V). d.round) is_now) (ap (λ (d : DeskView V). d.cache) is_now)
 
     in_case : council.AsksAll m old question by.desk new → AreRenewed m new

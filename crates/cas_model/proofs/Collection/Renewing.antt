@@ -23,7 +23,7 @@ use Rattle.cas_model.specs.Collection.Logged.{AsksAboveFor, IsRenewed}
 use Rattle.cas_model.specs.Collection.State.{CollectionView, tomb_of}
 use Rattle.cas_model.specs.Parties.{IsAged}
 use Rattle.cas_model.specs.Calls.Step.{offered_by}
-use Rattle.cas_model.specs.Calls.Desks.{GoesOn, HasDrawn, MayHaveDrawn, BeginsToPrepare, BeginsByPromise, TurnsWith, HearsReply, EndsRound}
+use Rattle.cas_model.specs.Calls.Desks.{VaultGoesOn, HasDrawn, MayHaveDrawn, BeginsToPrepare, BeginsByPromise, TurnsWith, HearsReply, EndsRound}
 use Rattle.cas_model.specs.View.{DiskMeaning, IsAt}
 use Rattle.cas_model.proofs.Calls.Caches.{contains_without, contains_promise, IsKeptOr, kept, held, kept_or_held}
 use Rattle.cas_model.proofs.Eras.InEras.{goes_on}
@@ -116,7 +116,7 @@ promise_above {V} m era k old new ready ride round tells by = record {
   });
 }
   where
-    on : GoesOn m old.vault new.vault
+    on : VaultGoesOn m old.vault new.vault
     on = goes_on m old.id old.vault new.vault ride by.drawn
 
     is_round : (r : Round) → new.round ≡ Some r → r ≡ record round { ride = ride }
@@ -132,7 +132,7 @@ turns_above {V} m old new round turned ride tells is_open by = record {
   });
 }
   where
-    on : GoesOn m old.vault new.vault
+    on : VaultGoesOn m old.vault new.vault
     on = goes_on m old.id old.vault new.vault ride by.drawn
 
     is_round : (r : Round) → new.round ≡ Some r → r ≡ record turned { ride = ride }

@@ -29,9 +29,9 @@ use Rattle.cas_protocol.specs.Acceptors.{IsMadeState, IsEmptyAt}
 use Rattle.cas_model.specs.Collection.Logged.{is_round, IsTombstoneTrue, IsSoughtTrue, IsCollectionTrue, IsCollectingTrue, IsRenewed, AreRenewed, is_after_ages, is_after_floor, may_tell_ages}
 use Rattle.cas_model.specs.Collection.State.{Tombstone, FoundHeld, Acknowledged, CollectionView, confirmed_step, called, tomb_of, ages_of}
 use Rattle.cas_model.specs.Council.{OrderView, PlanView, Question, ask_of, tag_key, exchange_place, NewAges, ExchangeView, phase_for}
-use Rattle.cas_model.specs.Eras.Course.{course_of, entries_in, IsCourseOf, AreEntries, IsSettled, IsUnderWay, Entry}
+use Rattle.cas_model.specs.Eras.Course.{course_of, entries_in, IsCourseOf, AreEntries, IsSettled, CourseIsUnderWay, EraEntry}
 use Rattle.cas_model.specs.History.{IsLogged, IsFollowed, IsRemembered, IsInEra}
-use Rattle.cas_model.specs.Parties.{IsDoneTrue, IsCallTrue, IsCallerTrue, IsDeskTrue, AreReady, HaveOneEach, AreMessagesTrue, IsAged, IsEraOf, IsExchangeTrue, WasToldBy}
+use Rattle.cas_model.specs.Parties.{IsDoneTrue, IsCallTrue, IsCallerTrue, IsDeskTrue, ArePromisesHeld, HaveOneEach, AreMessagesTrue, IsAged, IsEraOf, IsExchangeTrue, WasToldBy}
 use Rattle.cas_protocol.specs.Protocol.{Made, HasEnded, GlobalState, HasHistory, Knows, IsMadeOf, IsEndedAsk, IsAskable, IsFloorClear, MakesFloor, with_mark}
 use Rattle.cas_model.specs.Step as step
 use Rattle.cas_model.specs.Step.{Event, Step, OpenRoundAt}
@@ -61,7 +61,7 @@ use Rattle.cas_cache.specs.declared.ready.Ready.{Ready}
 use Rattle.cas_cache.specs.Entries.{without}
 use Rattle.cas_proposer.specs.declared.round.Round.{Round as OpenRound}
 use Rattle.cas_record.specs.declared.answer.Cause.TheVariants as cause
-use Rattle.cas_model.specs.Calls.Desks.{GoesOn, Renews, FailsToRenew}
+use Rattle.cas_model.specs.Calls.Desks.{VaultGoesOn, Renews, FailsToRenew}
 use Rattle.cas_model.specs.Stops.Step as stops
 use Rattle.cas_model.specs.Stops.Step.{LeavesRound, GoesDown, closed_by}
 use Rattle.cas_model.proofs.Calls.Caches.{contains_without, ready_fewer, one_without, none_without}
@@ -382,7 +382,7 @@ accepts_all {S} {V} m view is none acceptor member = elim ((is.logged.agrees.era
 ]
   where
     settled : IsSettled (course view.last_proposer view.eras None (entries_in view.marks))
-    settled = subst (λ (p : Option PlanView). IsUnderWay (course view.last_proposer view.eras p (entries_in view.marks)) p) none is.course.is_course.under_way
+    settled = subst (λ (p : Option PlanView). CourseIsUnderWay (course view.last_proposer view.eras p (entries_in view.marks)) p) none is.course.is_course.under_way
 
 -- once all who accept in the era acknowledged it, the first proposer is to be renewed
 gathers_round : {S V : Type 0} (m : Meaning S V) (old : View S V) (new : View S V) → IsRemembered m old → StepGatherRound old new → IsRemembered m new
@@ -482,7 +482,7 @@ quiet_renewed {S} {V} m cluster log all id era caller waiting key tomb age desk 
   same_id = ap (λ (d : DeskView V). d.id) by.desk ∙ of.same_id;
   known = of.known;
   vault = vault_goes_on m log id era tells by.goes_on of.vault;
-  cached = subst (AreReady cluster log all id era) (sym (ap (λ (d : DeskView V). d.cache) by.desk))
+  cached = subst (ArePromisesHeld cluster log all id era) (sym (ap (λ (d : DeskView V). d.cache) by.desk))
       (ready_fewer cluster log all id era (without key (cache_without desk.round desk.cache)) desk.cache (λ entry h. within_renewed key desk.round desk.cache entry h) of.cached);
   one_each = subst HaveOneEach (sym (ap (λ (d : DeskView V). d.cache) by.desk)) (one_without key (cache_without desk.round desk.cache) (one_renewed key desk.round desk.cache of.one_each));
   none_open = ap (λ (d : DeskView V). d.round) by.desk;
@@ -526,7 +526,7 @@ fails_renewal {S} {V} m old proposer middle disks is down = record {
 }
 
 -- its vault goes on, and all else stays
-moves_on : {S V : Type 0} (m : Meaning S V) (old : View S V) (id : ℕ) (desk now : DeskView V) → m.disks.tells → IsRemembered m old → IsAt old.desks id desk → desk.down ≡ false → now ≡ record desk { vault = now.vault } → GoesOn m.disks desk.vault now.vault
+moves_on : {S V : Type 0} (m : Meaning S V) (old : View S V) (id : ℕ) (desk now : DeskView V) → m.disks.tells → IsRemembered m old → IsAt old.desks id desk → desk.down ≡ false → now ≡ record desk { vault = now.vault } → VaultGoesOn m.disks desk.vault now.vault
     → IsRemembered m (with_desk old id now)
 moves_on {S} {V} m old id desk now disks is at up is_now on = record {
   followed = same_course m old (with_desk old id now) refl
@@ -551,7 +551,7 @@ renews {S} {V} m old proposer new disks is by = by_case by.renews
     global : GlobalState
     global = is.followed.logged.global
 
-    is_in : m.disks.tells → (desk now : DeskView V) → IsAt old.desks proposer desk → desk.down ≡ false → GoesOn m.disks desk.vault now.vault → IsInEra m (course_of old) proposer now
+    is_in : m.disks.tells → (desk now : DeskView V) → IsAt old.desks proposer desk → desk.down ≡ false → VaultGoesOn m.disks desk.vault now.vault → IsInEra m (course_of old) proposer now
     is_in tells desk now at up on = era_kept m (course_of old) proposer (up_kept m.disks tells up on) (is.followed.in_eras proposer desk at).1
 
     renewed_case : (age : ℕ) (middle : View S V) → LeavesRound (Renews m.disks key tomb age) (closed_by (answer.Aged age) (cause.Aged age)) old proposer middle
@@ -687,8 +687,8 @@ makes_floor {S} {V} m old new is by = subst (IsRemembered m) (sym (by.view ∙ a
     cluster = is.followed.cluster;
     logged = marked m is.followed.cluster (with_mark global h) (collecting old by.at.order None next) (Floor key tomb Empty ∷ []) (marks_of global.log)
         (counsels m is.followed.cluster (with_mark global h) old _ (floored.parties.council.0, floored.parties.council.1, floored.parties.council.2, next_known) floored) is.followed.logged.agrees.marks refl;
-    course = subst (λ (l : List Entry). IsCourseOf is.followed.cluster (course old.last_proposer old.eras old.council.plan l)) (sym no_entry) is.followed.course;
-    in_eras = λ id desk at. subst (λ (l : List Entry). (id ≤ old.last_proposer) × IsInEra m (course old.last_proposer old.eras old.council.plan l) id desk) (sym no_entry) (is.followed.in_eras id desk at);
+    course = subst (λ (l : List EraEntry). IsCourseOf is.followed.cluster (course old.last_proposer old.eras old.council.plan l)) (sym no_entry) is.followed.course;
+    in_eras = λ id desk at. subst (λ (l : List EraEntry). (id ≤ old.last_proposer) × IsInEra m (course old.last_proposer old.eras old.council.plan l) id desk) (sym no_entry) (is.followed.in_eras id desk at);
   };
   renewed = renewed_same m old by.at.order None c next by.at.is_collection refl refl refl is.renewed;
 })
@@ -763,7 +763,7 @@ makes_floor {S} {V} m old new is by = subst (IsRemembered m) (sym (by.view ∙ a
       where
         entries_more : (marks : List Mark) → entries_in (marks ++ Floor key tomb Empty ∷ []) ≡ entries_in marks
         entries_more [] = refl
-        entries_more (EraEntered proposer era ∷ marks) = ap (λ (l : List Entry). record { proposer = proposer; era = era } ∷ l) (entries_more marks)
+        entries_more (EraEntered proposer era ∷ marks) = ap (λ (l : List EraEntry). record { proposer = proposer; era = era } ∷ l) (entries_more marks)
         entries_more (other ∷ marks) = entries_more marks
 
 -- ---- all members are asked

@@ -10,7 +10,7 @@ use Rattle.cas_record.specs.declared.mark.Mark.TheVariants.{EraEntered}
 use Rattle.cas_record.specs.declared.operator.Asked.{Asked}
 use Rattle.cas_record.specs.declared.operator.OpAnswer.{OpAnswer}
 use Rattle.cas_model.specs.Council.{MemberPlace, NextKeys, PlanView, Council, complete_only, without_partial}
-use Rattle.cas_model.specs.Eras.Course.{Entry, Course, course_of, entries_in, next_era, era_shown, IsCourse}
+use Rattle.cas_model.specs.Eras.Course.{EraEntry, Course, course_of, entries_in, next_era, era_shown, IsCourse}
 use Rattle.cas_model.specs.Step as step
 use Rattle.cas_model.specs.Step.{Event, Step, StepEnd, StepRestartProposer}
 use Rattle.cas_model.specs.Calls.Step as calls
@@ -124,7 +124,7 @@ pub enters_course : {S V : Type 0} (m : Meaning S V) (old middle : View S V) (pl
     → course_of (entered_view middle plan next) ≡ course old.last_proposer (slice_set old.eras plan.entered next) (Some (plan_after old.last_proposer plan next)) (entries_in old.marks ++ record { proposer = plan.entered; era = next.number } ∷ [])
 enters_course {S} {V} m old middle plan next leaves =
     let same = left_course (EntersEra m.disks next) (closed_by (answer.Moved next.number) (cause.Moved next.number)) old middle plan.entered leaves in
-    ap (λ (l : List Entry). course middle.last_proposer (slice_set middle.eras plan.entered next) (Some (plan_after middle.last_proposer plan next)) l) (entries_joined middle.marks (EraEntered plan.entered next.number ∷ []))
+    ap (λ (l : List EraEntry). course middle.last_proposer (slice_set middle.eras plan.entered next) (Some (plan_after middle.last_proposer plan next)) l) (entries_joined middle.marks (EraEntered plan.entered next.number ∷ []))
     ∙ ap (λ (c : Course). course c.last_proposer (slice_set c.eras plan.entered next) (Some (plan_after c.last_proposer plan next)) (c.entries ++ record { proposer = plan.entered; era = next.number } ∷ [])) same
 
 enter_on : {S V : Type 0} (m : Meaning S V) (old new : View S V) (id : ℕ) → StepEnterEra m old id new → IsCourse (course_of old) → IsCourse (course_of new)

@@ -14,12 +14,12 @@ use Rattle.cas_record.specs.declared.operator.Asked.{Asked}
 use Rattle.cas_round.proofs.Lists.{has, contains}
 use Rattle.cas_record.proofs.Tests.{nat_same, nat_is}
 use Rattle.cas_model.specs.Council.{ListingView, PlanView, stepped, with_listing}
-use Rattle.cas_model.specs.Eras.Course.{Entry, Course, entering, shown_era, era_shown, IsWhole, Follows, IsPath, IsStart, WorksIn, not_yet, entered, IsCourse}
+use Rattle.cas_model.specs.Eras.Course.{EraEntry, Course, entering, shown_era, era_shown, IsWhole, Follows, IsPath, IsStart, WorksIn, not_yet, entered, IsCourse}
 use Rattle.cas_model.specs.Eras.Step.{new_plan, rest_of, plan_after}
 use Rattle.cas_model.specs.View.{era_in}
 use Rattle.cas_model.proofs.Places.{same_or_not, some_is, contains_none, contains_append, contains_front, contains_back}
 
-abbrev pub course : ℕ → List Era → Option PlanView → List Entry → Course
+abbrev pub course : ℕ → List Era → Option PlanView → List EraEntry → Course
 course last_proposer eras plan entries = record { last_proposer = last_proposer; eras = eras; plan = plan; entries = entries }
 
 -- ---- eras by their places
@@ -96,7 +96,7 @@ course_opens last_proposer members few whole = record {
 
 -- ---- a proposer is up again
 -- one works where it worked, or in the next era
-pub stays_on : (last_proposer : ℕ) (eras : List Era) (plan : PlanView) (entries : List Entry) (id : ℕ) (era : Era) → (id ≤ last_proposer → WorksIn plan id era) → (id ≤ last_proposer → IsSized era)
+pub stays_on : (last_proposer : ℕ) (eras : List Era) (plan : PlanView) (entries : List EraEntry) (id : ℕ) (era : Era) → (id ≤ last_proposer → WorksIn plan id era) → (id ≤ last_proposer → IsSized era)
     → IsCourse (course last_proposer eras (Some plan) entries) → IsCourse (course last_proposer (slice_set eras id era) (Some plan) entries)
 stays_on last_proposer eras plan entries id era works sized was = record {
   few = was.few;
@@ -116,7 +116,7 @@ stays_on last_proposer eras plan entries id era works sized was = record {
         (subst (WorksIn plan id) (sym (era_set eras id era (omega (arith, same, low, was.few, was.places)))) (works (omega (arith, same, low))))
     by_place p low (inr other) = subst (WorksIn plan p) (sym (era_kept eras id p era other)) (was.under_way.each p low)
 
-pub course_shown : (last_proposer : ℕ) (eras : List Era) (plan : Option PlanView) (entries : List Entry) (id number : ℕ)
+pub course_shown : (last_proposer : ℕ) (eras : List Era) (plan : Option PlanView) (entries : List EraEntry) (id number : ℕ)
     → IsCourse (course last_proposer eras plan entries) → IsCourse (course last_proposer (slice_set eras id (era_shown plan (era_in eras id) number)) plan entries)
 course_shown last_proposer eras None entries id number was = subst (λ (l : List Era). IsCourse (course last_proposer l None entries)) (sym (set-get_or eras id (majority_era 0 []))) was
 course_shown last_proposer eras (Some plan) entries id number was = stays_on last_proposer eras plan entries id (era_shown (Some plan) (era_in eras id) number) (λ low. by_next low (entering plan.progress.left) refl) (λ low. sized_next low (entering plan.progress.left) refl) was
@@ -138,7 +138,7 @@ course_shown last_proposer eras (Some plan) entries id number was = stays_on las
         by_number false = was.sized id low
 
 -- ---- a change of membership
-pub course_opened : (last_proposer : ℕ) (eras : List Era) (entries : List Entry) (asked : Asked) (progress : Progress) → progress.era ≡ era_in eras 0 → IsStart progress.era progress.left
+pub course_opened : (last_proposer : ℕ) (eras : List Era) (entries : List EraEntry) (asked : Asked) (progress : Progress) → progress.era ≡ era_in eras 0 → IsStart progress.era progress.left
     → IsCourse (course last_proposer eras None entries) → IsCourse (course last_proposer eras (Some (new_plan asked progress)) entries)
 course_opened last_proposer eras entries asked progress from start was = record {
   few = was.few;
@@ -158,7 +158,7 @@ course_opened last_proposer eras entries asked progress from start was = record 
   };
 }
 
-pub course_finished : (last_proposer : ℕ) (eras : List Era) (entries : List Entry) (plan : PlanView) → plan.progress.left ≡ [] → IsCourse (course last_proposer eras (Some plan) entries) → IsCourse (course last_proposer eras None entries)
+pub course_finished : (last_proposer : ℕ) (eras : List Era) (entries : List EraEntry) (plan : PlanView) → plan.progress.left ≡ [] → IsCourse (course last_proposer eras (Some plan) entries) → IsCourse (course last_proposer eras None entries)
 course_finished last_proposer eras entries plan none was = record {
   few = was.few;
   places = was.places;
@@ -193,17 +193,17 @@ course_finished last_proposer eras entries plan none was = record {
     base = works 0 (omega arith)
 
 -- ---- a proposer enters the next era
-the_one : {entry other : Entry} → Contains (other ∷ []) entry → entry ≡ other
+the_one : {entry other : EraEntry} → Contains (other ∷ []) entry → entry ≡ other
 the_one {entry} {other} new = elim (has entry (other ∷ []) new) [
   | inl is ↦ sym is
   | inr none ↦ absurd none
 ]
 
-the_entry : {entry other : Entry} → entry ≡ other → Contains (other ∷ []) entry
+the_entry : {entry other : EraEntry} → entry ≡ other → Contains (other ∷ []) entry
 the_entry {entry} {other} same = contains entry (other ∷ []) (inl (sym same))
 
 -- where it is not the last one, others are still to enter it
-one_entered : (last_proposer : ℕ) (eras : List Era) (plan : PlanView) (entries : List Entry) (next : Era) → entering plan.progress.left ≡ Some next → (plan.entered ≡ last_proposer → ⊥)
+one_entered : (last_proposer : ℕ) (eras : List Era) (plan : PlanView) (entries : List EraEntry) (next : Era) → entering plan.progress.left ≡ Some next → (plan.entered ≡ last_proposer → ⊥)
     → IsCourse (course last_proposer eras (Some plan) entries)
     → IsCourse (course last_proposer (slice_set eras plan.entered next) (Some (record plan { entered = suc plan.entered })) (entries ++ record { proposer = plan.entered; era = next.number } ∷ []))
 one_entered last_proposer eras plan entries next is_next more was = record {
@@ -224,7 +224,7 @@ one_entered last_proposer eras plan entries next is_next more was = record {
         | inl few ↦ inl few
         | inr led ↦ inr (led.0, omega (arith, led.1))
       ]
-      | inr new ↦ inr (ap (λ (e : Entry). e.era) (the_one new) ∙ leading.follows.number, omega (arith, ap (λ (e : Entry). e.proposer) (the_one new)))
+      | inr new ↦ inr (ap (λ (e : EraEntry). e.era) (the_one new) ∙ leading.follows.number, omega (arith, ap (λ (e : EraEntry). e.proposer) (the_one new)))
     ];
     counted = omega (arith, was.entries.counted, length_push entries (record { proposer = plan.entered; era = next.number }));
   };
@@ -249,7 +249,7 @@ one_entered last_proposer eras plan entries next is_next more was = record {
     by_number id (inr other) under = contains_front entries _ (was.entries.led id (omega (arith, under, other)))
 
 -- where it is the last one, the era is the one that all entered last
-last_entered : (last_proposer : ℕ) (eras : List Era) (plan : PlanView) (entries : List Entry) (next : Era) → entering plan.progress.left ≡ Some next → plan.entered ≡ last_proposer
+last_entered : (last_proposer : ℕ) (eras : List Era) (plan : PlanView) (entries : List EraEntry) (next : Era) → entering plan.progress.left ≡ Some next → plan.entered ≡ last_proposer
     → IsCourse (course last_proposer eras (Some plan) entries)
     → IsCourse (course last_proposer (slice_set eras plan.entered next) (Some (record plan { progress = record { era = next; left = rest_of plan.progress.left }; entered = 0; listing = None })) (entries ++ record { proposer = plan.entered; era = next.number } ∷ []))
 last_entered last_proposer eras plan entries next is_next last was = record {
@@ -270,7 +270,7 @@ last_entered last_proposer eras plan entries next is_next last was = record {
         | inl few ↦ omega (arith, few, leading.follows.number)
         | inr led ↦ omega (arith, led.0, leading.follows.number)
       ]
-      | inr new ↦ omega (arith, ap (λ (e : Entry). e.era) (the_one new))
+      | inr new ↦ omega (arith, ap (λ (e : EraEntry). e.era) (the_one new))
     ]);
     counted = omega (arith, was.entries.counted, length_push entries (record { proposer = plan.entered; era = next.number }), leading.follows.number);
   };
@@ -291,7 +291,7 @@ last_entered last_proposer eras plan entries next is_next last was = record {
     by_number id at (inl same) = contains_back entries _ (the_entry (ap (λ (n : ℕ). record { proposer = n; era = next.number }) same))
     by_number id at (inr other) = contains_front entries _ (subst (λ (n : ℕ). Contains entries (record { proposer = id; era = n })) (sym leading.follows.number) (was.entries.led id (omega (arith, at, other, last))))
 
-pub course_entered : (last_proposer : ℕ) (eras : List Era) (plan : PlanView) (entries : List Entry) (next : Era) → entering plan.progress.left ≡ Some next → IsCourse (course last_proposer eras (Some plan) entries)
+pub course_entered : (last_proposer : ℕ) (eras : List Era) (plan : PlanView) (entries : List EraEntry) (next : Era) → entering plan.progress.left ≡ Some next → IsCourse (course last_proposer eras (Some plan) entries)
     → IsCourse (course last_proposer (slice_set eras plan.entered next) (Some (plan_after last_proposer plan next)) (entries ++ record { proposer = plan.entered; era = next.number } ∷ []))
 course_entered last_proposer eras plan entries next is_next was = by_number (plan.entered == last_proposer) refl
   where
@@ -304,7 +304,7 @@ course_entered last_proposer eras plan entries next is_next was = by_number (pla
 
 -- ---- an era is settled
 -- what is so where the first step is to settle the era
-pub record AtSettle (last_proposer : ℕ) (eras : List Era) (plan : PlanView) (entries : List Entry) : Type 0 where
+pub record AtSettle (last_proposer : ℕ) (eras : List Era) (plan : PlanView) (entries : List EraEntry) : Type 0 where
   pub positive : 0 < plan.progress.era.number
   pub none_entered : plan.entered ≡ 0
   pub in_base : (id : ℕ) → id ≤ last_proposer → era_in eras id ≡ plan.progress.era
@@ -327,7 +327,7 @@ settled_start era (Settle ∷ Enter next ∷ left) is start = (start.0, (start.1
 settled_start era (Enter next ∷ left) is start = absurd (cc is)
 settled_start era (Finished ∷ left) is start = absurd (cc is)
 
-pub at_settle : (last_proposer : ℕ) (eras : List Era) (plan : PlanView) (entries : List Entry) → next_of plan.progress.left ≡ Settle → IsCourse (course last_proposer eras (Some plan) entries) → AtSettle last_proposer eras plan entries
+pub at_settle : (last_proposer : ℕ) (eras : List Era) (plan : PlanView) (entries : List EraEntry) → next_of plan.progress.left ≡ Settle → IsCourse (course last_proposer eras (Some plan) entries) → AtSettle last_proposer eras plan entries
 at_settle last_proposer eras plan entries is was = record {
   positive = begins.0;
   none_entered = was.under_way.none_entered none;
@@ -347,7 +347,7 @@ at_settle last_proposer eras plan entries is was = record {
 
 -- ---- the plan goes on, and all else stays
 -- other keys are listed or proposed anew
-pub course_relisted : (last_proposer : ℕ) (eras : List Era) (plan : PlanView) (entries : List Entry) (count : ℕ) (listing : Option ListingView) → IsCourse (course last_proposer eras (Some plan) entries)
+pub course_relisted : (last_proposer : ℕ) (eras : List Era) (plan : PlanView) (entries : List EraEntry) (count : ℕ) (listing : Option ListingView) → IsCourse (course last_proposer eras (Some plan) entries)
     → IsCourse (course last_proposer eras (Some (record plan { rescanned = count; listing = listing })) entries)
 course_relisted last_proposer eras plan entries count listing was = record {
   few = was.few;
@@ -366,7 +366,7 @@ course_relisted last_proposer eras plan entries count listing was = record {
 }
 
 -- the era is settled
-pub course_stepped : (last_proposer : ℕ) (eras : List Era) (plan : PlanView) (entries : List Entry) → next_of plan.progress.left ≡ Settle → IsCourse (course last_proposer eras (Some plan) entries)
+pub course_stepped : (last_proposer : ℕ) (eras : List Era) (plan : PlanView) (entries : List EraEntry) → next_of plan.progress.left ≡ Settle → IsCourse (course last_proposer eras (Some plan) entries)
     → IsCourse (course last_proposer eras (Some (stepped plan)) entries)
 course_stepped last_proposer eras plan entries is was =
     let at = at_settle last_proposer eras plan entries is was in
@@ -383,7 +383,7 @@ course_stepped last_proposer eras plan entries is was =
       entries = record { all = was.entries.all; led = was.entries.led; none_beyond = was.entries.none_beyond; counted = was.entries.counted };
     }
 
-pub course_listed : (last_proposer : ℕ) (eras : List Era) (plan : PlanView) (entries : List Entry) (listing : ListingView) → next_of plan.progress.left ≡ Settle → IsCourse (course last_proposer eras (Some plan) entries)
+pub course_listed : (last_proposer : ℕ) (eras : List Era) (plan : PlanView) (entries : List EraEntry) (listing : ListingView) → next_of plan.progress.left ≡ Settle → IsCourse (course last_proposer eras (Some plan) entries)
     → IsCourse (course last_proposer eras (Some (with_listing plan listing)) entries)
 course_listed last_proposer eras plan entries listing is was = by_test (listing.complete && (length listing.keys == 0))
   where

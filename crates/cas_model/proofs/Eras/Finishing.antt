@@ -4,7 +4,7 @@ use Rattle.cas_record.specs.declared.operator.Asked.{Asked}
 use Rattle.cas_record.specs.declared.operator.Asked.TheVariants as asked
 use Rattle.cas_record.specs.declared.operator.OpAnswer.{OpAnswer}
 use Rattle.cas_model.specs.Council.{PlanView, OrderView}
-use Rattle.cas_model.specs.Eras.Course.{AreEntries, IsMoving, IsStart, IsUnderWay as IsOnCourse, course_of, entries_in}
+use Rattle.cas_model.specs.Eras.Course.{AreEntries, EraIsMoving, IsStart, CourseIsUnderWay as IsOnCourse, course_of, entries_in}
 use Rattle.cas_model.specs.Safe.{IsSafe}
 use Rattle.cas_model.specs.SafeLaws.{HaveAllEntered, HaveEnteredIts}
 use Rattle.cas_model.specs.Exchanges.Step.{IsFinishedBy, finished}
@@ -18,7 +18,7 @@ all_entered {S} {V} view plan safe is none = λ proposer low. entry_stands view.
     entries : AreEntries (course view.last_proposer view.eras (Some plan) (entries_in view.marks))
     entries = subst (λ (p : Option PlanView). AreEntries (course view.last_proposer view.eras p (entries_in view.marks))) is safe.course.entries
 
-    moves : IsMoving (course_of view) plan
+    moves : EraIsMoving (course_of view) plan
     moves = subst (λ (p : Option PlanView). IsOnCourse (course_of view) p) is safe.course.under_way
 
     positive : 0 < plan.progress.era.number

@@ -10,13 +10,13 @@ use Rattle.cas_record.specs.declared.answer.Answer.{Answer}
 use Rattle.cas_model.specs.Council.{Question, Probe, NextKeys, NewAges, Removal}
 use Rattle.cas_model.specs.Eras.Course.{Course}
 use Rattle.cas_model.specs.History.{IsInEra, inside, torn}
-use Rattle.cas_model.specs.Parties.{IsWithin}
+use Rattle.cas_model.specs.Parties.{VaultKeepsEra}
 use Rattle.cas_model.specs.Step as step
 use Rattle.cas_model.specs.Step.{Event, Step, StepBegin, StepTurn, StepPropose, StepCount, StepEnd, StepCrashAcceptor, StepRestartAcceptor}
 use Rattle.cas_model.specs.Calls.Step as calls
 use Rattle.cas_model.specs.Exchanges.Step as council
 use Rattle.cas_model.specs.Exchanges.Step.{StepAskAll, StepTurnExchange, StepGather}
-use Rattle.cas_model.specs.Calls.Desks.{GoesOn, MayHaveDrawn, EndsRound, Crashes}
+use Rattle.cas_model.specs.Calls.Desks.{VaultGoesOn, MayHaveDrawn, EndsRound, Crashes}
 use Rattle.cas_model.specs.Frames.Step as frames
 use Rattle.cas_model.specs.Stops.Step as stops
 use Rattle.cas_model.specs.Stops.Step.{OpenCallAt, LeavesRound, GoesDown, closed_by_crash}
@@ -30,7 +30,7 @@ use Rattle.cas_model.proofs.Places.{same_or_not, own_set, other_set}
 -- ---- one desk
 -- its vault stays in its eras; and where it was down and idle, it still is, and holds no promise if it held none
 pub record KeepsEra {V : Type 0} (m : DiskMeaning V) (old new : DeskView V) : Type 0 where
-  pub goes_on : (era other : ℕ) → IsWithin m era other old.vault → IsWithin m era other new.vault
+  pub goes_on : (era other : ℕ) → VaultKeepsEra m era other old.vault → VaultKeepsEra m era other new.vault
   pub idles : old.down ≡ true → old.cache ≡ [] → old.round ≡ None → (new.down ≡ true) × (new.cache ≡ []) × (new.round ≡ None)
 
 pub era_kept : {S V : Type 0} (m : Meaning S V) (of : Course) (id : ℕ) {old new : DeskView V} → KeepsEra m.disks old new → IsInEra m of id old → IsInEra m of id new
@@ -40,28 +40,28 @@ era_kept m of id by (torn plan next is_plan is_next in_base down none idle withi
     torn plan next is_plan is_next in_base idles.0 idles.1 idles.2 (by.goes_on _ _ within)
 
 -- one that is up, and one that has an open round, is not idle
-pub up_kept : {V : Type 0} (m : DiskMeaning V) {old new : DeskView V} → m.tells → old.down ≡ false → GoesOn m old.vault new.vault → KeepsEra m old new
+pub up_kept : {V : Type 0} (m : DiskMeaning V) {old new : DeskView V} → m.tells → old.down ≡ false → VaultGoesOn m old.vault new.vault → KeepsEra m old new
 up_kept m tells up on = record { goes_on = on.era tells; idles = λ down none idle. absurd (cc (down, up)) }
 
-open_kept : {V : Type 0} (m : DiskMeaning V) {old new : DeskView V} {round : Round} → m.tells → old.round ≡ Some round → GoesOn m old.vault new.vault → KeepsEra m old new
+open_kept : {V : Type 0} (m : DiskMeaning V) {old new : DeskView V} {round : Round} → m.tells → old.round ≡ Some round → VaultGoesOn m old.vault new.vault → KeepsEra m old new
 open_kept m tells some on = record { goes_on = on.era tells; idles = λ down none idle. absurd (cc (idle, some)) }
 
 same_kept : {V : Type 0} (m : DiskMeaning V) {old new : DeskView V} {round : Round} → old.round ≡ Some round → new.vault ≡ old.vault → KeepsEra m old new
-same_kept {V} m some same = record { goes_on = λ era other was. subst (IsWithin m era other) (sym same) was; idles = λ down none idle. absurd (cc (idle, some)) }
+same_kept {V} m some same = record { goes_on = λ era other was. subst (VaultKeepsEra m era other) (sym same) was; idles = λ down none idle. absurd (cc (idle, some)) }
 
 unchanged : {V : Type 0} (m : DiskMeaning V) {old new : DeskView V} → new ≡ old → KeepsEra m old new
 unchanged {V} m same = record {
-  goes_on = λ era other was. subst (λ (d : DeskView V). IsWithin m era other d.vault) (sym same) was;
+  goes_on = λ era other was. subst (λ (d : DeskView V). VaultKeepsEra m era other d.vault) (sym same) was;
   idles = λ down none idle. subst (λ (d : DeskView V). (d.down ≡ true) × (d.cache ≡ []) × (d.round ≡ None)) (sym same) (down, none, idle);
 }
 
 -- a ballot that may ride was drawn or not
-pub goes_on : {V : Type 0} (m : DiskMeaning V) (id : ℕ) (old new : Vault V) (ballot : Option Ballot) → MayHaveDrawn m id old new ballot → GoesOn m old new
+pub goes_on : {V : Type 0} (m : DiskMeaning V) (id : ℕ) (old new : Vault V) (ballot : Option Ballot) → MayHaveDrawn m id old new ballot → VaultGoesOn m old new
 goes_on m id old new None kept = kept.goes_on
 goes_on m id old new (Some ballot) drawn = drawn.goes_on
 
 -- and what is done after that goes on, too
-pub then_on : {V : Type 0} {m : DiskMeaning V} {old middle new : Vault V} → GoesOn m old middle → GoesOn m middle new → GoesOn m old new
+pub then_on : {V : Type 0} {m : DiskMeaning V} {old middle new : Vault V} → VaultGoesOn m old middle → VaultGoesOn m middle new → VaultGoesOn m old new
 then_on first next = record {
   still_past = λ tells n past. next.still_past tells n (first.still_past tells n past);
   era = λ tells era other was. next.era tells era other (first.era tells era other was);

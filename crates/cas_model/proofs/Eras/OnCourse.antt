@@ -26,7 +26,7 @@ use Rattle.cas_record.specs.declared.operator.OpAnswer.{OpAnswer}
 use Rattle.cas_record.specs.declared.operator.OpAnswer.TheVariants as told_it
 use Rattle.cas_protocol.specs.Acceptors.{votes_of}
 use Rattle.cas_model.specs.Council.{Probe, NextKeys, NewAges, Removal, PlanView, without_partial}
-use Rattle.cas_model.specs.Eras.Course.{Entry, Course, entries_in, course_of}
+use Rattle.cas_model.specs.Eras.Course.{EraEntry, Course, entries_in, course_of}
 use Rattle.cas_model.specs.Step as step
 use Rattle.cas_model.specs.Step.{Event, Step, StepBegin, StepTurn, StepPropose, StepCount, StepEnd, StepCrashAcceptor, StepRestartAcceptor}
 use Rattle.cas_model.specs.Calls.Step as calls
@@ -45,7 +45,7 @@ use Rattle.cas_model.proofs.Eras.Rescanning.{undone_plan, refused_undone}
 -- ---- marks that tell of no era
 pub entries_joined : (marks more : List Mark) → entries_in (marks ++ more) ≡ entries_in marks ++ entries_in more
 entries_joined [] more = refl
-entries_joined (EraEntered proposer era ∷ marks) more = ap (λ (l : List Entry). record { proposer = proposer; era = era } ∷ l) (entries_joined marks more)
+entries_joined (EraEntered proposer era ∷ marks) more = ap (λ (l : List EraEntry). record { proposer = proposer; era = era } ∷ l) (entries_joined marks more)
 entries_joined (Begun caller call key program ∷ marks) more = entries_joined marks more
 entries_joined (Proposed p ∷ marks) more = entries_joined marks more
 entries_joined (Voted acceptor key ballot ∷ marks) more = entries_joined marks more
@@ -55,13 +55,13 @@ entries_joined (Ended caller call rounds answer ∷ marks) more = entries_joined
 entries_joined (Harmed caller call down ∷ marks) more = entries_joined marks more
 entries_joined (Told asked answer ∷ marks) more = entries_joined marks more
 
-no_more : (entries : List Entry) → entries ++ [] ≡ entries
+no_more : (entries : List EraEntry) → entries ++ [] ≡ entries
 no_more [] = refl
-no_more (entry ∷ entries) = ap (λ (l : List Entry). entry ∷ l) (no_more entries)
+no_more (entry ∷ entries) = ap (λ (l : List EraEntry). entry ∷ l) (no_more entries)
 
 pub quiet : {S V : Type 0} (old : View S V) (more : List Mark) → entries_in more ≡ [] → course_of (with_marks old more) ≡ course_of old
-quiet old more none = ap (λ (l : List Entry). record { last_proposer = old.last_proposer; eras = old.eras; plan = old.council.plan; entries = l })
-    (entries_joined old.marks more ∙ ap (λ (l : List Entry). entries_in old.marks ++ l) none ∙ no_more (entries_in old.marks))
+quiet old more none = ap (λ (l : List EraEntry). record { last_proposer = old.last_proposer; eras = old.eras; plan = old.council.plan; entries = l })
+    (entries_joined old.marks more ∙ ap (λ (l : List EraEntry). entries_in old.marks ++ l) none ∙ no_more (entries_in old.marks))
 
 no_harms : (harmed : Bool) (caller call : ℕ) (down : Bool) → entries_in (if harmed then [] else Harmed caller call down ∷ []) ≡ []
 no_harms true caller call down = refl

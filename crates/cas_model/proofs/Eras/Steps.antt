@@ -13,8 +13,8 @@ use Rattle.cas_record.specs.Places.{At, here, past, Stands}
 use Rattle.cas_record.proofs.Logs.Eras.{enter_law}
 use Rattle.cas_record.proofs.Logs.Lemmas.{part_of}
 use Rattle.cas_record.proofs.PlaceLemmas.{newest_or, stands_part}
-use Rattle.cas_model.specs.Eras.Course.{Entry, entries_in}
-use Rattle.cas_model.specs.Parties.{IsVaultTrue, AreReady, HaveOneEach}
+use Rattle.cas_model.specs.Eras.Course.{EraEntry, entries_in}
+use Rattle.cas_model.specs.Parties.{IsVaultTrue, ArePromisesHeld, HaveOneEach}
 use Rattle.cas_protocol.specs.Protocol.{Made, GlobalState, IsLeaving, Enters, with_mark}
 use Rattle.cas_model.specs.View.{Meaning, View}
 use Rattle.cas_model.proofs.Around.{Around, around_more, IsOf}
@@ -42,7 +42,7 @@ has_entry : (proposer era : ℕ) (marks : List Mark) → Has (EraEntered propose
 has_entry proposer era [] none = absurd none
 has_entry proposer era (EraEntered p e ∷ marks) (inl same) = inl (ap (λ (m : Mark). entry_at m (record { proposer = p; era = e })) same)
   where
-    entry_at : Mark → Entry → Entry
+    entry_at : Mark → EraEntry → EraEntry
     entry_at (EraEntered q n) other = record { proposer = q; era = n }
     entry_at mark other = other
 has_entry proposer era (EraEntered p e ∷ marks) (inr there) = inr (has_entry proposer era marks there)
@@ -70,7 +70,7 @@ entry_there marks proposer era stands = contains _ (entries_in marks) (has_entry
 -- and who is among them is marked so
 marked_entry : (proposer era : ℕ) (marks : List Mark) → Has (record { proposer = proposer; era = era }) (entries_in marks) → Has (EraEntered proposer era) marks
 marked_entry proposer era [] none = absurd none
-marked_entry proposer era (EraEntered p e ∷ marks) (inl same) = inl (ap (λ (entry : Entry). EraEntered entry.proposer entry.era) same)
+marked_entry proposer era (EraEntered p e ∷ marks) (inl same) = inl (ap (λ (entry : EraEntry). EraEntered entry.proposer entry.era) same)
 marked_entry proposer era (EraEntered p e ∷ marks) (inr there) = inr (marked_entry proposer era marks there)
 marked_entry proposer era (Begun caller call key program ∷ marks) there = inr (marked_entry proposer era marks there)
 marked_entry proposer era (Proposed p ∷ marks) there = inr (marked_entry proposer era marks there)
@@ -130,7 +130,7 @@ quiet_entered m cluster log all id era old now same_id no_promise none still bey
   same_id = same_id ∙ own;
   known = known;
   vault = entered_vault m log id era still beyond vault;
-  cached = subst (AreReady cluster (Entered id (suc era) ∷ log) all id (suc era)) (sym no_promise) (λ key ready h. absurd (contains_none h));
+  cached = subst (ArePromisesHeld cluster (Entered id (suc era) ∷ log) all id (suc era)) (sym no_promise) (λ key ready h. absurd (contains_none h));
   one_each = subst HaveOneEach (sym no_promise) tt;
   none_open = none;
 }

@@ -15,7 +15,7 @@ use Rattle.cas_slot.specs.Message.{tag_of}
 use Rattle.cas_slot.specs.Rules.{key_of}
 use Rattle.cas_record.specs.Logs.Happening.{Happening, Asked, marks_of}
 use Rattle.cas_record.specs.Logs.Lawful.{Cluster, IsWidened, AllEntered}
-use Rattle.cas_record.specs.Laws.{IsOpened}
+use Rattle.cas_record.specs.Laws.{HistoryIsOpened}
 use Rattle.cas_record.specs.Logs.Orderly.{Orderly, MayAskFor, IsAgedOut, IsClear, IsRoundAsk, age_told, never_asked}
 use Rattle.cas_record.specs.Places.{Stands}
 use Rattle.cas_record.proofs.Logs.Clusters.{lawful_more, orderly_more}
@@ -87,7 +87,7 @@ wider_clear cluster wider base later log used key floor more ahead are orderly w
 
 -- ---- the history
 -- a quorum stays one
-wider_opened : {cluster wider : Cluster} {log : List Happening} {key : List ℕ} {floor : Ballot} → IsWidened cluster wider → IsOpened cluster log key floor → IsOpened wider log key floor
+wider_opened : {cluster wider : Cluster} {log : List Happening} {key : List ℕ} {floor : Ballot} → IsWidened cluster wider → HistoryIsOpened cluster log key floor → HistoryIsOpened wider log key floor
 wider_opened w was = record {
   opening = was.opening;
   some = was.some;

@@ -10,7 +10,7 @@ use Rattle.cas_slot.specs.declared.message.Request.{Request}
 use Rattle.cas_slot.specs.declared.message.Tell.{Tell}
 use Rattle.cas_slot.specs.declared.message.Tell.TheVariants as tell
 use Rattle.cas_slot.specs.Contents.{Contents}
-use Rattle.cas_slot.specs.Table.{Handles, IsAnswered}
+use Rattle.cas_slot.specs.Table.{Handles, IsReplyByTable}
 use Rattle.cas_slot.specs.Table as Table
 use Rattle.cas_record.specs.declared.mark.Mark.{Mark}
 use Rattle.cas_record.specs.Logs.Happening.{Happening, Asked, Replied, marks_of}
@@ -19,7 +19,7 @@ use Rattle.cas_record.specs.Logs.Orderly.{Orderly}
 use Rattle.cas_record.specs.Places.{Stands, here}
 use Rattle.cas_record.proofs.Tests.{nat_same, nat_is}
 use Rattle.cas_protocol.specs.Acceptors.{IsElsewhere, IsLeft, deeds_of, votes_of, done_log, answered_log}
-use Rattle.cas_protocol.specs.Laws.{GoesOn}
+use Rattle.cas_protocol.specs.Laws.{LogTellsKept}
 use Rattle.cas_model.specs.Parties.{IsAcceptorTrue, WasMade, IsRoundTell}
 use Rattle.cas_protocol.specs.Protocol.{Made, GlobalState, kept_but, Answers, StopsWithin as StopsWithinEvent}
 use Rattle.cas_model.specs.Frames.Acceptors.{AnswersByTable, StopsWithin, FindsNoMemory, CrashesShelf, StartsShelf, FailsToStart}
@@ -123,8 +123,8 @@ answers {S} {V} m cluster global view request reply acceptor now tells at by ask
     let to = request.to in
     let was = whole.acceptors to acceptor at in
     let new : Contents = m.shelves.contents now.shelf in
-    let answered : IsAnswered to (global.kept to) request reply new =
-    subst (λ (c : Contents). IsAnswered to c request reply new) (was.keeps by.up) (subst (λ (i : ℕ). IsAnswered i (m.shelves.contents acceptor.shelf) request reply new) was.same_id by.table) in
+    let answered : IsReplyByTable to (global.kept to) request reply new =
+    subst (λ (c : Contents). IsReplyByTable to c request reply new) (was.keeps by.up) (subst (λ (i : ℕ). IsReplyByTable i (m.shelves.contents acceptor.shelf) request reply new) was.same_id by.table) in
     let history = keeps cluster whole.meets global whole.history (Answers request reply new asked answered) in
     let up : now.down ≡ false = ap (λ (a : AcceptorView S). a.down) by.acceptor ∙ by.up in
     let started : now.started ≡ true = ap (λ (a : AcceptorView S). a.started) by.acceptor ∙ was.started by.up in
@@ -192,7 +192,7 @@ stops_within {S} m cluster global view request acceptor now tells at by asked wh
     let was = whole.acceptors to acceptor at in
     let down : now.down ≡ true = ap (λ (a : AcceptorView S). a.down) by.acceptor in
     let started : now.started ≡ acceptor.started = ap (λ (a : AcceptorView S). a.started) by.acceptor in
-    let on : GoesOn cluster global.log to (global.kept to) = record { lawful = whole.history.lawful; orderly = whole.history.orderly; tells = whole.history.tells to } in
+    let on : LogTellsKept cluster global.log to (global.kept to) = record { lawful = whole.history.lawful; orderly = whole.history.orderly; tells = whole.history.tells to } in
     replaces m cluster global view to now (record {
       same_id = ap (λ (a : AcceptorView S). a.id) by.acceptor ∙ was.same_id;
       started = λ up. absurd (up_not_down m now up down);

@@ -9,7 +9,7 @@ use Rattle.cas_proposer.specs.Round.{is_of}
 use Rattle.cas_proposer.specs.declared.round.Round.{Round}
 use Rattle.cas_quorum.specs.Quorum.{count_in}
 use Rattle.cas_round.specs.Replies.{is_prepare, is_accept, is_heard, heard as heard_of, is_promise, is_acceptance, confirmers_of, met_by, age_by, is_full}
-use Rattle.cas_round.specs.Round.{IsVerdict}
+use Rattle.cas_round.specs.Round.{IsRoundVerdict}
 use Rattle.cas_round.specs.declared.verdict.RoundVerdict.TheVariants.{Short}
 use Rattle.cas_round.proofs.Lists.{Has, has, has_filter, has_map, has_any}
 use Rattle.cas_slot.specs.declared.message.Ask.{Ask}
@@ -76,7 +76,7 @@ pub short_of : (cluster : Cluster) (log : List Happening) (round : Round) (repli
     → ((x : Phase) → is_of round.phase x ≡ true → is_phase x ≡ true)
     → ((question : Ask) (answer : Tell) → is_phase (phase_of question) ≡ true → IsRoundTell question answer → met_by answer ≡ None → age_by answer ≡ None → is_full answer ≡ false → confirms answer ≡ true)
     → Orderly cluster log → WereMade log replies → IsPhaseHeard round replies [] harmed → asked_in round.era round.phase ≡ members → IsMemberSet members → IsMemberSet harmed → need ≤ length members
-    → IsVerdict members need confirms (heard_of is_phase round.ballot replies) (Short got needed) → needed - got ≤ length harmed
+    → IsRoundVerdict members need confirms (heard_of is_phase round.ballot replies) (Short got needed) → needed - got ≤ length harmed
 short_of cluster log round replies harmed members need is_phase confirms got needed of_phase told orderly were phase_heard asked set_is harmed_is low verdict =
     omega (
       arith,

@@ -27,7 +27,7 @@ use Rattle.cas_proposer.specs.declared.round.Round.{Round}
 use Rattle.cas_quorum.specs.declared.era.Era.{Era}
 use Rattle.cas_slot.specs.Contents.{Contents}
 use Rattle.cas_slot.specs.Message.{phase_of}
-use Rattle.cas_slot.specs.Table.{IsAnswered}
+use Rattle.cas_slot.specs.Table.{IsReplyByTable}
 use Rattle.cas_slot.specs.declared.message.Ask.{Ask}
 use Rattle.cas_slot.specs.declared.message.Ask.TheVariants as ask
 use Rattle.cas_slot.specs.declared.message.Phase.{Phase}
@@ -588,7 +588,7 @@ harms_turn m cluster global old id verdict front caller call down at is_open in_
 
 -- ---- an acceptor answers it
 -- its reply is of the phase that its request is of
-of_answer : (round : Round) (id : ℕ) (old new : Contents) (request : Request) (reply : Reply) → IsAnswered id old request reply new → IsOfPhase round (message.Request request) → IsOfPhase round (message.Reply reply)
+of_answer : (round : Round) (id : ℕ) (old new : Contents) (request : Request) (reply : Reply) → IsReplyByTable id old request reply new → IsOfPhase round (message.Request request) → IsOfPhase round (message.Reply reply)
 of_answer round id old new request reply by of = (ap (is_of round.phase) by.phase ∙ of.0, by.tag ∙ of.1)
 
 -- one more waits behind the others

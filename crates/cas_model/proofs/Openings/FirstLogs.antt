@@ -15,7 +15,7 @@ use Rattle.cas_record.specs.declared.mark.Mark.TheVariants.{Floor, Begun}
 use Rattle.cas_record.specs.Histories.Chain.{is_key, is_ballot, has_calls, opens_at, has_opening}
 use Rattle.cas_record.specs.Logs.Happening.{Happening, Marked, Promised, Took, marks_of}
 use Rattle.cas_record.specs.Logs.Lawful.{Cluster, Lawful, AreFirst, HasOpening, HasSeen, in_promise, in_take, in_ride, slot_told, is_slot}
-use Rattle.cas_record.specs.Legal.{IsOpening, calls_of}
+use Rattle.cas_record.specs.Legal.{IsOpeningFloor, calls_of}
 use Rattle.cas_record.specs.Logs.Listing.{no_slot_told}
 use Rattle.cas_record.specs.Logs.Orderly.{Orderly, age_told}
 use Rattle.cas_record.specs.Places.{At, Stands, here, past}
@@ -215,7 +215,7 @@ state_first (p ∷ older) differ o (inr h) =
 
 -- ---- it is lawful, and each happening has its reason
 -- a floor of another key opens the history of its own
-is_opening : (members : List ℕ) (older : List Opening) (o : Opening) → ((p : Opening) → Contains older p → p.key ≡ o.key → ⊥) → IsOpening o.key (marks_of (first_log members older))
+is_opening : (members : List ℕ) (older : List Opening) (o : Opening) → ((p : Opening) → Contains older p → p.key ≡ o.key → ⊥) → IsOpeningFloor o.key (marks_of (first_log members older))
 is_opening members older o differ = record {
   none_begun = λ caller call key program s. begun (mark_first older (subst (λ (l : List Mark). At (Begun caller call key program) s.older l) (first_marks members older) s.at));
   first = λ {floor} {state} s. same (mark_first older (subst (λ (l : List Mark). At (Floor o.key floor state) s.older l) (first_marks members older) s.at));

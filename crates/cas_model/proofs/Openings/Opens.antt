@@ -25,7 +25,7 @@ use Rattle.cas_slot.specs.declared.slot.Slot.{Slot}
 use Rattle.cas_vault.specs.Vault.{IsPast}
 use Rattle.cas_acceptor.specs.Acceptor.{AcceptorView}
 use Rattle.cas_record.specs.Logs.Happening.{Happening, Took, marks_of}
-use Rattle.cas_record.specs.Laws.{IsOpened}
+use Rattle.cas_record.specs.Laws.{HistoryIsOpened}
 use Rattle.cas_record.specs.Logs.Lawful.{Cluster, ClusterMeets, Lawful, AreFirst, slot_told}
 use Rattle.cas_record.specs.Legal.{IsLegal, HasFloor, calls_of}
 use Rattle.cas_record.specs.Logs.Orderly.{took_it}
@@ -42,8 +42,8 @@ use Rattle.cas_protocol.specs.Acceptors.{told_of, IsAcceptedState}
 use Rattle.cas_model.specs.Council.{Council}
 use Rattle.cas_model.specs.History.{IsLogged, inside, IsFollowed, IsRemembered}
 use Rattle.cas_model.specs.Eras.Listed.{IsCouncilTrue}
-use Rattle.cas_model.specs.Openings.{Opening, mark_of, slot_of, KeysDiffer, Holds, IsOpenAcceptor, IsOpeningOn}
-use Rattle.cas_model.specs.Parties.{AreMessagesTrue, IsEraOf, IsWithin, AreReady, HaveOneEach, HasNone, IsOpenTrue, IsCallerTrue}
+use Rattle.cas_model.specs.Openings.{Opening, mark_of, slot_of, KeysDiffer, HoldsFloors, IsOpenAcceptor, IsOpeningOn}
+use Rattle.cas_model.specs.Parties.{AreMessagesTrue, IsEraOf, VaultKeepsEra, ArePromisesHeld, HaveOneEach, HasNone, IsOpenTrue, IsCallerTrue}
 use Rattle.cas_model.specs.Eras.Course.{entries_in, course_of, IsNoEra, IsCourse, IsCourseOf}
 use Rattle.cas_model.specs.Step.{IsOpening}
 use Rattle.cas_model.specs.View.{Meaning, View, IsAt, era_at, era_in}
@@ -211,7 +211,7 @@ opening_on_logged {S} {V} m shelves disks members used floors view is = logged m
       replied = λ request reply stands. absurd (first_at log first stands.at);
       drawn = λ p stands. absurd (no_proposal stands);
       made = λ x stands. absurd (none_at_nil stands.at);
-      floors = λ key floor has. let of = floor_of has in inr (subst (λ (k : List ℕ). IsOpened cluster log k floor) of.same_key (subst (IsOpened cluster log of.o.key) of.same_ballot (opened of.o of.has)));
+      floors = λ key floor has. let of = floor_of has in inr (subst (λ (k : List ℕ). HistoryIsOpened cluster log k floor) of.same_key (subst (HistoryIsOpened cluster log of.o.key) of.same_ballot (opened of.o of.has)));
       clear = λ key floor has. let of = floor_of has in record {
         era = 0;
         all_in = inl refl;
@@ -244,7 +244,7 @@ opening_on_logged {S} {V} m shelves disks members used floors view is = logged m
         is_in = inl (ap (λ (e : Era). e.number) (era_is p fresh.0));
         not_beyond = λ stands. first_at log first stands.at;
       };
-      cached = subst (AreReady cluster log [] p (era_at view p).number) (sym fresh.1.no_promise) (λ k ready h. absurd (contains_none h));
+      cached = subst (ArePromisesHeld cluster log [] p (era_at view p).number) (sym fresh.1.no_promise) (λ k ready h. absurd (contains_none h));
       one_each = subst HaveOneEach (sym fresh.1.no_promise) tt;
       none_open = subst (λ (r : Option Round). HasNone r desk.cache) (sym fresh.1.none_open) tt;
       round = subst (IsOpenTrue cluster log [] p (era_at view p).number caller (queue_at view.flow p).messages) (sym fresh.1.none_open) (none_under_way view.flow p is.flow);
@@ -312,7 +312,7 @@ opening_on_logged {S} {V} m shelves disks members used floors view is = logged m
         of : (o : Opening) × Has o known × (Floor key floor s.state ≡ mark_of o) → IsFloorOf known key floor
         of found = let same : Floor key floor s.state ≡ Floor found.0.key found.0.ballot found.0.state = found.2 in record { o = found.0; has = found.1; same_key = key_of_floor same; same_ballot = ballot_of_floor same }
 
-    opened : (o : Opening) → Has o known → IsOpened cluster log o.key o.ballot
+    opened : (o : Opening) → Has o known → HistoryIsOpened cluster log o.key o.ballot
     opened o h =
         let stands = floor_in members known o h in
         record {
@@ -334,8 +334,8 @@ opening_on_logged {S} {V} m shelves disks members used floors view is = logged m
         nothing_at : kept id ≡ nothing → kept_at (kept id) key ≡ None
         nothing_at none = ap (λ (c : Contents). kept_at c key) none ∙ none_kept key
 
-        holds : acceptor.down ≡ false → has_member members id ≡ true → Holds floors (kept id)
-        holds up member = subst (Holds floors) (sym (kept_is m view id acceptor at up)) (of.holds member up)
+        holds : acceptor.down ≡ false → has_member members id ≡ true → HoldsFloors floors (kept id)
+        holds up member = subst (HoldsFloors floors) (sym (kept_is m view id acceptor at up)) (of.holds member up)
 
         by_cases : (acceptor.down ≡ true) ⊎ (acceptor.down ≡ false) → (has_member members id ≡ true) ⊎ (has_member members id ≡ false) → Finds key known → Keeps known (has_member members id) key (kept_at (kept id) key)
         by_cases (inl down) (inr other) found = keeps_none (λ member. absurd (not_both (has_member members id) member other)) (nothing_at (kept_down m view id acceptor at down))
@@ -398,7 +398,7 @@ followed_on m shelves disks members used floors view is = record {
     none_beyond = λ number beyond. first_alone view.last_proposer members number (omega (arith, beyond));
   });
   in_eras = λ id desk at. let fresh = is.desks id desk at in
-      (fresh.0, inside (subst (λ (e : Era). IsWithin m.disks e.number e.number desk.vault) (sym (ap (λ (l : List Era). era_in l id) is.eras ∙ get_or-replicate 17 id (majority_era 0 members) (majority_era 0 []) (omega (arith, fresh.0, is.few)))) (fresh.1.in_era disks)));
+      (fresh.0, inside (subst (λ (e : Era). VaultKeepsEra m.disks e.number e.number desk.vault) (sym (ap (λ (l : List Era). era_in l id) is.eras ∙ get_or-replicate 17 id (majority_era 0 members) (majority_era 0 []) (omega (arith, fresh.0, is.few)))) (fresh.1.in_era disks)));
 }
 
 pub remembered_on : {S V : Type 0} (m : Meaning S V) → m.shelves.tells → m.disks.tells → (members used : List ℕ) (floors : List Opening) (view : View S V) → IsOpeningOn m members used floors view → IsRemembered m view
@@ -421,7 +421,7 @@ opening_on_none m members view is = record {
   acceptors = λ id acceptor at. let fresh = is.acceptors id acceptor at in record {
     same_id = fresh.same_id;
     started = fresh.started;
-    holds = λ member up. subst (Holds []) (sym (fresh.keeps up)) (record { each = λ o h. absurd (contains_none h); no_other = λ key no. none_kept key });
+    holds = λ member up. subst (HoldsFloors []) (sym (fresh.keeps up)) (record { each = λ o h. absurd (contains_none h); no_other = λ key no. none_kept key });
     keeps = λ other up. fresh.keeps up;
     lasts = fresh.lasts;
     not_started = fresh.not_started;

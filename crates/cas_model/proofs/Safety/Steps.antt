@@ -8,7 +8,7 @@ use Rattle.cas_record.specs.declared.answer.Answer.TheVariants as answer
 use Rattle.cas_record.specs.declared.answer.Cause.TheVariants as cause
 use Rattle.cas_record.specs.declared.operator.OpAnswer.{OpAnswer}
 use Rattle.cas_model.specs.Council.{PlanView}
-use Rattle.cas_model.specs.Eras.Course.{HasFewMembers, course_of, next_era, shown_era, era_shown, IsUnderWay, IsCourse}
+use Rattle.cas_model.specs.Eras.Course.{HasFewMembers, course_of, next_era, shown_era, era_shown, CourseIsUnderWay, IsCourse}
 use Rattle.cas_model.specs.Exchanges.Step.{told_view}
 use Rattle.cas_model.specs.Calls.Desks.{Crashes}
 use Rattle.cas_model.specs.Stops.Step.{CrashesDesk, broken_off_view, closed_by_crash}
@@ -33,7 +33,7 @@ use Rattle.cas_model.proofs.Eras.OnCourse.{left_course}
 next_sets : {S V : Type 0} (old : View S V) (next : Era) → IsCourse (course_of old) → next_era old.council.plan ≡ Some next → IsMemberSet next.prep × IsMemberSet next.acc × HasFewMembers next
 next_sets old next is is_next = by_plan old.council.plan is.under_way is_next
   where
-    by_plan : (plan : Option PlanView) → IsUnderWay (course_of old) plan → next_era plan ≡ Some next → IsMemberSet next.prep × IsMemberSet next.acc × HasFewMembers next
+    by_plan : (plan : Option PlanView) → CourseIsUnderWay (course_of old) plan → next_era plan ≡ Some next → IsMemberSet next.prep × IsMemberSet next.acc × HasFewMembers next
     by_plan None under_way none = absurd (cc none)
     by_plan (Some plan) under_way enters = let follows = (leads plan.progress.era next plan.progress.left enters under_way.start).follows in (follows.prep_set, follows.acc_set, follows.few)
 

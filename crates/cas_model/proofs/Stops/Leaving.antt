@@ -15,7 +15,7 @@ use Rattle.cas_record.specs.Logs.Happening.{Happening, marks_of}
 use Rattle.cas_record.specs.Logs.Lawful.{Cluster}
 use Rattle.cas_record.specs.Legal.{IsProposed, harms_due}
 use Rattle.cas_model.specs.History.{IsLogged}
-use Rattle.cas_model.specs.Parties.{AreMessagesTrue, IsVaultTrue, AreReady, HaveOneEach, IsDeskTrue, IsToldTrue, IsCallTrue, IsCallerTrue}
+use Rattle.cas_model.specs.Parties.{AreMessagesTrue, IsVaultTrue, ArePromisesHeld, HaveOneEach, IsDeskTrue, IsToldTrue, IsCallTrue, IsCallerTrue}
 use Rattle.cas_protocol.specs.Protocol.{Made, GlobalState}
 use Rattle.cas_model.specs.Stops.Step as stops
 use Rattle.cas_model.specs.Stops.Step.{closed_by, closed_by_crash, LeavesRound, GoesDown}
@@ -88,7 +88,7 @@ quiet_crashed {S} {V} m cluster log all id era caller waiting desk now still cra
   same_id = ap (λ (d : DeskView V). d.id) crashed ∙ of.same_id;
   known = of.known;
   vault = vault_past m log id era still of.vault;
-  cached = subst (AreReady cluster log all id era) (sym (ap (λ (d : DeskView V). d.cache) crashed)) (λ key ready h. absurd (contains_none h));
+  cached = subst (ArePromisesHeld cluster log all id era) (sym (ap (λ (d : DeskView V). d.cache) crashed)) (λ key ready h. absurd (contains_none h));
   one_each = subst HaveOneEach (sym (ap (λ (d : DeskView V). d.cache) crashed)) tt;
   none_open = ap (λ (d : DeskView V). d.round) crashed;
 }

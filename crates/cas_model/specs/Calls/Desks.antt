@@ -13,16 +13,16 @@ use Rattle.cas_quorum.specs.declared.era.Era.{Era}
 use Rattle.cas_slot.specs.declared.message.Reply.{Reply}
 use Rattle.cas_vault.specs.declared.vault.Vault.{Vault}
 use Rattle.cas_vault.specs.Vault.{disk_of, counter_of, kept_of, IsPast}
-use Rattle.cas_model.specs.Parties.{IsWithin, IsAged}
+use Rattle.cas_model.specs.Parties.{VaultKeepsEra, IsAged}
 use Rattle.cas_model.specs.View.{DiskMeaning}
 
 -- ---- vaults
 -- the vault is past all that it was past, at the ages that it was, and in the same eras, wherever it stops; the count of its disk's faults
 -- does not fall
-pub record GoesOn {V : Type 0} (m : DiskMeaning V) (old new : Vault V) : Type 0 where
+pub record VaultGoesOn {V : Type 0} (m : DiskMeaning V) (old new : Vault V) : Type 0 where
   pub still_past : m.tells → (n : ℕ) → IsPast m.may_leave n old → IsPast m.may_leave n new
   pub ages : m.tells → (age : ℕ) → IsAged m age old → IsAged m age new
-  pub era : m.tells → (era other : ℕ) → IsWithin m era other old → IsWithin m era other new
+  pub era : m.tells → (era other : ℕ) → VaultKeepsEra m era other old → VaultKeepsEra m era other new
   pub never_falls : m.faults (disk_of old) ≤ m.faults (disk_of new)
 
 -- a ballot of this proposer was drawn, and is never drawn again
@@ -30,12 +30,12 @@ pub record HasDrawn {V : Type 0} (m : DiskMeaning V) (id : ℕ) (old new : Vault
   pub draws : Draws id old new ballot
   pub fits : FitsBallot ballot
   pub past : m.tells → IsPast m.may_leave ballot.counter new
-  pub goes_on : GoesOn m old new
+  pub goes_on : VaultGoesOn m old new
 
 -- what it shows stays
 pub record HasKept {V : Type 0} (m : DiskMeaning V) (old new : Vault V) : Type 0 where
   pub shows : ShowsTheSame old new
-  pub goes_on : GoesOn m old new
+  pub goes_on : VaultGoesOn m old new
 
 -- the ballot that may ride: one that was drawn, or none
 abbrev pub MayHaveDrawn : {V : Type 0} → DiskMeaning V → ℕ → Vault V → Vault V → Option Ballot → Type 0
@@ -79,7 +79,7 @@ pub record HearsReply {V : Type 0} (old new : DeskView V) (round heard : Round) 
 pub record EndsRound {V : Type 0} (m : DiskMeaning V) (old new : DeskView V) (round : Round) (offered : Option Ready) : Type 0 where
   pub desk : new ≡ record old { vault = new.vault; cache = cache_after round offered old.cache; round = None }
   pub counter : counter_of new.vault ≡ counter_after (counter_of old.vault) round.met
-  pub goes_on : GoesOn m old.vault new.vault
+  pub goes_on : VaultGoesOn m old.vault new.vault
 
 -- ---- failures
 -- its vault failed in a draw, and the count of its disk's faults rose: a round that was open ends
@@ -88,7 +88,7 @@ pub record FailsToDraw {V : Type 0} (m : DiskMeaning V) (key : List ℕ) (old ne
   pub cache : (new.cache ≡ old.cache) ⊎ (new.cache ≡ without key old.cache)
   pub counter : counter_of new.vault ≡ counter_without old.round (counter_of old.vault)
   pub kept : kept_of new.vault ≡ kept_of old.vault
-  pub goes_on : GoesOn m old.vault new.vault
+  pub goes_on : VaultGoesOn m old.vault new.vault
   pub faulted : Rose (m.faults (disk_of old.vault)) (m.faults (disk_of new.vault))
 
 -- No memory was found: a ballot may be drawn, the promise of the key may be gone, and a round that was open ends.
@@ -99,11 +99,11 @@ pub record LosesMemory {V : Type 0} (m : DiskMeaning V) (key : List ℕ) (old ne
   pub drawn : MayHaveDrawn m old.id old.vault middle ballot
   pub counter : counter_of new.vault ≡ counter_without old.round (counter_of middle)
   pub kept : kept_of new.vault ≡ kept_of middle
-  pub goes_on : GoesOn m middle new.vault
+  pub goes_on : VaultGoesOn m middle new.vault
 
 pub record Crashes {V : Type 0} (m : DiskMeaning V) (old new : DeskView V) : Type 0 where
   pub crashed : IsCrashed old new
-  pub goes_on : GoesOn m old.vault new.vault
+  pub goes_on : VaultGoesOn m old.vault new.vault
 
 -- ---- eras
 -- it works in this era from now on: no promise stays, and a round that was open ends
@@ -112,7 +112,7 @@ pub record EntersEra {V : Type 0} (m : DiskMeaning V) (era : Era) (old new : Des
   pub desk : new ≡ record old { vault = new.vault; cache = []; round = None }
   pub still_past : m.tells → (n : ℕ) → IsPast m.may_leave n old.vault → IsPast m.may_leave n new.vault
   pub ages : m.tells → (age : ℕ) → IsAged m age old.vault → IsAged m age new.vault
-  pub in_era : m.tells → IsWithin m era.number era.number new.vault
+  pub in_era : m.tells → VaultKeepsEra m era.number era.number new.vault
   pub never_falls : m.faults (disk_of old.vault) ≤ m.faults (disk_of new.vault)
 
 -- its vault failed within that, and the count of its disk's faults rose: it is down, and a crash leaves the vault in the era or as it was
@@ -121,7 +121,7 @@ pub record FailsToEnter {V : Type 0} (m : DiskMeaning V) (era : Era) (old new : 
   pub crashed : IsCrashed old new
   pub still_past : m.tells → (n : ℕ) → IsPast m.may_leave n old.vault → IsPast m.may_leave n new.vault
   pub ages : m.tells → (age : ℕ) → IsAged m age old.vault → IsAged m age new.vault
-  pub torn : m.tells → (number : ℕ) → IsWithin m number number old.vault → IsWithin m number era.number new.vault
+  pub torn : m.tells → (number : ℕ) → VaultKeepsEra m number number old.vault → VaultKeepsEra m number era.number new.vault
   pub faulted : Rose (m.faults (disk_of old.vault)) (m.faults (disk_of new.vault))
 
 -- ---- ages
@@ -132,13 +132,13 @@ pub record Renews {V : Type 0} (m : DiskMeaning V) (key : List ℕ) (tomb : Ball
   pub one_more : age ≡ (kept_of old.vault).age + 1
   pub past : m.tells → IsPast m.may_leave tomb.counter new.vault
   pub aged : m.tells → IsAged m age new.vault
-  pub goes_on : GoesOn m old.vault new.vault
+  pub goes_on : VaultGoesOn m old.vault new.vault
 
 -- its vault failed within that, and the count of its disk's faults rose: it is down, and a crash leaves the vault at the new age or as it was
 pub record FailsToRenew {V : Type 0} (m : DiskMeaning V) (old new : DeskView V) : Type 0 where
   pub up : old.down ≡ false
   pub crashed : IsCrashed old new
-  pub goes_on : GoesOn m old.vault new.vault
+  pub goes_on : VaultGoesOn m old.vault new.vault
   pub faulted : Rose (m.faults (disk_of old.vault)) (m.faults (disk_of new.vault))
 
 -- no memory was found for that: the counter is at least the tombstone's, and all else stays
@@ -146,7 +146,7 @@ pub record FindsNoAge {V : Type 0} (m : DiskMeaning V) (tomb : Ballot) (old new 
   pub desk : new ≡ record old { vault = new.vault }
   pub counter : counter_of new.vault ≡ max (counter_of old.vault) tomb.counter
   pub kept : kept_of new.vault ≡ kept_of old.vault
-  pub goes_on : GoesOn m old.vault new.vault
+  pub goes_on : VaultGoesOn m old.vault new.vault
 
 -- ---- restarts
 -- A desk is up again, in the era that its vault showed, or stays down.
@@ -154,6 +154,6 @@ pub record Restarts {V : Type 0} (m : DiskMeaning V) (old new : DeskView V) : Ty
   pub desk : new ≡ record old { vault = new.vault; down = new.down }
   pub still_past : m.tells → (n : ℕ) → IsPast m.may_leave n old.vault → IsPast m.may_leave n new.vault
   pub ages : m.tells → (age : ℕ) → IsAged m age old.vault → IsAged m age new.vault
-  pub shows : new.down ≡ false → m.tells → (era other : ℕ) → IsWithin m era other old.vault → IsWithin m era era new.vault ⊎ IsWithin m other other new.vault
-  pub stays : new.down ≡ true → m.tells → (era other : ℕ) → IsWithin m era other old.vault → IsWithin m era other new.vault
+  pub shows : new.down ≡ false → m.tells → (era other : ℕ) → VaultKeepsEra m era other old.vault → VaultKeepsEra m era era new.vault ⊎ VaultKeepsEra m other other new.vault
+  pub stays : new.down ≡ true → m.tells → (era other : ℕ) → VaultKeepsEra m era other old.vault → VaultKeepsEra m era other new.vault
   pub never_falls : m.faults (disk_of old.vault) ≤ m.faults (disk_of new.vault)

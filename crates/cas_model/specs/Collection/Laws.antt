@@ -35,9 +35,9 @@ use Rattle.cas_model.specs.View.{Meaning, View, IsAt, era_at}
 
 -- ---- what is under way
 -- the message waits in a queue, or is late
-pub data IsUnderWay {S V : Type 0} (view : View S V) (each : Message) : Type 0 where
-  waits : (place : ℕ) → Contains (queue_at view.flow place).messages each → IsUnderWay view each
-  is_late : Contains view.flow.late each → IsUnderWay view each
+pub data MessageIsUnderWay {S V : Type 0} (view : View S V) (each : Message) : Type 0 where
+  waits : (place : ℕ) → Contains (queue_at view.flow place).messages each → MessageIsUnderWay view each
+  is_late : Contains view.flow.late each → MessageIsUnderWay view each
 
 -- the acceptor is up, and a member of an era in which a proposer works
 pub record IsMemberUp {S V : Type 0} (view : View S V) (id : ℕ) (acceptor : AcceptorView S) : Type 0 where
@@ -51,7 +51,7 @@ pub record IsMemberUp {S V : Type 0} (view : View S V) (id : ℕ) (acceptor : Ac
 -- age is below the least age that the member asks its proposer for, whatever a crash now leaves of the member's shelf.
 abbrev pub RequestsAreAged : {S V : Type 0} → Meaning S V → Type 0
 RequestsAreAged {S} {V} m = m.shelves.tells → m.disks.tells → (view : View S V) (key : List ℕ) (floor : Ballot) (id : ℕ) (acceptor : AcceptorView S) (request : Request) (left : Contents)
-    → IsSafe view → IsRemembered m view → HasFloor key floor (reverse view.marks) → IsMemberUp view id acceptor → IsUnderWay view (message.Request request) → request.to ≡ id → IsRoundAsk request.ask → key_of request.ask ≡ key
+    → IsSafe view → IsRemembered m view → HasFloor key floor (reverse view.marks) → IsMemberUp view id acceptor → MessageIsUnderWay view (message.Request request) → request.to ≡ id → IsRoundAsk request.ask → key_of request.ask ≡ key
     → BallotAtMost (tag_of request.ask) floor → m.shelves.may_leave acceptor.shelf (Ok left) → request.age < least_age left.ages request.from
 
 -- ---- removals

@@ -16,12 +16,12 @@ use Rattle.cas_model.specs.View.{View, era_in}
 
 -- ---- what is seen of it
 -- a proposer entered an era
-pub record Entry : Type 0 where
+pub record EraEntry : Type 0 where
   pub proposer : ℕ
   pub era : ℕ
 
 -- as the marks tell, in their order
-abbrev pub entries_in : List Mark → List Entry
+abbrev pub entries_in : List Mark → List EraEntry
 entries_in [] = []
 entries_in (EraEntered proposer era ∷ marks) = record { proposer = proposer; era = era } ∷ entries_in marks
 entries_in (other ∷ marks) = entries_in marks
@@ -31,7 +31,7 @@ pub record Course : Type 0 where
   -- the era of each proposer, at the place of its number
   pub eras : List Era
   pub plan : Option PlanView
-  pub entries : List Entry
+  pub entries : List EraEntry
 
 abbrev pub course_of : {S V : Type 0} → View S V → Course
 course_of view = record { last_proposer = view.last_proposer; eras = view.eras; plan = view.council.plan; entries = entries_in view.marks }
@@ -118,27 +118,27 @@ pub data WorksIn (plan : PlanView) (id : ℕ) (era : Era) : Type 0 where
   entered : entering plan.progress.left ≡ Some era → WorksIn plan id era
 
 -- With one, its steps are a path from the era that all entered last. Some proposers may work in the next one, but not all are marked so.
-pub record IsMoving (course : Course) (plan : PlanView) : Type 0 where
+pub record EraIsMoving (course : Course) (plan : PlanView) : Type 0 where
   pub start : IsStart plan.progress.era plan.progress.left
   pub some_left : plan.entered ≤ course.last_proposer
   pub none_entered : entering plan.progress.left ≡ None → plan.entered ≡ 0
   pub each : (id : ℕ) → id ≤ course.last_proposer → WorksIn plan id (era_in course.eras id)
 
-abbrev pub IsUnderWay : Course → Option PlanView → Type 0
-IsUnderWay course None = IsSettled course
-IsUnderWay course (Some plan) = IsMoving course plan
+abbrev pub CourseIsUnderWay : Course → Option PlanView → Type 0
+CourseIsUnderWay course None = IsSettled course
+CourseIsUnderWay course (Some plan) = EraIsMoving course plan
 
 -- All are marked as in the last era that all entered, unless it is the first; and in the next one just those that the change has led there.
 pub record AreEntries (course : Course) : Type 0 where
   pub all : 0 < (base_era course).number → (id : ℕ) → id ≤ course.last_proposer → Contains course.entries (record { proposer = id; era = (base_era course).number })
   pub led : (id : ℕ) → id < entered_by course.plan → Contains course.entries (record { proposer = id; era = suc (base_era course).number })
-  pub none_beyond : (entry : Entry) → Contains course.entries entry → (entry.era ≤ (base_era course).number) ⊎ ((entry.era ≡ suc (base_era course).number) × (entry.proposer < entered_by course.plan))
+  pub none_beyond : (entry : EraEntry) → Contains course.entries entry → (entry.era ≤ (base_era course).number) ⊎ ((entry.era ≡ suc (base_era course).number) × (entry.proposer < entered_by course.plan))
   pub counted : (base_era course).number ≤ length course.entries
 
 pub record IsCourse (course : Course) : Type 0 where
   pub few : course.last_proposer ≤ 16
   pub places : length course.eras ≡ 17
-  pub under_way : IsUnderWay course course.plan
+  pub under_way : CourseIsUnderWay course course.plan
   pub sized : (id : ℕ) → id ≤ course.last_proposer → IsSized (era_in course.eras id)
   pub entries : AreEntries course
 

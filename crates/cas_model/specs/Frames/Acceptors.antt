@@ -4,8 +4,8 @@ use Rattle.cas_base.specs.Faults.{Rose}
 use Rattle.cas_slot.specs.declared.message.Reply.{Reply}
 use Rattle.cas_slot.specs.declared.message.Request.{Request}
 use Rattle.cas_slot.specs.Contents.{nothing}
-use Rattle.cas_slot.specs.Shelf.{Left, OnlyLeaves, IsSettled}
-use Rattle.cas_slot.specs.Table.{IsAnswered}
+use Rattle.cas_slot.specs.Shelf.{Left, OnlyLeaves, NothingIsPending}
+use Rattle.cas_slot.specs.Table.{IsReplyByTable}
 use Rattle.cas_acceptor.specs.Acceptor.{AcceptorView, LeavesByTable}
 use Rattle.cas_model.specs.View.{ShelfMeaning}
 
@@ -13,7 +13,7 @@ use Rattle.cas_model.specs.View.{ShelfMeaning}
 pub record AnswersByTable {S : Type 0} (m : ShelfMeaning S) (old new : AcceptorView S) (request : Request) (reply : Reply) : Type 0 where
   pub up : old.down ≡ false
   pub acceptor : new ≡ record old { shelf = new.shelf }
-  pub table : IsAnswered old.id (m.contents old.shelf) request reply (m.contents new.shelf)
+  pub table : IsReplyByTable old.id (m.contents old.shelf) request reply (m.contents new.shelf)
   pub lasts : m.tells → OnlyLeaves (m.contents new.shelf) (m.may_leave new.shelf)
   pub never_falls : m.faults old.shelf ≤ m.faults new.shelf
 
@@ -35,7 +35,7 @@ pub record FindsNoMemory {S : Type 0} (m : ShelfMeaning S) (old new : AcceptorVi
 -- nothing is pending on its shelf's disk then, and a crash left what it might leave
 pub record CrashesShelf {S : Type 0} (m : ShelfMeaning S) (old new : AcceptorView S) : Type 0 where
   pub acceptor : new ≡ record old { down = true; shelf = new.shelf }
-  pub settled : m.tells → IsSettled (m.may_leave old.shelf) (m.may_leave new.shelf)
+  pub settled : m.tells → NothingIsPending (m.may_leave old.shelf) (m.may_leave new.shelf)
   pub never_falls : m.faults old.shelf ≤ m.faults new.shelf
 
 -- a shelf that never started is started, and another is reopened as a crash left it

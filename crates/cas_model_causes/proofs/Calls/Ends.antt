@@ -17,7 +17,7 @@ use Rattle.cas_model.specs.Stops.Step.{OpenCallAt}
 use Rattle.cas_model.specs.Calls.Step as calls
 use Rattle.cas_model.specs.View.{Meaning, View, CallView, CallerView, IsAt, new_call, era_at}
 use Rattle.cas_model.proofs.Places.{at_one, at_set, some_is}
-use Rattle.cas_model_causes.specs.Calls.Causes.{IsTold, BeginsOne, prepares, accepts, begins_none, PrepareEnds, proposes, refuses, vault_fails, no_memory, AcceptEnds, done, unsettled, RoundsBeginAfresh, PreparesEndByReplies, AcceptsEndByReplies}
+use Rattle.cas_model_causes.specs.Calls.Causes.{CallIsTold, BeginsAtMostOne, prepares, accepts, begins_none, PrepareEnds, proposes, refuses, vault_fails, no_memory, AcceptEnds, done, unsettled, RoundsBeginAfresh, PreparesEndByReplies, AcceptsEndByReplies}
 use Rattle.cas_model_causes.specs.Calls.Rounds.{Brings, nothing, one, RoundSteps, none, one_more, PreparesWith, AcceptsWith}
 
 -- ---- along the steps
@@ -67,7 +67,7 @@ quorum_accepted round prepared replies quorum is = by_phase round.phase quorum i
     by_phase (Accept phase) quorum after = sym (ap₂ (λ (e : Era) (l : List ℕ). holds_acc e l) after.same_era after.tally.confirmed) ∙ quorum
 
 -- ---- what is told
-pub told_by : {S V : Type 0} (old new : View S V) (id : ℕ) (caller : CallerView) (next : CallView) → IsAt old.callers id caller → new.callers ≡ slice_set old.callers id (record caller { call = Some next }) → IsTold new id next.told
+pub told_by : {S V : Type 0} (old new : View S V) (id : ℕ) (caller : CallerView) (next : CallView) → IsAt old.callers id caller → new.callers ≡ slice_set old.callers id (record caller { call = Some next }) → CallIsTold new id next.told
 told_by old new id caller next at callers = record {
   caller = record caller { call = Some next };
   at_caller = subst (λ (l : List CallerView). IsAt l id (record caller { call = Some next })) (sym callers) (at_set old.callers id caller (record caller { call = Some next }) at);
@@ -142,7 +142,7 @@ begin_afresh {S} {V} m old new id key program by = in_round by.begins
     idle_now : (desk now : DeskView V) → IsAt by.middle.desks id desk → now.round ≡ None → new.desks ≡ slice_set by.middle.desks id now → (seen : DeskView V) → IsAt new.desks id seen → seen.round ≡ None
     idle_now desk now at none_open same seen at_seen = ap (λ (d : DeskView V). d.round) (at_one new.desks id at_seen (desk_by by.middle new id desk now at same)) ∙ none_open
 
-    in_round : calls.BeginsRound m by.middle id by.caller by.call new → BeginsOne new id
+    in_round : calls.BeginsRound m by.middle id by.caller by.call new → BeginsAtMostOne new id
     in_round (calls.prepares desk now ballot round flow at up few begins sends is) = prepares round
         (record { desk = now; at_desk = desk_by by.middle new id desk now at (ap (λ (w : View S V). w.desks) is); is_open = ap (λ (d : DeskView V). d.round) begins.desk; preparing = begins.opened.1 })
         (record {

@@ -32,7 +32,7 @@ use Rattle.cas_model.specs.Frames.Step as frames
 use Rattle.cas_model.specs.View.{Meaning, View, CallView, IsAt}
 use Rattle.cas_model.proofs.Places.{at_one, at_set}
 use Rattle.cas_model_causes.specs.Calls.Causes.{StepsPassOrBring}
-use Rattle.cas_model_causes.specs.Calls.Rounds.{IsUnderWay, Brings, nothing, one}
+use Rattle.cas_model_causes.specs.Calls.Rounds.{ReplyIsUnderWay, Brings, nothing, one}
 
 -- ---- desks
 pub at_other : {A : Type 0} (all : List A) (place : ℕ) (x : A) (p : ℕ) (y : A) → p ≢ place → IsAt all p y → IsAt (slice_set all place x) p y
@@ -118,7 +118,7 @@ down_passes {S} {V} DeskTurns old new id proposer other (stops.of_operator middl
 
 -- ---- frames
 -- a reply arrives at a desk
-arrives : {S V : Type 0} (old new : View S V) (id place : ℕ) (reply : Reply) (desk now : DeskView V) (round heard : Round) → (place ≡ id → IsUnderWay old id reply) → IsAt old.desks place desk → desk.round ≡ Some round → HearsReply desk now round heard reply
+arrives : {S V : Type 0} (old new : View S V) (id place : ℕ) (reply : Reply) (desk now : DeskView V) (round heard : Round) → (place ≡ id → ReplyIsUnderWay old id reply) → IsAt old.desks place desk → desk.round ≡ Some round → HearsReply desk now round heard reply
     → new.desks ≡ slice_set old.desks place now → Something old new id
 arrives {S} {V} old new id place reply desk now round heard way at is_open hears same = elim (true_or_false (nat_eq place id)) [
   | inl here ↦

@@ -36,15 +36,15 @@ use Rattle.cas_model.specs.Frames.Step.{replied_flow}
 use Rattle.cas_model.specs.View.{Meaning, View, CallView, CallerView, IsAt}
 use Rattle.cas_model.proofs.Places.{at_one, at_set, some_is, queue_other, same_or_not}
 use Rattle.cas_model_causes.specs.Calls.Rounds.{IsOwnCall}
-use Rattle.cas_model_causes.specs.Calls.Undisturbed.{HasProposed}
+use Rattle.cas_model_causes.specs.Calls.Undisturbed.{CallHasProposed}
 use Rattle.cas_model_causes.proofs.Calls.Hearing.{at_other}
 
 -- ---- what was proposed
 abbrev pub KeepsProposed : List CallerView → List CallerView → ℕ → Type 0
-KeepsProposed old new id = (outcome : Outcome) → HasProposed old id outcome → HasProposed new id outcome
+KeepsProposed old new id = (outcome : Outcome) → CallHasProposed old id outcome → CallHasProposed new id outcome
 
 keeps_same : (old new : List CallerView) (id : ℕ) → new ≡ old → KeepsProposed old new id
-keeps_same old new id same outcome was = subst (λ (l : List CallerView). HasProposed l id outcome) (sym same) was
+keeps_same old new id same outcome was = subst (λ (l : List CallerView). CallHasProposed l id outcome) (sym same) was
 
 -- another caller changes
 keeps_other : (old new : List CallerView) (id place : ℕ) (next : CallerView) → id ≢ place → new ≡ slice_set old place next → KeepsProposed old new id

@@ -38,13 +38,13 @@ use Rattle.cas_model.specs.Council.{reserved_by}
 use Rattle.cas_model.specs.Calls.Step as calls
 use Rattle.cas_model.specs.View.{Meaning, View, CallView, CallerView, IsAt, new_call, new_caller, reserved_of, era_at}
 use Rattle.cas_model.proofs.Places.{at_one, at_set, set_set, some_is}
-use Rattle.cas_model_causes.specs.Calls.Causes.{IsTold}
+use Rattle.cas_model_causes.specs.Calls.Causes.{CallIsTold}
 use Rattle.cas_model_causes.specs.Calls.Told.{HasVerdict, BeginsBy, PreparesBy, AcceptsBy, TellsAbove, AnswersHaveCauses, WhatIsMetIsAbove}
 use Rattle.cas_model_causes.proofs.Calls.Ends.{told_by, desk_by, quorum_accepted, quorum_prepared}
 
 -- ---- what is told
 -- a caller is told one thing at a time
-pub told_once : {S V : Type 0} (view : View S V) (id : ℕ) (told other : Option Answer) → IsTold view id told → IsTold view id other → told ≡ other
+pub told_once : {S V : Type 0} (view : View S V) (id : ℕ) (told other : Option Answer) → CallIsTold view id told → CallIsTold view id other → told ≡ other
 told_once view id told other a b =
     let same : a.caller ≡ b.caller = at_one view.callers id a.at_caller b.at_caller in
     let call : a.call ≡ b.call = some_is (sym a.is_open ∙ ap (λ (c : CallerView). c.call) same ∙ b.is_open) in
@@ -113,7 +113,7 @@ stays_by m old middle new id key call (answer.Unsettled _) is no_beginning desks
 stays_by m old middle new id key call answer.Spent is no_beginning desks full = absurd no_beginning
 stays_by m old middle new id key call answer.VaultFault is no_beginning desks full = absurd no_beginning
 
-pub begins_by : {S V : Type 0} (m : Meaning S V) (old new : View S V) (id : ℕ) (key : List ℕ) (program : List Clause) (told : Answer) → Step m old (Begin id key program) new → IsTold new id (Some told) → BeginsBy m old id key told new
+pub begins_by : {S V : Type 0} (m : Meaning S V) (old new : View S V) (id : ℕ) (key : List ℕ) (program : List Clause) (told : Answer) → Step m old (Begin id key program) new → CallIsTold new id (Some told) → BeginsBy m old id key told new
 begins_by {S} {V} m old new id key program told by was = in_round by.begins
   where
     opened : IsOpened old by.middle id key by.call
@@ -153,7 +153,7 @@ refuses_by m old new id (verdict.Full acceptor) told has is = subst (λ (a : Ans
 refuses_by m old new id (verdict.Short got need) told has is = subst (λ (a : Answer). PreparesBy m old id a new) (some_is is) (verdict.Short got need, has, refl)
 refuses_by m old new id verdict.Quorum told has is = absurd (cc is)
 
-pub prepares_by : {S V : Type 0} (m : Meaning S V) (old new : View S V) (id : ℕ) (told : Answer) → Step m old (Propose id) new → IsTold new id (Some told) → PreparesBy m old id told new
+pub prepares_by : {S V : Type 0} (m : Meaning S V) (old new : View S V) (id : ℕ) (told : Answer) → Step m old (Propose id) new → CallIsTold new id (Some told) → PreparesBy m old id told new
 prepares_by {S} {V} m old new id told by was = in_phase by.at_round.of_call by.at_round.desk by.at_round.at_desk by.at_round.round by.at_round.is_open by.proposes
   where
     in_phase : (at : OpenCallAt old id) (desk : DeskView V) → IsAt old.desks id desk → (round : Round) → desk.round ≡ Some round → calls.ProposesOrEnds m old id desk round at.caller at.call new → PreparesBy m old id told new
@@ -178,7 +178,7 @@ has_quorum_verdict round quorum = record {
   accept = λ prepared replies is. quorum_accepted round prepared replies quorum is;
 }
 
-pub accepts_by : {S V : Type 0} (m : Meaning S V) (old new : View S V) (id : ℕ) (told : Answer) → Step m old (Count id) new → IsTold new id (Some told) → AcceptsBy old id told
+pub accepts_by : {S V : Type 0} (m : Meaning S V) (old new : View S V) (id : ℕ) (told : Answer) → Step m old (Count id) new → CallIsTold new id (Some told) → AcceptsBy old id told
 accepts_by {S} {V} m old new id told by was = in_phase by.at_round.of_call by.at_round.desk by.at_round.at_desk by.at_round.round by.at_round.is_open by.counts
   where
     in_phase : (at : OpenCallAt old id) (desk : DeskView V) → IsAt old.desks id desk → (round : Round) → desk.round ≡ Some round → calls.CountsOrEnds m old id desk round at.caller at.call new → AcceptsBy old id told

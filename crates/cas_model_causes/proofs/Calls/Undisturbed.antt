@@ -20,7 +20,7 @@ use Rattle.cas_record.specs.declared.answer.Answer.TheVariants as answer
 use Rattle.cas_record.specs.declared.answer.Cause.{Cause}
 use Rattle.cas_record.specs.declared.mark.Proposal.{Proposal}
 use Rattle.cas_round.specs.Replies.{is_prepare, is_accept, heard, is_promise, is_acceptance, confirmers_of}
-use Rattle.cas_round.specs.Round.{IsVerdict}
+use Rattle.cas_round.specs.Round.{IsRoundVerdict}
 use Rattle.cas_round.specs.declared.verdict.RoundVerdict.{RoundVerdict}
 use Rattle.cas_round.specs.declared.verdict.RoundVerdict.TheVariants as verdict
 use Rattle.cas_round.proofs.Lists.{contains}
@@ -42,9 +42,9 @@ use Rattle.cas_model.proofs.Places.{at_one, at_set, some_is, contains_none}
 use Rattle.cas_model.proofs.Calls.Safe.{opens_safe}
 use Rattle.cas_model.proofs.Safety.Parts.{idle_at, desk_low}
 use Rattle.cas_model.proofs.Safety.Steps.{steps_are_safe}
-use Rattle.cas_model_causes.specs.Calls.Causes.{IsTold}
+use Rattle.cas_model_causes.specs.Calls.Causes.{CallIsTold}
 use Rattle.cas_model_causes.specs.Calls.Rounds.{RoundSteps, none, one_more, PreparesWith}
-use Rattle.cas_model_causes.specs.Calls.Undisturbed.{AreUndisturbed, HasProposed, PreparesAfresh, AcceptsAfresh, ProposesUndisturbed, proposes, vault_fails, no_memory, BeginsToAsk, RoundsBeginToAsk, UndisturbedPreparesPropose, UndisturbedAcceptsAreDone, UndisturbedRoundsAreDone}
+use Rattle.cas_model_causes.specs.Calls.Undisturbed.{AreUndisturbed, CallHasProposed, PreparesAfresh, AcceptsAfresh, ProposesUndisturbed, proposes, vault_fails, no_memory, BeginsToAsk, RoundsBeginToAsk, UndisturbedPreparesPropose, UndisturbedAcceptsAreDone, UndisturbedRoundsAreDone}
 use Rattle.cas_model_causes.proofs.Calls.Coming.{IsKind, prepare_kind, accept_kind, Confirms, Coming, step_comes, quorum_more}
 use Rattle.cas_model_causes.proofs.Calls.Ends.{told_by, desk_by, ridden, prepare_steps}
 use Rattle.cas_model_causes.proofs.Calls.Queues.{KeepsProposed, Stays, OwnTurn, stays_or_turn, turn_proposed}
@@ -101,7 +101,7 @@ all_confirmed desks messages id set asked begun need coming empty quorum = quoru
 ]) quorum
 
 -- a verdict where there is a quorum
-quorum_verdict : (members : List ℕ) (need : ℕ) (confirms : Tell → Bool) (replies : List Reply) (v : RoundVerdict) → IsVerdict members need confirms replies v → has_quorum need members (confirmers_of confirms replies) ≡ true → v ≡ verdict.Quorum
+quorum_verdict : (members : List ℕ) (need : ℕ) (confirms : Tell → Bool) (replies : List Reply) (v : RoundVerdict) → IsRoundVerdict members need confirms replies v → has_quorum need members (confirmers_of confirms replies) ≡ true → v ≡ verdict.Quorum
 quorum_verdict members need confirms replies verdict.Quorum is quorum = refl
 quorum_verdict members need confirms replies (verdict.Met ballot) is quorum = absurd (not_both _ quorum is.0)
 quorum_verdict members need confirms replies (verdict.Aged least) is quorum = absurd (not_both _ quorum is.0)
@@ -111,10 +111,10 @@ quorum_verdict members need confirms replies (verdict.Short got needed) is quoru
 -- the verdict of the round that is open then: its era, its members and how many of them it needs are those with which it began
 pub ends_with_quorum : {V : Type 0} {is_phase : Phase → Bool} {confirms : Tell → Bool} {IsIn : List Reply → Round → Type 0} (kind : IsKind is_phase confirms IsIn) (desks : List (DeskView V)) (messages : List Message) (id : ℕ) (set : List ℕ) (members : Era → List ℕ) (need : Era → ℕ) (begun seen : Round) (v : RoundVerdict)
     → (coming : Coming is_phase confirms IsIn desks messages id set (members begun.era) begun) → messages ≡ [] → has_quorum (need begun.era) (members begun.era) set ≡ true → seen ≡ coming.round
-    → (IsIn coming.replies seen → IsVerdict (members seen.era) (need seen.era) confirms (heard is_phase seen.ballot coming.replies) v) → v ≡ verdict.Quorum
+    → (IsIn coming.replies seen → IsRoundVerdict (members seen.era) (need seen.era) confirms (heard is_phase seen.ballot coming.replies) v) → v ≡ verdict.Quorum
 ends_with_quorum {V} {is_phase} {confirms} {IsIn} kind desks messages id set members need begun seen v coming empty quorum same is =
     quorum_verdict (members begun.era) (need begun.era) confirms (heard is_phase begun.ballot coming.replies) v
-    (subst (λ (r : Round). IsVerdict (members r.era) (need r.era) confirms (heard is_phase r.ballot coming.replies) v) (same ∙ coming.is_open.same) (is (subst (IsIn coming.replies) (sym same) coming.is_open.within)))
+    (subst (λ (r : Round). IsRoundVerdict (members r.era) (need r.era) confirms (heard is_phase r.ballot coming.replies) v) (same ∙ coming.is_open.same) (is (subst (IsIn coming.replies) (sym same) coming.is_open.within)))
     (subst (λ (b : Ballot). has_quorum (need begun.era) (members begun.era) (confirmers_of confirms (heard is_phase b coming.replies)) ≡ true) (ap (λ (r : Round). r.ballot) coming.is_open.same)
     (subst (λ (l : List ℕ). has_quorum (need begun.era) (members begun.era) l ≡ true) (kind.confirmed coming.round coming.replies coming.is_open.within) confirmed))
   where
@@ -134,7 +134,7 @@ seen_is {V} desks id desk other seen round at is_open there other_open = some_is
 
 -- ---- what was proposed
 -- the caller's call proposes it
-proposed_by : {S V : Type 0} (old new : View S V) (id : ℕ) (caller : CallerView) (call : CallView) (outcome : Outcome) → IsAt old.callers id caller → new.callers ≡ slice_set old.callers id (record caller { call = Some (calls.proposing call outcome) }) → HasProposed new.callers id outcome
+proposed_by : {S V : Type 0} (old new : View S V) (id : ℕ) (caller : CallerView) (call : CallView) (outcome : Outcome) → IsAt old.callers id caller → new.callers ≡ slice_set old.callers id (record caller { call = Some (calls.proposing call outcome) }) → CallHasProposed new.callers id outcome
 proposed_by old new id caller call outcome at callers = record {
   caller = record caller { call = Some (calls.proposing call outcome) };
   at_caller = subst (λ (l : List CallerView). IsAt l id (record caller { call = Some (calls.proposing call outcome) })) (sym callers) (at_set old.callers id caller (record caller { call = Some (calls.proposing call outcome) }) at);
@@ -144,7 +144,7 @@ proposed_by old new id caller call outcome at callers = record {
 }
 
 -- and no other outcome
-one_outcome : (callers : List CallerView) (id : ℕ) (caller : CallerView) (call : CallView) (outcome other : Outcome) → IsAt callers id caller → caller.call ≡ Some call → HasProposed callers id outcome → call.proposed ≡ Some other → other ≡ outcome
+one_outcome : (callers : List CallerView) (id : ℕ) (caller : CallerView) (call : CallView) (outcome other : Outcome) → IsAt callers id caller → caller.call ≡ Some call → CallHasProposed callers id outcome → call.proposed ≡ Some other → other ≡ outcome
 one_outcome callers id caller call outcome other at is_open has is =
     let same : call ≡ has.call = some_is (sym is_open ∙ ap (λ (c : CallerView). c.call) (at_one callers id at has.at_caller) ∙ has.is_open) in
     some_is (sym is ∙ ap (λ (c : CallView). c.proposed) same ∙ has.proposed)
@@ -219,11 +219,11 @@ accepts_are_done {S} {V} m first_ mid new id set prepared replies round outcome 
     now : Coming is_accept is_acceptance (IsAccepting prepared) mid.desks (queue_at mid.flow id).messages id set round.era.acc round
     now = at_end.coming
 
-    in_phase : (of_call : OpenCallAt mid id) (desk : DeskView V) → IsAt mid.desks id desk → (seen : Round) → desk.round ≡ Some seen → calls.CountsOrEnds m mid id desk seen of_call.caller of_call.call new → IsTold new id (Some (answer.Done outcome.state outcome.took round.ballot))
+    in_phase : (of_call : OpenCallAt mid id) (desk : DeskView V) → IsAt mid.desks id desk → (seen : Round) → desk.round ≡ Some seen → calls.CountsOrEnds m mid id desk seen of_call.caller of_call.call new → CallIsTold new id (Some (answer.Done outcome.state outcome.took round.ballot))
     in_phase at desk at_desk seen is_open (calls.counts next by_them other has confirmers proposed ends is) =
         let same : seen ≡ now.round = seen_is mid.desks id desk now.is_open.desk seen now.round at_desk is_open now.is_open.at_desk now.is_open.is_open in
-        subst (λ (o : Outcome). IsTold new id (Some (answer.Done o.state o.took round.ballot))) (one_outcome mid.callers id at.caller at.call outcome other at.at_caller at.is_open (at_end.proposed outcome fresh.proposed) proposed)
-        (subst (λ (b : Ballot). IsTold new id (Some (answer.Done other.state other.took b))) (ap (λ (r : Round). r.ballot) (same ∙ now.is_open.same))
+        subst (λ (o : Outcome). CallIsTold new id (Some (answer.Done o.state o.took round.ballot))) (one_outcome mid.callers id at.caller at.call outcome other at.at_caller at.is_open (at_end.proposed outcome fresh.proposed) proposed)
+        (subst (λ (b : Ballot). CallIsTold new id (Some (answer.Done other.state other.took b))) (ap (λ (r : Round). r.ballot) (same ∙ now.is_open.same))
         (told_by mid new id at.caller (calls.over at.call (answer.Done other.state other.took seen.ballot)) at.at_caller (ap (λ (w : View S V). w.callers) is)))
     in_phase at desk at_desk seen is_open (calls.ends next v why verdict_is cause ends is) =
         let same : seen ≡ now.round = seen_is mid.desks id desk now.is_open.desk seen now.round at_desk is_open now.is_open.at_desk now.is_open.is_open in
@@ -260,7 +260,7 @@ begins_to_prepare new id age desk round at is_open preparing waits = record {
   accepts = λ seen was. absurd (one_phase [] [] [] seen (subst (IsPreparing []) (seen_is new.desks id desk was.desk round seen at is_open was.at_desk was.is_open) preparing) was.accepting);
 }
 
-begins_to_accept : {S V : Type 0} (new : View S V) (id age : ℕ) (desk : DeskView V) (round : Round) (outcome : Outcome) → IsAt new.desks id desk → desk.round ≡ Some round → IsAccepting [] [] round → HasProposed new.callers id outcome
+begins_to_accept : {S V : Type 0} (new : View S V) (id age : ℕ) (desk : DeskView V) (round : Round) (outcome : Outcome) → IsAt new.desks id desk → desk.round ≡ Some round → IsAccepting [] [] round → CallHasProposed new.callers id outcome
     → (queue_at new.flow id).messages ≡ accepts_to id age round.key round.ballot round.era.number round.ride outcome.state round.era.acc → BeginsToAsk new id
 begins_to_accept new id age desk round outcome at is_open accepting proposed waits = record {
   prepares = λ seen was. absurd (one_phase [] [] [] seen was.preparing (subst (IsAccepting [] []) (seen_is new.desks id desk was.desk round seen at is_open was.at_desk was.is_open) accepting));
@@ -309,26 +309,26 @@ safe_along m id first_ mid replies none safe = safe
 safe_along m id first_ mid replies (one_more {before = before} {mid = middle} event steps not_own by brings) safe = steps_are_safe m middle event mid (safe_along m id first_ middle before steps safe) by
 
 -- what a caller is told is one thing
-told_one : {S V : Type 0} (view : View S V) (id : ℕ) (a b : Option Answer) → IsTold view id a → IsTold view id b → a ≡ b
+told_one : {S V : Type 0} (view : View S V) (id : ℕ) (a b : Option Answer) → CallIsTold view id a → CallIsTold view id b → a ≡ b
 told_one view id a b is other =
     let same : is.call ≡ other.call = some_is (sym is.is_open ∙ ap (λ (c : CallerView). c.call) (at_one view.callers id is.at_caller other.at_caller) ∙ other.is_open) in
     sym is.told_is ∙ ap (λ (c : CallView). c.told) same ∙ other.told_is
 
 -- a round that has begun to ask in its prepare phase
 pub done_after : {S V : Type 0} (m : Meaning S V) (first_ mid turned last new : View S V) (id : ℕ) (promising accepting : List ℕ) (promised accepted : List Reply) (round : Round) (to_prepare : RoundSteps m id first_ promised mid) (to_accept : RoundSteps m id turned accepted last)
-    → IsSafe first_ → holds_prep round.era promising ≡ true → holds_acc round.era accepting ≡ true → PreparesAfresh first_ id round → AreUndisturbed m id promising first_ mid promised to_prepare → step.Step m mid (step.Propose id) turned → IsTold turned id None
-    → AreUndisturbed m id accepting turned last accepted to_accept → step.Step m last (step.Count id) new → (outcome : Outcome) × HasProposed turned.callers id outcome × IsTold new id (Some (answer.Done outcome.state outcome.took round.ballot))
+    → IsSafe first_ → holds_prep round.era promising ≡ true → holds_acc round.era accepting ≡ true → PreparesAfresh first_ id round → AreUndisturbed m id promising first_ mid promised to_prepare → step.Step m mid (step.Propose id) turned → CallIsTold turned id None
+    → AreUndisturbed m id accepting turned last accepted to_accept → step.Step m last (step.Count id) new → (outcome : Outcome) × CallHasProposed turned.callers id outcome × CallIsTold new id (Some (answer.Done outcome.state outcome.took round.ballot))
 done_after {S} {V} m first_ mid turned last new id promising accepting promised accepted round to_prepare to_accept safe_first prep acc afresh_first undisturbed_before proposes_it told undisturbed_after counts =
     goes_on (prepares_propose m first_ mid turned id promising promised round to_prepare safe_first afresh_first prep undisturbed_before proposes_it)
   where
     safe_turned : IsSafe turned
     safe_turned = steps_are_safe m mid (step.Propose id) turned (safe_along m id first_ mid promised to_prepare safe_first) proposes_it
 
-    goes_on : ProposesUndisturbed m mid turned id promised round → (outcome : Outcome) × HasProposed turned.callers id outcome × IsTold new id (Some (answer.Done outcome.state outcome.took round.ballot))
+    goes_on : ProposesUndisturbed m mid turned id promised round → (outcome : Outcome) × CallHasProposed turned.callers id outcome × CallIsTold new id (Some (answer.Done outcome.state outcome.took round.ballot))
     goes_on (proposes goes outcome same afresh none_told) = (
       outcome,
       afresh.proposed,
-      subst (λ (b : Ballot). IsTold new id (Some (answer.Done outcome.state outcome.took b))) (ap (λ (r : Round). r.ballot) same)
+      subst (λ (b : Ballot). CallIsTold new id (Some (answer.Done outcome.state outcome.took b))) (ap (λ (r : Round). r.ballot) same)
           (accepts_are_done m turned last new id accepting promised accepted goes outcome to_accept safe_turned afresh (subst (λ (e : Era). holds_acc e accepting ≡ true) (sym (ap (λ (r : Round). r.era) same)) acc) undisturbed_after counts),
     )
     goes_on (vault_fails faulted fault_told) = absurd (cc (told_one turned id None (Some answer.VaultFault) told fault_told))

@@ -17,7 +17,7 @@ use Rattle.cas_model.specs.Exchanges.Step.{told_view}
 use Rattle.cas_model.specs.View.{Meaning, View, CallerView, IsAt, era_at}
 use Rattle.cas_model.proofs.Places.{at_one, some_is}
 use Rattle.cas_model.proofs.Safety.Steps.{steps_are_safe}
-use Rattle.cas_model_causes.specs.Calls.Causes.{IsTold}
+use Rattle.cas_model_causes.specs.Calls.Causes.{CallIsTold}
 use Rattle.cas_model_causes.specs.Collection.Collects.{RefusesBy, IsStoppedBy, CollectionsHaveCauses, CollectionsBeginToAsk, UndisturbedCollectionsAreDone}
 use Rattle.cas_model_causes.specs.Calls.Told.{HasVerdict, BeginsBy, AcceptsBy}
 use Rattle.cas_model_causes.specs.Calls.Undisturbed.{BeginsToAsk}
@@ -26,11 +26,11 @@ use Rattle.cas_model_causes.proofs.Calls.Undisturbed.{begin_to_ask, done_after}
 
 -- ---- what is told
 -- what a caller is told is the same beside any council
-told_beside : {S V : Type 0} (view : View S V) (council : Council) (id : ℕ) (told : Option Answer) → IsTold (record view { council = council }) id told → IsTold view id told
+told_beside : {S V : Type 0} (view : View S V) (council : Council) (id : ℕ) (told : Option Answer) → CallIsTold (record view { council = council }) id told → CallIsTold view id told
 told_beside view council id told was = record { caller = was.caller; at_caller = was.at_caller; call = was.call; is_open = was.is_open; told_is = was.told_is }
 
 -- who has no open call is told nothing
-none_is_told : {S V : Type 0} (old new : View S V) (caller : CallerView) (told : Option Answer) → IsAt old.callers 0 caller → caller.call ≡ None → new.callers ≡ old.callers → IsTold new 0 told → ⊥
+none_is_told : {S V : Type 0} (old new : View S V) (caller : CallerView) (told : Option Answer) → IsAt old.callers 0 caller → caller.call ≡ None → new.callers ≡ old.callers → CallIsTold new 0 told → ⊥
 none_is_told old new caller told at none same was =
     let seen : caller ≡ was.caller = at_one old.callers 0 at (subst (λ (l : List CallerView). IsAt l 0 was.caller) same was.at_caller) in
     let is_none : None ≡ Some was.call = sym none ∙ ap (λ (c : CallerView). c.call) seen ∙ was.is_open in
@@ -42,18 +42,18 @@ refused_callers {S} {V} m old key middle (calls.stays answer council refusal fol
 refused_callers {S} {V} m old key middle (calls.loses caller desk now ballot council at_caller at_desk none up loses follows is) = ap (λ (w : View S V). w.callers) is
 
 -- ---- causes
-begins_so : {S V : Type 0} (m : Meaning S V) (old new : View S V) (key : List ℕ) (told : Answer) → Step m old (BeginCollect key) new → IsTold new 0 (Some told) → BeginsBy m old 0 key told new
+begins_so : {S V : Type 0} (m : Meaning S V) (old new : View S V) (key : List ℕ) (told : Answer) → Step m old (BeginCollect key) new → CallIsTold new 0 (Some told) → BeginsBy m old 0 key told new
 begins_so {S} {V} m old new key told by was = by_case by.begins
   where
     -- the call of proposer 0 begins its round so, and the council is told of it
     as_call : (middle : View S V) (collection : CollectionView) → Step m old (step.Begin 0 key collect.keep_always) middle → new ≡ collect.collecting middle by.may.order None collection → BeginsBy m old 0 key told new
-    as_call middle collection begins is = beside (subst (λ (w : View S V). IsTold w 0 (Some told)) is was)
+    as_call middle collection begins is = beside (subst (λ (w : View S V). CallIsTold w 0 (Some told)) is was)
       where
         by_answer : (a : Answer) → BeginsBy m old 0 key a middle → BeginsBy m old 0 key a (collect.collecting middle by.may.order None collection)
         by_answer answer.VaultFault of = record { desk = of.desk; at_desk = of.at_desk; now = of.now; at_now = of.at_now; rose = of.rose }
         by_answer other of = of
 
-        beside : IsTold (collect.collecting middle by.may.order None collection) 0 (Some told) → BeginsBy m old 0 key told new
+        beside : CallIsTold (collect.collecting middle by.may.order None collection) 0 (Some told) → BeginsBy m old 0 key told new
         beside now = subst (BeginsBy m old 0 key told) (sym is) (by_answer told (begins_by m old middle 0 key collect.keep_always told begins (told_beside middle _ 0 (Some told) now)))
 
     by_case : collect.BeginsCollection m (λ before after. step.StepBegin m before 0 key collect.keep_always after) old key by.may.order by.desk by.caller new → BeginsBy m old 0 key told new
@@ -93,11 +93,11 @@ reads_so : {S V : Type 0} (m : Meaning S V) (old new : View S V) → Step m old 
 reads_so m old new by = record { desk = by.desk; at_desk = by.at_desk; round = by.round; is_round = by.is_round; verdict_is = has_quorum_verdict by.round by.quorum }
 
 -- the call of a collection is counted as any
-counted : {S V : Type 0} (m : Meaning S V) (old new : View S V) (told : Option Answer) (by : Step m old CountCollect new) → IsTold by.middle 0 told → IsTold new 0 told
-counted m old new told by was = subst (λ w. IsTold w 0 told) (sym by.view) (record { caller = was.caller; at_caller = was.at_caller; call = was.call; is_open = was.is_open; told_is = was.told_is })
+counted : {S V : Type 0} (m : Meaning S V) (old new : View S V) (told : Option Answer) (by : Step m old CountCollect new) → CallIsTold by.middle 0 told → CallIsTold new 0 told
+counted m old new told by was = subst (λ w. CallIsTold w 0 told) (sym by.view) (record { caller = was.caller; at_caller = was.at_caller; call = was.call; is_open = was.is_open; told_is = was.told_is })
 
-accepts_so : {S V : Type 0} (m : Meaning S V) (old new : View S V) (told : Answer) → Step m old CountCollect new → IsTold new 0 (Some told) → AcceptsBy old 0 told
-accepts_so {S} {V} m old new told by was = accepts_by m old by.middle 0 told by.counts (told_beside by.middle _ 0 (Some told) (subst (λ (w : View S V). IsTold w 0 (Some told)) by.view was))
+accepts_so : {S V : Type 0} (m : Meaning S V) (old new : View S V) (told : Answer) → Step m old CountCollect new → CallIsTold new 0 (Some told) → AcceptsBy old 0 told
+accepts_so {S} {V} m old new told by was = accepts_by m old by.middle 0 told by.counts (told_beside by.middle _ 0 (Some told) (subst (λ (w : View S V). CallIsTold w 0 (Some told)) by.view was))
 
 pub collections_have_causes : {S V : Type 0} (m : Meaning S V) → CollectionsHaveCauses m
 collections_have_causes m = record { refuses = refuses_so m; begins = begins_so m; reads = reads_so m; accepts = accepts_so m }

@@ -19,7 +19,7 @@ use Rattle.cas_model.specs.Exchanges.Step.{StepTell, SaysTheSame, told_marks}
 use Rattle.cas_model.specs.View.{Meaning, View}
 use Rattle.cas_model.proofs.Collection.Laws.{collected_floors}
 use Rattle.cas_model.proofs.Eras.Finishing.{finished_have_entered}
-use Rattle.cas_model_causes.specs.Eras.Tellings.{HaveAllMoved, IsSo, AreTellingsSo, IsPassing, IsPassingBy, TellsTruly, StepsTellTruly}
+use Rattle.cas_model_causes.specs.Eras.Tellings.{HaveAllMoved, IsSo, AreTellingsSo, IsPassing, IsPassingBy, TellingsAreTrue, StepsTellTruly}
 use Rattle.cas_model_causes.proofs.Marks.{IsPlain, ArePlain, Adds, adds_by, tells_or_not}
 
 -- ---- marks
@@ -99,14 +99,14 @@ told_more marks asks (told.Absent acceptor) = inr refl
 told_more marks asks (told.ProposerDown proposer) = inr refl
 told_more marks asks (told.Stopped why) = inr refl
 
-module _ {S V : Type 0} (m : Meaning S V) (old new : View S V) (were : TellsTruly old) where
+module _ {S V : Type 0} (m : Meaning S V) (old new : View S V) (were : TellingsAreTrue old) where
   abbrev P : ℕ
   P = suc old.last_proposer
 
   as_many : new.last_proposer ≡ old.last_proposer → AreTellingsSo P (reverse new.marks) → AreTellingsSo (suc new.last_proposer) (reverse new.marks)
   as_many last_proposer so = subst (λ (g : ℕ). AreTellingsSo (suc g) (reverse new.marks)) (sym last_proposer) so
 
-  tells_so : (asks : Asked) (answer : OpAnswer) → IsSo P answer (reverse old.marks) → new.last_proposer ≡ old.last_proposer → new.council.order ≡ None → new.marks ≡ old.marks ++ told_marks asks answer → TellsTruly new
+  tells_so : (asks : Asked) (answer : OpAnswer) → IsSo P answer (reverse old.marks) → new.last_proposer ≡ old.last_proposer → new.council.order ≡ None → new.marks ≡ old.marks ++ told_marks asks answer → TellingsAreTrue new
   tells_so asks answer so last_proposer none marks = elim (told_more old.marks asks answer) [
     | inl unmarked ↦ let same : new.marks ≡ old.marks = marks ∙ ap (λ (l : List Mark). old.marks ++ l) unmarked ∙ append-nil old.marks in record {
       tellings = as_many last_proposer (subst (λ (l : List Mark). AreTellingsSo P (reverse l)) (sym same) were.tellings);
@@ -137,7 +137,7 @@ module _ {S V : Type 0} (m : Meaning S V) (old new : View S V) (were : TellsTrul
   finished_so (asked.Collect key) answer era rescanned is entered = absurd is
   finished_so (asked.Probe key) answer era rescanned is entered = absurd is
 
-  told_then : (answer : OpAnswer) → IsSafe old → IsRemembered m old → StepTell old answer new → TellsTruly new
+  told_then : (answer : OpAnswer) → IsSafe old → IsRemembered m old → StepTell old answer new → TellingsAreTrue new
   told_then answer safe remembered (council.tells order said is_open was says is) =
       tells_so order.asked answer (passing_so P answer (reverse old.marks) (same_passing said answer says (subst (λ (o : Option OpAnswer). IfSome o IsPassing) was (subst IsPassingBy is_open were.passing))))
       (ap (λ (v : View S V). v.last_proposer) is) (ap (λ (v : View S V). v.council.order) is) (ap (λ (v : View S V). v.marks) is)
@@ -148,7 +148,7 @@ module _ {S V : Type 0} (m : Meaning S V) (old new : View S V) (were : TellsTrul
       tells_so order.asked answer (subst (λ (a : OpAnswer). IsSo P a (reverse old.marks)) (sym by.tells) (subst (λ (a : OpAnswer). HasItsFloor a (reverse old.marks)) by.tells (collected_floors m old order answer remembered by)))
       (ap (λ (v : View S V). v.last_proposer) is) (ap (λ (v : View S V). v.council.order) is) (ap (λ (v : View S V). v.marks) is)
 
-  added_then : Adds old new → TellsTruly new
+  added_then : Adds old new → TellingsAreTrue new
   added_then adds = record {
     tellings = as_many adds.last_proposer (subst (λ (l : List Mark). AreTellingsSo P (reverse l)) (sym adds.marks) (plain_so P old.marks adds.more adds.plain were.tellings));
     passing = adds.passing were.passing;

@@ -17,7 +17,7 @@ use Rattle.cas_record.specs.declared.operator.OpAnswer.{OpAnswer}
 use Rattle.cas_record.specs.declared.operator.OpAnswer.TheVariants as op
 use Rattle.cas_model.specs.Collection.State.{CollectionView, tomb_of}
 use Rattle.cas_model.specs.Council.{MemberPlace, ListingView, Question, Probe, NextKeys, NewAges, Removal, ExchangeView, OrderView, PlanView, Council, with_listing, without_partial, stepped, telling, told_so, broken_off, crashed_in}
-use Rattle.cas_model.specs.Eras.Course.{Course, course_of, entries_in, entering, next_era, IsUnderWay, IsCourse, not_yet, entered}
+use Rattle.cas_model.specs.Eras.Course.{Course, course_of, entries_in, entering, next_era, CourseIsUnderWay, IsCourse, not_yet, entered}
 use Rattle.cas_model.specs.Safe.{IsSafe}
 use Rattle.cas_model.specs.Step as step
 use Rattle.cas_model.specs.Step.{Step, StepEnd}
@@ -516,8 +516,8 @@ enter_unled {S} {V} m old new id safe by unled = by_case by.enters
     entering_is : entering by.plan.progress.left ≡ Some by.next
     entering_is = ap next_era (sym by.may.is_plan) ∙ by.may.is_next
 
-    moving : IsUnderWay (course_of old) (Some by.plan)
-    moving = subst (IsUnderWay (course_of old)) by.may.is_plan safe.course.under_way
+    moving : CourseIsUnderWay (course_of old) (Some by.plan)
+    moving = subst (CourseIsUnderWay (course_of old)) by.may.is_plan safe.course.under_way
 
     worked : 0 < by.plan.entered → era_in old.eras 0 ≡ by.next
     worked some = elim (moving.each 0 (omega arith)) [
@@ -594,7 +594,7 @@ probes_ask_all {S} {V} m = record {
 -- proposer 0 works where it was marked last, since it is not ahead of that
 not_ahead : {S V : Type 0} (view : View S V) → IsSafe view → IsUnled (course_of view) → IsAhead view → ⊥
 not_ahead view safe unled ahead =
-    let moving : IsUnderWay (course_of view) (Some ahead.plan) = subst (IsUnderWay (course_of view)) ahead.is_plan safe.course.under_way in
+    let moving : CourseIsUnderWay (course_of view) (Some ahead.plan) = subst (CourseIsUnderWay (course_of view)) ahead.is_plan safe.course.under_way in
     let follows = (leads ahead.plan.progress.era (era_at view 0) ahead.plan.progress.left (ap next_era (sym ahead.is_plan) ∙ ahead.next) moving.start).follows in
     let same : (era_at view 0).number ≡ ahead.plan.progress.era.number = ap (λ (e : Era). e.number) (unled ahead.plan ahead.is_plan ahead.unmarked) in
     omega (arith, follows.number, same)

@@ -23,7 +23,7 @@ use Rattle.cas_record.proofs.PlaceLemmas.{deeper, stands_deeper, stands_part, ne
 use Rattle.cas_record.proofs.Tests.{nat_same}
 use Rattle.cas_slot.specs.declared.message.Ask.TheVariants as ask
 use Rattle.cas_model.specs.Council.{PlanView}
-use Rattle.cas_model.specs.Eras.Course.{course_of, base_of, base_era, IsUnderWay, not_yet, entered, next_era, entered_by as entered_in}
+use Rattle.cas_model.specs.Eras.Course.{course_of, base_of, base_era, CourseIsUnderWay, not_yet, entered, next_era, entered_by as entered_in}
 use Rattle.cas_model.specs.History.{IsRemembered}
 use Rattle.cas_model.specs.Parties.{IsEraOf}
 use Rattle.cas_model.specs.Safe.{IsSafe}
@@ -208,7 +208,7 @@ in_next m view safe is same some =
 pub eras_are_marked : {S V : Type 0} (m : Meaning S V) → ErasAreMarked m
 eras_are_marked {S} {V} m view safe is = by_plan view.council.plan refl safe.course.under_way
   where
-    by_plan : (plan : Option PlanView) → view.council.plan ≡ plan → IsUnderWay (course_of view) plan → ((era_at view 0).number ≡ era_marked 0 (reverse view.marks)) ⊎ IsAhead view
+    by_plan : (plan : Option PlanView) → view.council.plan ≡ plan → CourseIsUnderWay (course_of view) plan → ((era_at view 0).number ≡ era_marked 0 (reverse view.marks)) ⊎ IsAhead view
     by_plan None none settled =
         inl (in_base m view safe is (sym (ap (λ (p : Option PlanView). (base_of p view.eras).number) none)) (ap entered_in none))
     by_plan (Some plan) is_plan moving = elim (moving.each 0 (omega arith)) [

@@ -18,7 +18,7 @@ use Rattle.cas_model_causes.specs.Calls.Rounds.{IsOwnCall, Brings, RoundSteps, P
 
 -- ---- what is told
 -- the caller's open call was told this, or nothing yet
-pub record IsTold {S V : Type 0} (view : View S V) (id : ℕ) (told : Option Answer) : Type 0 where
+pub record CallIsTold {S V : Type 0} (view : View S V) (id : ℕ) (told : Option Answer) : Type 0 where
   pub caller : CallerView
   pub at_caller : IsAt view.callers id caller
   pub call : CallView
@@ -32,21 +32,21 @@ StepsPassOrBring {S} {V} m = (old new : View S V) (id : ℕ) (event : Event) →
 
 -- ---- the prepare phase
 -- a call begins a round in its prepare phase with no reply yet, one in its accept phase, or none
-pub data BeginsOne {S V : Type 0} (new : View S V) (id : ℕ) : Type 0 where
-  prepares : (round : Round) → PreparesWith new.desks id [] round → IsTold new id None → BeginsOne new id
-  accepts : (round : Round) → AcceptsWith new.desks id [] [] round → IsTold new id None → BeginsOne new id
-  begins_none : (told : Answer) → ((desk : DeskView V) → IsAt new.desks id desk → desk.round ≡ None) → IsTold new id (Some told) → BeginsOne new id
+pub data BeginsAtMostOne {S V : Type 0} (new : View S V) (id : ℕ) : Type 0 where
+  prepares : (round : Round) → PreparesWith new.desks id [] round → CallIsTold new id None → BeginsAtMostOne new id
+  accepts : (round : Round) → AcceptsWith new.desks id [] [] round → CallIsTold new id None → BeginsAtMostOne new id
+  begins_none : (told : Answer) → ((desk : DeskView V) → IsAt new.desks id desk → desk.round ≡ None) → CallIsTold new id (Some told) → BeginsAtMostOne new id
 
 abbrev pub RoundsBeginAfresh : {S V : Type 0} → Meaning S V → Type 0
-RoundsBeginAfresh {S} {V} m = (old new : View S V) (id : ℕ) (key : List ℕ) (program : List Clause) → Step m old (Begin id key program) new → BeginsOne new id
+RoundsBeginAfresh {S} {V} m = (old new : View S V) (id : ℕ) (key : List ℕ) (program : List Clause) → Step m old (Begin id key program) new → BeginsAtMostOne new id
 
 -- The end of the prepare phase after these replies: with a quorum of promises it proposes, and its accept phase begins with no reply yet,
 -- unless the vault fails or no memory is found; without one the caller is told the refusal of their verdict.
 pub data PrepareEnds {S V : Type 0} (new : View S V) (id : ℕ) (replies : List Reply) (round : Round) : Type 0 where
-  proposes : (turned : Round) → IsPrepareVerdict round.era round.ballot replies Quorum → AcceptsWith new.desks id replies [] turned → IsTold new id None → PrepareEnds new id replies round
-  refuses : (verdict : RoundVerdict) (answer : Answer) → IsPrepareVerdict round.era round.ballot replies verdict → refusal_by verdict ≡ Some answer → IsTold new id (Some answer) → PrepareEnds new id replies round
-  vault_fails : IsTold new id (Some answer.VaultFault) → PrepareEnds new id replies round
-  no_memory : IsTold new id (Some (answer.NoMemory false)) → PrepareEnds new id replies round
+  proposes : (turned : Round) → IsPrepareVerdict round.era round.ballot replies Quorum → AcceptsWith new.desks id replies [] turned → CallIsTold new id None → PrepareEnds new id replies round
+  refuses : (verdict : RoundVerdict) (answer : Answer) → IsPrepareVerdict round.era round.ballot replies verdict → refusal_by verdict ≡ Some answer → CallIsTold new id (Some answer) → PrepareEnds new id replies round
+  vault_fails : CallIsTold new id (Some answer.VaultFault) → PrepareEnds new id replies round
+  no_memory : CallIsTold new id (Some (answer.NoMemory false)) → PrepareEnds new id replies round
 
 abbrev pub PreparesEndByReplies : {S V : Type 0} → Meaning S V → Type 0
 PreparesEndByReplies {S} {V} m = (first mid new : View S V) (id : ℕ) (replies : List Reply) (round : Round) → PreparesWith first.desks id [] round → RoundSteps m id first replies mid → Step m mid (Propose id) new
@@ -56,8 +56,8 @@ PreparesEndByReplies {S} {V} m = (first mid new : View S V) (id : ℕ) (replies 
 -- The end of the accept phase after these replies: with a quorum of acceptances the change is done, and without one it is unsettled by the
 -- cause of their verdict.
 pub data AcceptEnds {S V : Type 0} (new : View S V) (id : ℕ) (replies : List Reply) (round : Round) : Type 0 where
-  done : (outcome : Outcome) → IsAcceptVerdict round.era round.ballot replies Quorum → IsTold new id (Some (answer.Done outcome.state outcome.took round.ballot)) → AcceptEnds new id replies round
-  unsettled : (verdict : RoundVerdict) (why : Cause) → IsAcceptVerdict round.era round.ballot replies verdict → cause_by verdict ≡ Some why → IsTold new id (Some (answer.Unsettled why)) → AcceptEnds new id replies round
+  done : (outcome : Outcome) → IsAcceptVerdict round.era round.ballot replies Quorum → CallIsTold new id (Some (answer.Done outcome.state outcome.took round.ballot)) → AcceptEnds new id replies round
+  unsettled : (verdict : RoundVerdict) (why : Cause) → IsAcceptVerdict round.era round.ballot replies verdict → cause_by verdict ≡ Some why → CallIsTold new id (Some (answer.Unsettled why)) → AcceptEnds new id replies round
 
 abbrev pub AcceptsEndByReplies : {S V : Type 0} → Meaning S V → Type 0
 AcceptsEndByReplies {S} {V} m = (first mid new : View S V) (id : ℕ) (prepared replies : List Reply) (round : Round) → AcceptsWith first.desks id prepared [] round → RoundSteps m id first replies mid → Step m mid (Count id) new

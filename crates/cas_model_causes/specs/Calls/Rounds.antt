@@ -28,13 +28,13 @@ IsOwnCall id (Renew proposer) = proposer ≡ id
 IsOwnCall id other = ⊥
 
 -- a reply waited in front of the proposer's own frames, or among the late ones
-abbrev pub IsUnderWay : {S V : Type 0} → View S V → ℕ → Reply → Type 0
-IsUnderWay view id reply = IsAt (queue_at view.flow id).messages 0 (message.Reply reply) ⊎ ((index : ℕ) × IsAt view.flow.late index (message.Reply reply))
+abbrev pub ReplyIsUnderWay : {S V : Type 0} → View S V → ℕ → Reply → Type 0
+ReplyIsUnderWay view id reply = IsAt (queue_at view.flow id).messages 0 (message.Reply reply) ⊎ ((index : ℕ) × IsAt view.flow.late index (message.Reply reply))
 
 -- the replies that a step brings to the round of the proposer, of which there is one at most
 pub data Brings {S V : Type 0} (old new : View S V) (id : ℕ) : List Reply → Type 0 where
   nothing : ((desk : DeskView V) → IsAt old.desks id desk → (now : DeskView V) × IsAt new.desks id now × (now.round ≡ desk.round)) → Brings old new id []
-  one : (reply : Reply) (desk now : DeskView V) (round heard : Round) → IsUnderWay old id reply → IsAt old.desks id desk → desk.round ≡ Some round → HearsReply desk now round heard reply → IsAt new.desks id now
+  one : (reply : Reply) (desk now : DeskView V) (round heard : Round) → ReplyIsUnderWay old id reply → IsAt old.desks id desk → desk.round ≡ Some round → HearsReply desk now round heard reply → IsAt new.desks id now
       → Brings old new id (reply ∷ [])
 
 -- steps of anybody between two calls of the proposer's own, and the replies that they brought, the last one first

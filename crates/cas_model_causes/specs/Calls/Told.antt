@@ -18,7 +18,7 @@ use Rattle.cas_model.specs.History.{IsRemembered}
 use Rattle.cas_model.specs.Step.{Step, Begin, Propose, Count}
 use Rattle.cas_model.specs.Calls.Step.{IsFull, refusal_by, cause_by}
 use Rattle.cas_model.specs.View.{Meaning, DiskMeaning, View, CallerView, IsAt}
-use Rattle.cas_model_causes.specs.Calls.Causes.{IsTold}
+use Rattle.cas_model_causes.specs.Calls.Causes.{CallIsTold}
 
 -- ---- what is seen of a proposer
 -- its desk is down
@@ -80,9 +80,9 @@ TellsAbove view id other = ⊤
 -- ---- the laws
 -- What a call's step tells its caller has its cause.
 pub record AnswersHaveCauses {S V : Type 0} (m : Meaning S V) : Type 0 where
-  pub begins : (old new : View S V) (id : ℕ) (key : List ℕ) (program : List Clause) (told : Answer) → Step m old (Begin id key program) new → IsTold new id (Some told) → BeginsBy m old id key told new
-  pub prepares : (old new : View S V) (id : ℕ) (told : Answer) → Step m old (Propose id) new → IsTold new id (Some told) → PreparesBy m old id told new
-  pub accepts : (old new : View S V) (id : ℕ) (told : Answer) → Step m old (Count id) new → IsTold new id (Some told) → AcceptsBy old id told
+  pub begins : (old new : View S V) (id : ℕ) (key : List ℕ) (program : List Clause) (told : Answer) → Step m old (Begin id key program) new → CallIsTold new id (Some told) → BeginsBy m old id key told new
+  pub prepares : (old new : View S V) (id : ℕ) (told : Answer) → Step m old (Propose id) new → CallIsTold new id (Some told) → PreparesBy m old id told new
+  pub accepts : (old new : View S V) (id : ℕ) (told : Answer) → Step m old (Count id) new → CallIsTold new id (Some told) → AcceptsBy old id told
 
 -- Where shelves and disks tell what they keep, a ballot that a round met is above its own.
 abbrev pub WhatIsMetIsAbove : {S V : Type 0} → Meaning S V → Type 0

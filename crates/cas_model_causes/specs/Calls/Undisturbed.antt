@@ -27,7 +27,7 @@ use Rattle.cas_model.specs.Safe.{IsSafe}
 use Rattle.cas_model.specs.Step.{Event, Begin, Turn, Propose, Count, Step}
 use Rattle.cas_model.specs.Calls.Step.{prepares_to, accepts_to}
 use Rattle.cas_model.specs.View.{Meaning, View, CallView, CallerView, IsAt}
-use Rattle.cas_model_causes.specs.Calls.Causes.{IsTold}
+use Rattle.cas_model_causes.specs.Calls.Causes.{CallIsTold}
 use Rattle.cas_model_causes.specs.Calls.Told.{HasFaulted}
 use Rattle.cas_model_causes.specs.Calls.Rounds.{RoundSteps, none, one_more, PreparesWith, AcceptsWith}
 
@@ -69,7 +69,7 @@ AreUndisturbed m id set first mid replies (one_more {before = before} {mid = mid
 
 -- ---- phases that have just begun
 -- the caller's open call proposed this
-pub record HasProposed (callers : List CallerView) (id : ℕ) (outcome : Outcome) : Type 0 where
+pub record CallHasProposed (callers : List CallerView) (id : ℕ) (outcome : Outcome) : Type 0 where
   pub caller : CallerView
   pub at_caller : IsAt callers id caller
   pub call : CallView
@@ -85,7 +85,7 @@ pub record PreparesAfresh {S V : Type 0} (view : View S V) (id : ℕ) (round : R
 -- likewise, for what the caller's call proposed
 pub record AcceptsAfresh {S V : Type 0} (view : View S V) (id : ℕ) (prepared : List Reply) (round : Round) (outcome : Outcome) : Type 0 where
   pub accepts : AcceptsWith view.desks id prepared [] round
-  pub proposed : HasProposed view.callers id outcome
+  pub proposed : CallHasProposed view.callers id outcome
   pub age : ℕ
   pub waits : (queue_at view.flow id).messages ≡ accepts_to id age round.key round.ballot round.era.number round.ride outcome.state round.era.acc
 
@@ -101,10 +101,10 @@ RoundsBeginToAsk {S} {V} m = (old new : View S V) (id : ℕ) (key : List ℕ) (p
 -- It proposes: the round goes on at its ballot with an accept phase that has just begun. Else its vault failed in this very step, or no
 -- memory was found.
 pub data ProposesUndisturbed {S V : Type 0} (m : Meaning S V) (old new : View S V) (id : ℕ) (replies : List Reply) (round : Round) : Type 0 where
-  proposes : (turned : Round) (outcome : Outcome) → turned ≡ record round { phase = turned.phase; met = turned.met; ride = turned.ride } → AcceptsAfresh new id replies turned outcome → IsTold new id None
+  proposes : (turned : Round) (outcome : Outcome) → turned ≡ record round { phase = turned.phase; met = turned.met; ride = turned.ride } → AcceptsAfresh new id replies turned outcome → CallIsTold new id None
       → ProposesUndisturbed m old new id replies round
-  vault_fails : HasFaulted m.disks old new id → IsTold new id (Some answer.VaultFault) → ProposesUndisturbed m old new id replies round
-  no_memory : IsTold new id (Some (answer.NoMemory false)) → ProposesUndisturbed m old new id replies round
+  vault_fails : HasFaulted m.disks old new id → CallIsTold new id (Some answer.VaultFault) → ProposesUndisturbed m old new id replies round
+  no_memory : CallIsTold new id (Some (answer.NoMemory false)) → ProposesUndisturbed m old new id replies round
 
 -- A prepare phase that a prepare quorum answers, and nothing disturbs with it, proposes.
 abbrev pub UndisturbedPreparesPropose : {S V : Type 0} → Meaning S V → Type 0
@@ -115,13 +115,13 @@ UndisturbedPreparesPropose {S} {V} m = (first mid new : View S V) (id : ℕ) (se
 -- An accept phase that an accept quorum answers, and nothing disturbs with it, is done: with what its call proposed, at its ballot.
 abbrev pub UndisturbedAcceptsAreDone : {S V : Type 0} → Meaning S V → Type 0
 UndisturbedAcceptsAreDone {S} {V} m = (first mid new : View S V) (id : ℕ) (set : List ℕ) (prepared replies : List Reply) (round : Round) (outcome : Outcome) (steps : RoundSteps m id first replies mid) → IsSafe first → AcceptsAfresh first id prepared round outcome
-    → holds_acc round.era set ≡ true → AreUndisturbed m id set first mid replies steps → Step m mid (Count id) new → IsTold new id (Some (answer.Done outcome.state outcome.took round.ballot))
+    → holds_acc round.era set ≡ true → AreUndisturbed m id set first mid replies steps → Step m mid (Count id) new → CallIsTold new id (Some (answer.Done outcome.state outcome.took round.ballot))
 
 -- ---- the round
 -- A round that begins to prepare, proposes and is counted, and that nothing disturbs with a quorum in each phase, is done.
 abbrev pub UndisturbedRoundsAreDone : {S V : Type 0} → Meaning S V → Type 0
 UndisturbedRoundsAreDone {S} {V} m = (old first mid turned last new : View S V) (id : ℕ) (key : List ℕ) (program : List Clause) (promising accepting : List ℕ) (promised accepted : List Reply) (round : Round)
     (to_prepare : RoundSteps m id first promised mid) (to_accept : RoundSteps m id turned accepted last) → IsSafe old → holds_prep round.era promising ≡ true → holds_acc round.era accepting ≡ true
-    → Step m old (Begin id key program) first → PreparesWith first.desks id [] round → AreUndisturbed m id promising first mid promised to_prepare → Step m mid (Propose id) turned → IsTold turned id None
+    → Step m old (Begin id key program) first → PreparesWith first.desks id [] round → AreUndisturbed m id promising first mid promised to_prepare → Step m mid (Propose id) turned → CallIsTold turned id None
     → AreUndisturbed m id accepting turned last accepted to_accept → Step m last (Count id) new
-    → (outcome : Outcome) × HasProposed turned.callers id outcome × IsTold new id (Some (answer.Done outcome.state outcome.took round.ballot))
+    → (outcome : Outcome) × CallHasProposed turned.callers id outcome × CallIsTold new id (Some (answer.Done outcome.state outcome.took round.ballot))

@@ -13,10 +13,10 @@ use Rattle.cas_model.specs.Safe.{IsSafe}
 use Rattle.cas_model.specs.Step.{Step, BeginCollect, Propose, ReadHeld, CountCollect}
 use Rattle.cas_model.specs.Calls.Step.{IsFull}
 use Rattle.cas_model.specs.View.{Meaning, View, CallerView, IsAt}
-use Rattle.cas_model_causes.specs.Calls.Causes.{IsTold}
+use Rattle.cas_model_causes.specs.Calls.Causes.{CallIsTold}
 use Rattle.cas_model_causes.specs.Calls.Rounds.{RoundSteps, PreparesWith}
 use Rattle.cas_model_causes.specs.Calls.Told.{IsDown, HasVerdict, BeginsBy, AcceptsBy}
-use Rattle.cas_model_causes.specs.Calls.Undisturbed.{AreUndisturbed, HasProposed, BeginsToAsk}
+use Rattle.cas_model_causes.specs.Calls.Undisturbed.{AreUndisturbed, CallHasProposed, BeginsToAsk}
 
 -- ---- causes
 -- The collection's call does not begin: proposer 0 is down, the marks of a round do not fit, or there is no memory.
@@ -36,19 +36,19 @@ pub record IsStoppedBy {S V : Type 0} (view : View S V) (answer : Answer) : Type
 -- state is found only by a quorum of promises. And where its prepare phase ends otherwise, that is as of any call.
 pub record CollectionsHaveCauses {S V : Type 0} (m : Meaning S V) : Type 0 where
   pub refuses : (old new : View S V) (key : List ℕ) (told : Answer) → Step m old (BeginCollect key) new → ((caller : CallerView) → IsAt old.callers 0 caller → caller.call ≡ None) → IsStoppedBy new told → RefusesBy old told
-  pub begins : (old new : View S V) (key : List ℕ) (told : Answer) → Step m old (BeginCollect key) new → IsTold new 0 (Some told) → BeginsBy m old 0 key told new
+  pub begins : (old new : View S V) (key : List ℕ) (told : Answer) → Step m old (BeginCollect key) new → CallIsTold new 0 (Some told) → BeginsBy m old 0 key told new
   pub reads : (old new : View S V) → Step m old ReadHeld new → HasVerdict old 0 verdict.Quorum
-  pub accepts : (old new : View S V) (told : Answer) → Step m old CountCollect new → IsTold new 0 (Some told) → AcceptsBy old 0 told
+  pub accepts : (old new : View S V) (told : Answer) → Step m old CountCollect new → CallIsTold new 0 (Some told) → AcceptsBy old 0 told
 
 -- ---- completeness
 -- a collection's round that begins asks the members of its phase
 abbrev pub CollectionsBeginToAsk : {S V : Type 0} → Meaning S V → Type 0
-CollectionsBeginToAsk {S} {V} m = (old new : View S V) (key : List ℕ) → IsSafe old → Step m old (BeginCollect key) new → IsTold new 0 None → BeginsToAsk new 0
+CollectionsBeginToAsk {S} {V} m = (old new : View S V) (key : List ℕ) → IsSafe old → Step m old (BeginCollect key) new → CallIsTold new 0 None → BeginsToAsk new 0
 
 -- Its round that begins to prepare, proposes and is counted, and that nothing disturbs with a quorum in each phase, is done.
 abbrev pub UndisturbedCollectionsAreDone : {S V : Type 0} → Meaning S V → Type 0
 UndisturbedCollectionsAreDone {S} {V} m = (old first mid turned last new : View S V) (key : List ℕ) (promising accepting : List ℕ) (promised accepted : List Reply) (round : Round)
     (to_prepare : RoundSteps m 0 first promised mid) (to_accept : RoundSteps m 0 turned accepted last) → IsSafe old → holds_prep round.era promising ≡ true → holds_acc round.era accepting ≡ true
-    → Step m old (BeginCollect key) first → IsTold first 0 None → PreparesWith first.desks 0 [] round → AreUndisturbed m 0 promising first mid promised to_prepare → Step m mid (Propose 0) turned → IsTold turned 0 None
+    → Step m old (BeginCollect key) first → CallIsTold first 0 None → PreparesWith first.desks 0 [] round → AreUndisturbed m 0 promising first mid promised to_prepare → Step m mid (Propose 0) turned → CallIsTold turned 0 None
     → AreUndisturbed m 0 accepting turned last accepted to_accept → Step m last CountCollect new
-    → (outcome : Outcome) × HasProposed turned.callers 0 outcome × IsTold new 0 (Some (answer.Done outcome.state outcome.took round.ballot))
+    → (outcome : Outcome) × CallHasProposed turned.callers 0 outcome × CallIsTold new 0 (Some (answer.Done outcome.state outcome.took round.ballot))

@@ -43,10 +43,10 @@ IsPassingBy None = ⊤
 IsPassingBy (Some order) = IfSome order.told IsPassing
 
 -- all tellings are so of its proposers, and no open call was told of an end yet
-pub record TellsTruly {S V : Type 0} (view : View S V) : Type 0 where
+pub record TellingsAreTrue {S V : Type 0} (view : View S V) : Type 0 where
   pub tellings : AreTellingsSo (suc view.last_proposer) (reverse view.marks)
   pub passing : IsPassingBy view.council.order
 
 -- Where shelves and disks tell what they keep, each step leaves it so.
 abbrev pub StepsTellTruly : {S V : Type 0} → Meaning S V → Type 0
-StepsTellTruly {S} {V} m = (old : View S V) (event : Event) (new : View S V) → IsSafe old → IsRemembered m old → Step m old event new → TellsTruly old → TellsTruly new
+StepsTellTruly {S} {V} m = (old : View S V) (event : Event) (new : View S V) → IsSafe old → IsRemembered m old → Step m old event new → TellingsAreTrue old → TellingsAreTrue new

@@ -11,7 +11,7 @@ use Rattle.cas_ballot.specs.Ballot.{zero_ballot}
 use Rattle.cas_record.specs.declared.mark.Mark.{Mark}
 use Rattle.cas_record.specs.declared.row.Row.{Row}
 use Rattle.cas_record.specs.Histories.Chain.{chain_of, top_of, settled_of, has_opening}
-use Rattle.cas_record.specs.Kept.Index.{home_of, key_at, floor_at, standing_at, IsRowOf, IsAfter, IsListed, KeyLess}
+use Rattle.cas_record.specs.Kept.Index.{home_of, key_at, floor_at, standing_at, IsRowOf, IsAfter, HasEntryOrFloor, KeyLess}
 use Rattle.cas_record.specs.Kept.Tables.{HasRows, IsPlaceFor, IsGapFor, IsFirstAfter, AreUnlisted, IsNextListed}
 use Rattle.cas_record.proofs.Histories.Chains.{chain_zero}
 use Rattle.cas_record.proofs.Kept.Homes.{there_or_not, one_home}
@@ -43,7 +43,7 @@ bare_of (Some b) e = absurd cc
 
 -- whether a key without a floor has an entry, by whether its history stands
 pub listed_by : (key : List ℕ) (marks : List Mark) (stands : Option Ballot) → floor_at key marks ≡ None → stands ≡ standing_at key (top_of key marks) marks
-    → (is_some stands ≡ true → IsListed key marks) × (IsListed key marks → is_some stands ≡ true)
+    → (is_some stands ≡ true → HasEntryOrFloor key marks) × (HasEntryOrFloor key marks → is_some stands ≡ true)
 listed_by key marks stands bare is = (
   λ some. elim (there_or_not stands) [
     | inl there ↦ inl (entry_stands key marks there.0 (sym is ∙ there.1))
@@ -59,7 +59,7 @@ listed_by key marks stands bare is = (
 )
 
 -- a key with an entry or a floor is named
-pub listed_named : (key : List ℕ) (marks : List Mark) → IsListed key marks → (home : ℕ) × (home_of key marks ≡ Some home)
+pub listed_named : (key : List ℕ) (marks : List Mark) → HasEntryOrFloor key marks → (home : ℕ) × (home_of key marks ≡ Some home)
 listed_named key marks listed = elim (there_or_not (home_of key marks)) [
   | inl there ↦ there
   | inr gone ↦ absurd (elim listed [
@@ -74,7 +74,7 @@ listed_named key marks listed = elim (there_or_not (home_of key marks)) [
 
 -- one row more that is not of a listed key
 pub unlisted_more : (rows : List Row) (marks : List Mark) (from at : ℕ) → AreUnlisted rows marks from at
-    → ((row : Row) (key : List ℕ) → slice_get rows at ≡ Some row → IsRowOf key (reverse marks) row → IsListed key (reverse marks) → ⊥) → AreUnlisted rows marks from (at + 1)
+    → ((row : Row) (key : List ℕ) → slice_get rows at ≡ Some row → IsRowOf key (reverse marks) row → HasEntryOrFloor key (reverse marks) → ⊥) → AreUnlisted rows marks from (at + 1)
 unlisted_more rows marks from at so_far this j row key high low is own listed = elim (cases_lt j at) [
   | inl less ↦ so_far j row key high less is own listed
   | inr most ↦ let e : j ≡ at = omega (arith, most, low) in this row key (ap (slice_get rows) (sym e) ∙ is) own listed
@@ -127,7 +127,7 @@ module _ (rows : List Row) (marks : List Mark) (has : HasRows rows marks) where
   }
 
   -- a key with an entry or a floor has a row
-  pub listed_row : (key : List ℕ) → IsListed key (reverse marks) → (j : ℕ) × ((j < length rows) × IsRowOf key (reverse marks) (get_or rows j no_row))
+  pub listed_row : (key : List ℕ) → HasEntryOrFloor key (reverse marks) → (j : ℕ) × ((j < length rows) × IsRowOf key (reverse marks) (get_or rows j no_row))
   listed_row key listed =
       let named = listed_named key (reverse marks) listed in
       let place = has.are.complete key named.0 named.1 in
@@ -136,7 +136,7 @@ module _ (rows : List Row) (marks : List Mark) (has : HasRows rows marks) where
 
   module _ (after : Option (List ℕ)) (from : ℕ) (first_ : IsFirstAfter after rows marks from) where
     -- a listed key after the one has its row from the place on
-    listed_beyond : (key : List ℕ) → IsListed key (reverse marks) → IsAfter after key → (j : ℕ) × ((from ≤ j) × ((j < length rows) × IsRowOf key (reverse marks) (get_or rows j no_row)))
+    listed_beyond : (key : List ℕ) → HasEntryOrFloor key (reverse marks) → IsAfter after key → (j : ℕ) × ((from ≤ j) × ((j < length rows) × IsRowOf key (reverse marks) (get_or rows j no_row)))
     listed_beyond key listed is_after =
         let row = listed_row key listed in
         elim (cases_lt row.0 from) [
@@ -145,7 +145,7 @@ module _ (rows : List Row) (marks : List Mark) (has : HasRows rows marks) where
         ]
 
     -- none is left
-    pub none_after : AreUnlisted rows marks from (length rows) → (key : List ℕ) → IsListed key (reverse marks) → IsAfter after key → ⊥
+    pub none_after : AreUnlisted rows marks from (length rows) → (key : List ℕ) → HasEntryOrFloor key (reverse marks) → IsAfter after key → ⊥
     none_after unlisted key listed is_after =
         let row = listed_beyond key listed is_after in
         unlisted row.0 (get_or rows row.0 no_row) key row.1.0 row.1.1.0 (gets rows row.0 (get_or rows row.0 no_row) no_row row.1.1.0 refl) row.1.1.1 listed
@@ -160,11 +160,11 @@ module _ (rows : List Row) (marks : List Mark) (has : HasRows rows marks) where
       read = gets rows at (get_or rows at no_row) no_row next.within refl
 
       -- the key found is one
-      pub next_is : IsListed key (reverse marks) × IsAfter after key
+      pub next_is : HasEntryOrFloor key (reverse marks) × IsAfter after key
       next_is = (next.listed (get_or rows at no_row) key read own, first_.beyond at (get_or rows at no_row) key next.low read own)
 
       -- and the least
-      pub next_least : (other : List ℕ) → IsListed other (reverse marks) → IsAfter after other → KeyLess other key → ⊥
+      pub next_least : (other : List ℕ) → HasEntryOrFloor other (reverse marks) → IsAfter after other → KeyLess other key → ⊥
       next_least other listed is_after less =
           let row = listed_beyond other listed is_after in
           let there = gets rows row.0 (get_or rows row.0 no_row) no_row row.1.1.0 refl in
@@ -191,8 +191,8 @@ module _ (rows : List Row) (marks : List Mark) (has : HasRows rows marks) where
           let row = row_at has.keys rows marks has.are at next.within in
           is ∙ home_at (get_or has.keys at []) marks (get_or rows at no_row).home row.home
 
-      pub found_next : IfSome found (λ key. IsListed key (reverse marks) × IsAfter after key)
-      found_next = subst (λ o. IfSome o (λ key. IsListed key (reverse marks) × IsAfter after key)) (sym key_found) (next_is at next (get_or has.keys at []) (sym is ∙ key_found))
+      pub found_next : IfSome found (λ key. HasEntryOrFloor key (reverse marks) × IsAfter after key)
+      found_next = subst (λ o. IfSome o (λ key. HasEntryOrFloor key (reverse marks) × IsAfter after key)) (sym key_found) (next_is at next (get_or has.keys at []) (sym is ∙ key_found))
 
-      pub found_least : (other : List ℕ) → IsListed other (reverse marks) → IsAfter after other → MatchOption found ⊥ (λ key. KeyLess other key → ⊥)
+      pub found_least : (other : List ℕ) → HasEntryOrFloor other (reverse marks) → IsAfter after other → MatchOption found ⊥ (λ key. KeyLess other key → ⊥)
       found_least other listed is_after = subst (λ o. MatchOption o ⊥ (λ key. KeyLess other key → ⊥)) (sym key_found) (next_least at next (get_or has.keys at []) (sym is ∙ key_found) other listed is_after)

@@ -24,9 +24,9 @@ use Rattle.cas_record.specs.declared.mark.Acknowledgment.{Acknowledgment}
 use Rattle.cas_record.specs.Places.{At, Stands, here, past}
 use Rattle.cas_record.specs.Histories.Chain.{is_key, is_ballot, is_call, has_proposal, link_of, entry_of, chain_of}
 use Rattle.cas_record.specs.Histories.Replay.{replay_from, opening_state}
-use Rattle.cas_record.specs.Legal.{HasFloor, calls_of, IsBegun, IsProposed, IsEnded, IsFirstProposal, tells_refused, tells_unsettled, harms_due, harms_of, HasVotes, IsAcked, IsOpening, IsFloor}
+use Rattle.cas_record.specs.Legal.{HasFloor, calls_of, IsBegun, IsProposed, IsEnded, IsFirstProposal, tells_refused, tells_unsettled, harms_due, harms_of, HasVotes, IsAcked, IsOpeningFloor, IsFloor}
 use Rattle.cas_record.specs.Logs.Happening.{Happening, Marked, Promised, Took, Dropped, Entered, marks_of}
-use Rattle.cas_record.specs.Logs.Lawful.{Cluster, IsMade, in_promise, in_take, in_ride, HasSeenAtMost, IsFloored, MayPromise, MayTake, slot_told, is_slot, MayDrop, AreFirst, HasOpening, IsIn, AllEntered, IsRescanned, IsCollected, MayLeave, MayEnter, Granted, by_promise, by_ride, MayPropose, MayVote, MayAck, MayBeDone, MayAnswer, MayEnd, MayMarkEra, MayMark, May, Lawful}
+use Rattle.cas_record.specs.Logs.Lawful.{Cluster, IsMade, in_promise, in_take, in_ride, HasSeenAtMost, IsFloored, MayPromise, MayTake, slot_told, is_slot, MayDrop, AreFirst, HasOpening, IsIn, AllEntered, IsRescanned, IsCollected, MayLeaveEra, MayEnter, Granted, by_promise, by_ride, MayPropose, MayVote, MayAck, MayBeDone, MayAnswer, MayEnd, MayMarkEra, MayMark, May, Lawful}
 use Rattle.cas_record.proofs.PlaceLemmas.{stands_at}
 use Rattle.cas_base.proofs.Bools.{and_left, and_right, or_cases, or_left, or_right, both_true, not_tells, not_both}
 use Rattle.cas_record.proofs.Tests.{key_same, key_is, key_refl, ballot_same, ballot_is, less_tells, less_is, nat_same, nat_is, call_same, call_is, slot_same}
@@ -350,7 +350,7 @@ check_leave cluster log proposer left =
     nat_le proposer cluster.last_proposer && (not (some_place (entered_now proposer (suc left)) log)
     && (((left == 0) || check_all_in cluster left (marks_of log)) && (each_place (has_stone cluster left (marks_of log)) (marks_of log) && each_place is_no_opening log)))
 
-leave_checked : (cluster : Cluster) (log : List Happening) (proposer left : ℕ) → check_leave cluster log proposer left ≡ true → MayLeave cluster log proposer left
+leave_checked : (cluster : Cluster) (log : List Happening) (proposer left : ℕ) → check_leave cluster log proposer left ≡ true → MayLeaveEra cluster log proposer left
 leave_checked cluster log proposer left e =
     let marks = marks_of log in
     let rest = and_right (nat_le proposer cluster.last_proposer) _ e in
@@ -619,7 +619,7 @@ is_before_opening key (Begun caller call k program) older = false
 is_before_opening key (Floor k floor state) older = not (is_key k key)
 is_before_opening key other older = true
 
-opening_checked : (key : List ℕ) (marks : List Mark) → each_place (is_before_opening key) marks ≡ true → IsOpening key marks
+opening_checked : (key : List ℕ) (marks : List Mark) → each_place (is_before_opening key) marks ≡ true → IsOpeningFloor key marks
 opening_checked key marks e = record {
   none_begun = λ caller call k program s. let never : false ≡ true = each_at (is_before_opening key) e s.at in cc;
   first = λ {floor} {state} s. not_both (is_key key key) (key_refl key) (not_tells _ (each_at (is_before_opening key) e s.at));

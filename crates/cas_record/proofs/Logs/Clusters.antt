@@ -11,7 +11,7 @@ use Rattle.cas_record.specs.declared.mark.Mark.TheVariants.{Proposed, Acked}
 use Rattle.cas_record.specs.declared.mark.Proposal.{Proposal}
 use Rattle.cas_record.specs.declared.mark.Acknowledgment.{Acknowledgment}
 use Rattle.cas_record.specs.Logs.Happening.{Happening, Marked, Asked, Took, Entered, Drew}
-use Rattle.cas_record.specs.Logs.Lawful.{Cluster, IsWidened, AllEntered, IsRescanned, MayLeave, MayPropose, MayAck, MayMark, May, Lawful}
+use Rattle.cas_record.specs.Logs.Lawful.{Cluster, IsWidened, AllEntered, IsRescanned, MayLeaveEra, MayPropose, MayAck, MayMark, May, Lawful}
 use Rattle.cas_record.specs.Logs.Orderly.{MayDraw, MayAskFor, MayAsk, HasReason, Orderly}
 
 -- ---- lawful
@@ -29,7 +29,7 @@ rescanned_more w r = record {
   acked = r.acked;
 }
 
-pub leave_more : {old new : Cluster} → IsWidened old new → {log : List Happening} {proposer left : ℕ} → MayLeave old log proposer left → MayLeave new log proposer left
+pub leave_more : {old new : Cluster} → IsWidened old new → {log : List Happening} {proposer left : ℕ} → MayLeaveEra old log proposer left → MayLeaveEra new log proposer left
 leave_more w {proposer = proposer} may = record {
   known = subst (λ (n : ℕ). proposer ≤ n) (sym w.last_proposer) may.known;
   once = may.once;

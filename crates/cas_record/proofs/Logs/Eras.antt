@@ -10,7 +10,7 @@ use Rattle.cas_record.specs.declared.mark.Proposal.{Proposal}
 use Rattle.cas_record.specs.Places.{At, Stands}
 use Rattle.cas_record.specs.Histories.Chain.{floor_below, link_of}
 use Rattle.cas_record.specs.Logs.Happening.{Happening, Marked, Took, Entered, marks_of}
-use Rattle.cas_record.specs.Logs.Lawful.{Cluster, ClusterMeets, Lawful, MayTake, MayEnter, MayLeave, MayMarkEra, HasSeen, in_promise, in_take, in_ride, AllEntered, IsRescanned, Granted, by_promise, by_ride}
+use Rattle.cas_record.specs.Logs.Lawful.{Cluster, ClusterMeets, Lawful, MayTake, MayEnter, MayLeaveEra, MayMarkEra, HasSeen, in_promise, in_take, in_ride, AllEntered, IsRescanned, Granted, by_promise, by_ride}
 use Rattle.cas_record.proofs.PlaceLemmas.{deeper, stands_deeper, stands_at, stands_part, older_than, newer_than, at_one, order}
 use Rattle.cas_record.proofs.Histories.Chains.{at_most_floor_below}
 use Rattle.cas_record.proofs.Logs.Lemmas.{made_proposed, law, lawful_older, mark_at, in_log, part_of, proposal_law, ack_law, AckedAt, acked_at, one_place, link_below}
@@ -137,7 +137,7 @@ pub record EnteredAt (cluster : Cluster) (p : Proposal) (log : List Happening) :
   pub at : At (Entered p.ballot.proposer p.era) older log
   pub left : ℕ
   pub next : p.era ≡ suc left
-  pub may_leave : MayLeave cluster older p.ballot.proposer left
+  pub may_leave : MayLeaveEra cluster older p.ballot.proposer left
 
 pub entered_at : (cluster : Cluster) {log older : List Happening} {p : Proposal} → Lawful cluster log → At (Marked (Proposed p)) older log → 0 < p.era → EnteredAt cluster p older
 entered_at cluster {p = p} lawful at some = elim (proposal_law cluster lawful at).is_in [

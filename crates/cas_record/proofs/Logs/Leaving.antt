@@ -6,7 +6,7 @@ use Rattle.cas_record.specs.declared.mark.Mark.TheVariants.{Proposed}
 use Rattle.cas_record.specs.declared.mark.Proposal.{Proposal}
 use Rattle.cas_record.specs.Places.{Stands, IsOlderPart, whole, later}
 use Rattle.cas_record.specs.Logs.Happening.{Happening, Entered, marks_of}
-use Rattle.cas_record.specs.Logs.Lawful.{Cluster, Lawful, AllEntered, IsRescanned, MayLeave}
+use Rattle.cas_record.specs.Logs.Lawful.{Cluster, Lawful, AllEntered, IsRescanned, MayLeaveEra}
 use Rattle.cas_record.proofs.PlaceLemmas.{stands_at, at_part, stands_part, newest_or}
 use Rattle.cas_record.proofs.Logs.Lemmas.{mark_at, in_log}
 use Rattle.cas_record.proofs.Logs.Eras.{entered_of_mark}
@@ -32,7 +32,7 @@ rescanned_part part r = record {
 }
 
 pub may_leave_more : (cluster : Cluster) (happening : Happening) {log : List Happening} {proposer left : ℕ} → Lawful cluster (happening ∷ log) → (happening ≡ Entered proposer (suc left) → ⊥)
-    → MayLeave cluster log proposer left → MayLeave cluster (happening ∷ log) proposer left
+    → MayLeaveEra cluster log proposer left → MayLeaveEra cluster (happening ∷ log) proposer left
 may_leave_more cluster happening {log} {proposer} {left} lawful other may =
     let newer : IsOlderPart log (happening ∷ log) = later whole in
     let part = marks_part newer in

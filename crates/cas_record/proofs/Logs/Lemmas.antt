@@ -11,7 +11,7 @@ use Rattle.cas_record.specs.declared.mark.Proposal.{Proposal}
 use Rattle.cas_record.specs.declared.mark.Acknowledgment.{Acknowledgment}
 use Rattle.cas_record.specs.Places.{At, Stands, IsOlderPart, here, past, whole, later}
 use Rattle.cas_record.specs.Histories.Chain.{has_proposal, has_calls, has_opening, floor_below, link_of, entry_of, chain_of}
-use Rattle.cas_record.specs.Legal.{HasProposal, HasFloor, IsAcked, NoneBegun, IsOpening, IsFloor}
+use Rattle.cas_record.specs.Legal.{HasProposal, HasFloor, IsAcked, NoneBegun, IsOpeningFloor, IsFloor}
 use Rattle.cas_record.specs.Logs.Happening.{Happening, Marked, marks_of}
 use Rattle.cas_record.specs.Logs.Lawful.{IsMade, Cluster, May, Lawful, MayPropose, MayAck}
 use Rattle.cas_record.proofs.PlaceLemmas.{deeper, stands_deeper, stands_at, older_than, newer_than, at_one, order, none_at_nil}
@@ -145,7 +145,7 @@ pub record OpeningAt (key : List ℕ) (floor : Ballot) (log : List Happening) : 
   pub state : State
   pub older : List Happening
   pub at : At (Marked (Floor key floor state)) older log
-  pub opening : IsOpening key (marks_of older)
+  pub opening : IsOpeningFloor key (marks_of older)
 
 pub opening_deeper : {key : List ℕ} {floor : Ballot} {happening : Happening} {older log : List Happening} → OpeningAt key floor older → At happening older log → OpeningAt key floor log
 opening_deeper o at = record { state = o.state; older = o.older; at = deeper o.at at; opening = o.opening }

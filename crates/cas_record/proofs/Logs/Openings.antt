@@ -16,7 +16,7 @@ use Rattle.cas_record.specs.Histories.Chain.{has_calls, has_opening, floor_below
 use Rattle.cas_record.specs.Legal.{HasFloor, IsAcked}
 use Rattle.cas_record.specs.Logs.Happening.{Happening, Marked, Took, Entered, marks_of}
 use Rattle.cas_record.specs.Logs.Lawful.{Cluster, ClusterMeets, Lawful, AreFirst, HasOpening, HasFloorAbove, MayTake, MayDrop, in_promise, in_take, in_ride, AllEntered, IsRescanned, Granted, by_promise, by_ride, SlotTold}
-use Rattle.cas_record.specs.Laws.{IsOpened}
+use Rattle.cas_record.specs.Laws.{HistoryIsOpened}
 use Rattle.cas_record.specs.Logs.Listing.{no_slot_told, WasAbsent}
 use Rattle.cas_record.specs.Logs.Orderly.{IsAgedOut, MayAsk, MayPromiseBy, MayTakeBy, MayTakeFirst, MayDropBy, Orderly}
 use Rattle.cas_record.proofs.PlaceLemmas.{none_at_nil, deeper, stands_deeper, stands_at, stands_part, older_than, newer_than, at_one, order}
@@ -174,7 +174,7 @@ above_links cluster {log} {older} {p} {floor} lawful at above is =
     less_not_at_most above.above (subst (BallotAtMost above.floor) is (at_most_trans low (at_most_greater_right p.read (floor_below p.key p.ballot (marks_of older)))))
 
 pub opening_read : (cluster : Cluster) → ClusterMeets cluster → {log older : List Happening} {p : Proposal} {floor : Ballot} → Lawful cluster log → Orderly cluster older → At (Marked (Proposed p)) older log
-    → p.read ≡ zero_ballot → IsOpened cluster older p.key floor → link_of (marks_of older) p ≡ floor → ⊥
+    → p.read ≡ zero_ballot → HistoryIsOpened cluster older p.key floor → link_of (marks_of older) p ≡ floor → ⊥
 opening_read cluster meet {log} {older} {p} {floor} lawful orderly at nothing opened is =
     let may = proposal_law cluster lawful at in
     let before = lawful_older cluster lawful at in
@@ -236,7 +236,7 @@ absent_above cluster {log} {era} {acceptor} {key} {floor} lawful orderly o some 
 pub opening_stone : (cluster : Cluster) → ClusterMeets cluster → {log : List Happening} {era : ℕ} {by : List ℕ} {key : List ℕ} {floor : Ballot} → Lawful cluster log → Orderly cluster log → 0 < era
     → AllEntered cluster era (marks_of log) → cluster.accepts era by ≡ true
     → ((acceptor : ℕ) (key : List ℕ) → has_member by acceptor ≡ true → IsRescanned cluster era key (marks_of log) ⊎ WasAbsent cluster era log acceptor key)
-    → IsOpened cluster log key floor → IsRescanned cluster era key (marks_of log) ⊎ HasFloorAbove key floor (marks_of log)
+    → HistoryIsOpened cluster log key floor → IsRescanned cluster era key (marks_of log) ⊎ HasFloorAbove key floor (marks_of log)
 opening_stone cluster meet {log} {era} {by} {key} {floor} lawful orderly some entered quorum listed opened = elim (early_of key era (marks_of log)) [
   | greatest_early q g ↦ elim (stones_of_listing cluster meet lawful entered quorum listed g.stands g.early) [
     | inl rescanned ↦ inl (subst (λ k. IsRescanned cluster era k (marks_of log)) g.same_key rescanned)

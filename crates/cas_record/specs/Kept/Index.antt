@@ -135,5 +135,5 @@ IsAfter None key = Unit {0}
 IsAfter (Some other) key = KeyLess other key
 
 -- the key has an entry that stands, or a floor
-abbrev pub IsListed : List ℕ → List Mark → Type 0
-IsListed key marks = (settled_of key marks ≡ [] → ⊥) ⊎ IsSome (floor_at key marks)
+abbrev pub HasEntryOrFloor : List ℕ → List Mark → Type 0
+HasEntryOrFloor key marks = (settled_of key marks ≡ [] → ⊥) ⊎ IsSome (floor_at key marks)

@@ -15,7 +15,7 @@ use Rattle.cas_record.specs.declared.row.Link.{Link}
 use Rattle.cas_record.specs.declared.tables.Tables.{Tables}
 use Rattle.indexmap.specs.IndexMap.{get, spare}
 use Rattle.cas_record.specs.Histories.Chain.{has_calls}
-use Rattle.cas_record.specs.Kept.Index.{key_at, home_of, IsAfter, IsListed, IsRowOf, link_by, link_at, opened_at, begun_at, KeyLess}
+use Rattle.cas_record.specs.Kept.Index.{key_at, home_of, IsAfter, HasEntryOrFloor, IsRowOf, link_by, link_at, opened_at, begun_at, KeyLess}
 
 -- whether two places by home and ballot are one
 abbrev pub same_spot : (ℕ × Ballot) → (ℕ × Ballot) → Bool
@@ -107,11 +107,11 @@ pub record IsFirstAfter (after : Option (List ℕ)) (rows : List Row) (marks : L
 
 -- no row between the places is of a key with an entry or a floor
 abbrev pub AreUnlisted : List Row → List Mark → ℕ → ℕ → Type 0
-AreUnlisted rows marks from to = (j : ℕ) (row : Row) (key : List ℕ) → from ≤ j → j < to → slice_get rows j ≡ Some row → IsRowOf key (reverse marks) row → IsListed key (reverse marks) → ⊥
+AreUnlisted rows marks from to = (j : ℕ) (row : Row) (key : List ℕ) → from ≤ j → j < to → slice_get rows j ≡ Some row → IsRowOf key (reverse marks) row → HasEntryOrFloor key (reverse marks) → ⊥
 
 -- the place is that of the first row from the one on whose key has an entry or a floor
 pub record IsNextListed (rows : List Row) (marks : List Mark) (from at : ℕ) : Type 0 where
   pub low : from ≤ at
   pub within : at < length rows
   pub unlisted : AreUnlisted rows marks from at
-  pub listed : (row : Row) (key : List ℕ) → slice_get rows at ≡ Some row → IsRowOf key (reverse marks) row → IsListed key (reverse marks)
+  pub listed : (row : Row) (key : List ℕ) → slice_get rows at ≡ Some row → IsRowOf key (reverse marks) row → HasEntryOrFloor key (reverse marks)

@@ -152,7 +152,7 @@ pub record IsCollected (era : ℕ) (key : List ℕ) (marks : List Mark) : Type 0
 
 -- the era after `left` may be entered once, by a proposer that is known, when all are in `left` and each key that was
 -- proposed in an earlier era is rescanned in `left` or collected; and so is, from era 1 on, each key with an opening floor
-pub record MayLeave (cluster : Cluster) (log : List Happening) (proposer left : ℕ) : Type 0 where
+pub record MayLeaveEra (cluster : Cluster) (log : List Happening) (proposer left : ℕ) : Type 0 where
   pub known : proposer ≤ cluster.last_proposer
   pub once : Stands (Entered proposer (suc left)) log → ⊥
   pub all_in : 0 < left → AllEntered cluster left (marks_of log)
@@ -164,7 +164,7 @@ pub record MayLeave (cluster : Cluster) (log : List Happening) (proposer left : 
 pub record MayEnter (cluster : Cluster) (log : List Happening) (proposer era : ℕ) : Type 0 where
   pub left : ℕ
   pub next : era ≡ suc left
-  pub may_leave : MayLeave cluster log proposer left
+  pub may_leave : MayLeaveEra cluster log proposer left
 
 -- ---- proposals
 -- the acceptor granted the ballot to a proposer that was in the era: it promised it and told at most what was read, or

@@ -1,7 +1,7 @@
 //! A turn is taken apart: one seat takes in all others, and so knows that nobody holds the value.
 ghost use Rattle.std.specs.Prelude.{◌≡◌, ℕ, ◌<◌, List, [], ◌∷◌, ◌++◌, length, map, All, Some, None, vec_len};
 ghost use Rattle.cas_turn.specs.declared.view.View.TheVariants.{Gathers};
-ghost use Rattle.cas_turn.specs.Seen.{HasSeen};
+ghost use Rattle.cas_turn.specs.Seen.{HasSeenOwn};
 ghost use Rattle.cas_turn.specs.Steps.{IsPlaceOf, IsSamePlace, known_by, them_of};
 
 use super::Turn;
@@ -56,7 +56,7 @@ fn value_at_home<V: Grows>(board: Board<V>, gatherer: Place<V>) -> V
     requires gathers { gatherer.me ≡ (Gathers (them_of gatherer.me.0), []) }
     requires all { length (them_of gatherer.me.0) ≡ board.shared.key }
     ensures seats { V.seats result ≡ board.shared.key }
-    ensures them { All (λ k. HasSeen V.owner k.number k.seen (V.list result) × (V.part result k.number ≡ k.own)) (them_of gatherer.me.0) }
+    ensures them { All (λ k. HasSeenOwn V.owner k.number k.seen (V.list result) × (V.part result k.number ≡ k.own)) (them_of gatherer.me.0) }
 {
     let mut closed = board.close_with(gatherer);
     let home = closed.take(VALUE);
@@ -75,7 +75,7 @@ impl<V: Grows> Turn<V> {
         requires turn { All (λ s. s.turn ≡ self.id) seats.items }
         requires all { vec_len seats ≡ self.seats }
         requires idle { All (λ s. s.holds ≡ None) seats.items }
-        ensures seen { All (λ s. HasSeen V.owner s.number s.seen (V.list result)) seats.items }
+        ensures seen { All (λ s. HasSeenOwn V.owner s.number s.seen (V.list result)) seats.items }
         ensures own { All (λ s. V.part result s.number ≡ s.own) seats.items }
         ensures seats { V.seats result ≡ self.seats }
     {

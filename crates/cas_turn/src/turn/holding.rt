@@ -1,7 +1,7 @@
 //! A hold, from the wait for the turn to the return of the value.
 ghost use Rattle.std.specs.Prelude.{◌≡◌, ◌≢◌, ℕ, Some, None, IsSome};
 ghost use Rattle.std.specs.Option.{ForSome};
-ghost use Rattle.cas_turn.specs.Seen.{Begins, HasSeen, OnlyOwnedBy, added_to};
+ghost use Rattle.cas_turn.specs.Seen.{Begins, HasSeenOwn, OnlyOwnedBy, added_to};
 
 use super::Turn;
 use crate::grows::Grows;
@@ -18,7 +18,7 @@ impl<V: Grows> Turn<V> {
         requires turn { seat.old.turn ≡ self.now.id }
         requires idle { seat.old.holds ≡ None }
         ensures seat { seat.new ≡ record seat.old { holds = Some result; seen = V.list result } }
-        ensures seen { HasSeen V.owner seat.old.number seat.old.seen (V.list result) }
+        ensures seen { HasSeenOwn V.owner seat.old.number seat.old.seen (V.list result) }
         ensures own { V.part result seat.old.number ≡ seat.old.own }
         ensures seats { V.seats result ≡ seat.old.seats }
     {

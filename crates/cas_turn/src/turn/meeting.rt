@@ -1,6 +1,6 @@
 //! Two seats tell each other what they have seen.
 ghost use Rattle.std.specs.Prelude.{◌≡◌};
-ghost use Rattle.cas_turn.specs.Seen.{HasSeen};
+ghost use Rattle.cas_turn.specs.Seen.{HasSeenOwn};
 
 use super::Turn;
 use crate::grows::Grows;
@@ -18,8 +18,8 @@ impl<V: Grows> Turn<V> {
         ensures a_seat { a.new ≡ record a.old { seen = a.new.seen } }
         ensures b_seat { b.new ≡ record b.old { seen = b.new.seen } }
         ensures one_list { a.new.seen ≡ b.new.seen }
-        ensures a_seen { HasSeen V.owner a.old.number a.old.seen a.new.seen }
-        ensures b_seen { HasSeen V.owner b.old.number b.old.seen b.new.seen }
+        ensures a_seen { HasSeenOwn V.owner a.old.number a.old.seen a.new.seen }
+        ensures b_seen { HasSeenOwn V.owner b.old.number b.old.seen b.new.seen }
     {
         let top = &self.board.shared;
         tell(top, &mut a.place, &mut b.place);

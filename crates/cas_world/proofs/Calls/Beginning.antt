@@ -11,15 +11,15 @@ use Rattle.cas_cache.specs.Entries.{without}
 use Rattle.cas_disk.specs.Disk.{LeavesOnly}
 use Rattle.cas_vault.specs.declared.kept.Kept.{Kept}
 use Rattle.cas_vault.specs.declared.vault.Vault.{Vault}
-use Rattle.cas_vault.specs.Vault.{disk_of, counter_of, kept_of, kept_to_draw, KeptOn, IsBeforeOrAfter, Stands, IsPast}
+use Rattle.cas_vault.specs.Vault.{disk_of, counter_of, kept_of, kept_to_draw, KeptOn, KeepsBeforeOrAfter, VaultStands, IsPast}
 use Rattle.cas_vault.proofs.Keeping.{same_kept}
-use Rattle.cas_proposer.specs.Desk.{DeskView, Draws, ShowsTheSame, GoesDown, cache_after, cache_without, counter_after, counter_without, may_ride, with_ride}
+use Rattle.cas_proposer.specs.Desk.{DeskView, Draws, ShowsTheSame, GoesDownInDraw, cache_after, cache_without, counter_after, counter_without, may_ride, with_ride}
 use Rattle.cas_proposer.specs.Round.{is_preparing}
 use Rattle.cas_proposer.specs.declared.round.Round.{Round}
 use Rattle.cas_model.specs.Council.{ListingView}
 use Rattle.cas_model.specs.Parties.{IsAged}
 use Rattle.cas_model.specs.Exchanges.Step.{HasTag, TagsAll}
-use Rattle.cas_model.specs.Calls.Desks.{GoesOn, HasDrawn, HasKept, MayHaveDrawn, FailsToDraw, LosesMemory}
+use Rattle.cas_model.specs.Calls.Desks.{VaultGoesOn, HasDrawn, HasKept, MayHaveDrawn, FailsToDraw, LosesMemory}
 use Rattle.cas_model.specs.View.{DiskMeaning}
 use Rattle.cas_model.proofs.Calls.Asks.{tag_goes_on}
 use Rattle.cas_world.proofs.Calls.Disks.{disks}
@@ -56,7 +56,7 @@ one_place false old x y a b = b
 pub drawn_place : (counter : ℕ) (old new : Kept) → new ≡ kept_to_draw counter old → KeepsPlace old new
 drawn_place counter old new same = subst (KeepsPlace old) (sym same) (one_place (nat_lt old.bound (counter + 1)) old _ old (record { age = refl; era = refl }) (record { age = refl; era = refl }))
 
-place_on : (kept before : Kept) (counter : ℕ) (c : List ℕ) → KeptOn kept c → IsBeforeOrAfter before (kept_to_draw counter before) c → KeepsPlace before kept
+place_on : (kept before : Kept) (counter : ℕ) (c : List ℕ) → KeptOn kept c → KeepsBeforeOrAfter before (kept_to_draw counter before) c → KeepsPlace before kept
 place_on kept before counter c on (inl b) = same_place (same_kept kept before c on b)
 place_on kept before counter c on (inr a) = drawn_place counter before kept (same_kept kept (kept_to_draw counter before) c on a)
 
@@ -70,7 +70,7 @@ no_ride round may = ap (λ (r : Option Ballot). Some (record round { ride = r })
 
 module _ {V : Type 0} (tells : Type 0) (may_leave : V → List ℕ → Type 0) (faults : V → ℕ) where
   -- a round's end keeps its vault's disk
-  pub goes_on_still : (old new : Vault V) → disk_of new ≡ disk_of old → kept_of new ≡ kept_of old → ((n : ℕ) → IsPast may_leave n old → IsPast may_leave n new) → GoesOn (disks tells may_leave faults) old new
+  pub goes_on_still : (old new : Vault V) → disk_of new ≡ disk_of old → kept_of new ≡ kept_of old → ((n : ℕ) → IsPast may_leave n old → IsPast may_leave n new) → VaultGoesOn (disks tells may_leave faults) old new
   goes_on_still old new same_disk same_kept_of past = record {
     still_past = λ t. past;
     ages = λ t age was. record {
@@ -84,11 +84,11 @@ module _ {V : Type 0} (tells : Type 0) (may_leave : V → List ℕ → Type 0) (
     never_falls = no_more (faults (disk_of old)) (faults (disk_of new)) (ap faults same_disk);
   }
 
-  pub goes_on_same : (old : Vault V) → GoesOn (disks tells may_leave faults) old old
+  pub goes_on_same : (old : Vault V) → VaultGoesOn (disks tells may_leave faults) old old
   goes_on_same old = record { still_past = λ t n was. was; ages = λ t age was. was; era = λ t era other was. was; never_falls = no_more (faults (disk_of old)) (faults (disk_of old)) refl }
 
   -- a vault that is in use keeps its age, whatever a crash leaves
-  pub aged_by : (seen : V → List ℕ) (age : ℕ) (vault : Vault V) → Stands tells seen may_leave vault → (kept_of vault).age ≡ age → tells → IsAged (disks tells may_leave faults) age vault
+  pub aged_by : (seen : V → List ℕ) (age : ℕ) (vault : Vault V) → VaultStands tells seen may_leave vault → (kept_of vault).age ≡ age → tells → IsAged (disks tells may_leave faults) age vault
   aged_by seen age vault stands is t = record {
     kept = omega (arith, is);
     left = λ c kept left on. omega (arith, is, ap (λ (k : Kept). k.age) (same_kept kept (kept_of vault) c on (stands.images t c left)));
@@ -118,8 +118,8 @@ module _ {V : Type 0} (tells : Type 0) (may_leave : V → List ℕ → Type 0) (
   module _ (seen : V → List ℕ) (moment : V → ℕ) (left_since : V → ℕ → List ℕ → Type 0) (counts_now : (disk : V) (t : ℕ) (c : List ℕ) → tells → t ≤ moment disk → may_leave disk c → left_since disk t c) where
     -- a draw keeps the age and the era, wherever it stops
     pub goes_on : (old new : Vault V) → (tells → (n : ℕ) → IsPast may_leave n old → IsPast may_leave n new)
-        → (tells → LeavesOnly moment left_since (disk_of old) (disk_of new) (IsBeforeOrAfter (kept_of old) (kept_to_draw (counter_of old) (kept_of old)))) → KeepsPlace (kept_of old) (kept_of new) → faults (disk_of old) ≤ faults (disk_of new)
-        → GoesOn (disks tells may_leave faults) old new
+        → (tells → LeavesOnly moment left_since (disk_of old) (disk_of new) (KeepsBeforeOrAfter (kept_of old) (kept_to_draw (counter_of old) (kept_of old)))) → KeepsPlace (kept_of old) (kept_of new) → faults (disk_of old) ≤ faults (disk_of new)
+        → VaultGoesOn (disks tells may_leave faults) old new
     goes_on old new past moments same never_falls = record {
       still_past = past;
       ages = λ t age was. record {
@@ -136,7 +136,7 @@ module _ {V : Type 0} (tells : Type 0) (may_leave : V → List ℕ → Type 0) (
         left_place : tells → (c : List ℕ) (kept : Kept) → may_leave (disk_of new) c → KeptOn kept c → KeepsPlace (kept_of old) kept
         left_place t c kept left on = place_on kept (kept_of old) (counter_of old) c on ((moments t).each c (counts_now (disk_of new) (moment (disk_of old)) c t (moments t).later left))
 
-    rides_fits : (old new : DeskView V) (ballot : Ballot) → old.id ≤ 16 → Draws old.id old.vault new.vault ballot → Stands tells seen may_leave new.vault → FitsBallot ballot
+    rides_fits : (old new : DeskView V) (ballot : Ballot) → old.id ≤ 16 → Draws old.id old.vault new.vault ballot → VaultStands tells seen may_leave new.vault → FitsBallot ballot
     rides_fits old new ballot few draws stands =
         let counter : ballot.counter ≡ counter_of old.vault + 1 = ap (λ (b : Ballot). b.counter) draws.next in
         let proposer : ballot.proposer ≡ old.id = ap (λ (b : Ballot). b.proposer) draws.next in record {
@@ -148,18 +148,18 @@ module _ {V : Type 0} (tells : Type 0) (may_leave : V → List ℕ → Type 0) (
     pub rides_by : (old new : DeskView V) (round : Round) (ride : Option Ballot) → old.round ≡ Some round → IsTrue (may_ride old.round) → old.down ≡ false → old.id ≤ 16 → (ride ≡ None → new ≡ old)
         → ((b : Ballot) → ride ≡ Some b → Draws old.id old.vault new.vault b) → ((b : Ballot) → ride ≡ Some b → new ≡ record old { vault = new.vault; round = with_ride old.round b })
         → (tells → (b : Ballot) → ride ≡ Some b → IsPast may_leave b.counter new.vault) → (tells → (n : ℕ) → IsPast may_leave n old.vault → IsPast may_leave n new.vault)
-        → (tells → LeavesOnly moment left_since (disk_of old.vault) (disk_of new.vault) (IsBeforeOrAfter (kept_of old.vault) (kept_to_draw (counter_of old.vault) (kept_of old.vault))))
-        → (new.down ≡ false → Stands tells seen may_leave new.vault) → faults (disk_of old.vault) ≤ faults (disk_of new.vault) → RidesOn (disks tells may_leave faults) round old new ride
+        → (tells → LeavesOnly moment left_since (disk_of old.vault) (disk_of new.vault) (KeepsBeforeOrAfter (kept_of old.vault) (kept_to_draw (counter_of old.vault) (kept_of old.vault))))
+        → (new.down ≡ false → VaultStands tells seen may_leave new.vault) → faults (disk_of old.vault) ≤ faults (disk_of new.vault) → RidesOn (disks tells may_leave faults) round old new ride
     rides_by old new round None is may up few same draws at past still moments stands never_falls =
         subst (λ (d : DeskView V). RidesOn (disks tells may_leave faults) round old d None) (sym (same refl)) (record {
           drawn = record { shows = record { counter = refl; kept = refl }; goes_on = goes_on_same old.vault };
-          aged = aged_by seen (kept_of old.vault).age old.vault (subst (λ (d : DeskView V). d.down ≡ false → Stands tells seen may_leave d.vault) (same refl) stands up) refl;
+          aged = aged_by seen (kept_of old.vault).age old.vault (subst (λ (d : DeskView V). d.down ≡ false → VaultStands tells seen may_leave d.vault) (same refl) stands up) refl;
           desk = ap (λ (r : Option Round). record old { round = r }) (is ∙ no_ride round (subst (λ (r : Option Round). IsTrue (may_ride r)) is may));
           fits = tt;
         })
     rides_by old new round (Some b) is may up few same draws at past still moments stands never_falls =
         let drew : Draws old.id old.vault new.vault b = draws b refl in
-        let in_use : Stands tells seen may_leave new.vault = stands (ap (λ (d : DeskView V). d.down) (at b refl) ∙ up) in
+        let in_use : VaultStands tells seen may_leave new.vault = stands (ap (λ (d : DeskView V). d.down) (at b refl) ∙ up) in
         let fits : FitsBallot b = rides_fits old new b few drew in_use in
         let place : KeepsPlace (kept_of old.vault) (kept_of new.vault) = drawn_place (counter_of old.vault) (kept_of old.vault) (kept_of new.vault) drew.kept in record {
           drawn = record {
@@ -174,8 +174,8 @@ module _ {V : Type 0} (tells : Type 0) (may_leave : V → List ℕ → Type 0) (
         }
 
     -- the vault failed in a draw
-    pub fails_by : (old new : DeskView V) (round : Round) → old.round ≡ Some round → GoesDown old new → (tells → (n : ℕ) → IsPast may_leave n old.vault → IsPast may_leave n new.vault)
-        → (tells → LeavesOnly moment left_since (disk_of old.vault) (disk_of new.vault) (IsBeforeOrAfter (kept_of old.vault) (kept_to_draw (counter_of old.vault) (kept_of old.vault))))
+    pub fails_by : (old new : DeskView V) (round : Round) → old.round ≡ Some round → GoesDownInDraw old new → (tells → (n : ℕ) → IsPast may_leave n old.vault → IsPast may_leave n new.vault)
+        → (tells → LeavesOnly moment left_since (disk_of old.vault) (disk_of new.vault) (KeepsBeforeOrAfter (kept_of old.vault) (kept_to_draw (counter_of old.vault) (kept_of old.vault))))
         → faults (disk_of old.vault) ≤ faults (disk_of new.vault) → Rose (faults (disk_of old.vault)) (faults (disk_of new.vault))
         → FailsToDraw (disks tells may_leave faults) round.key old new
     fails_by old new round is goes still moments never_falls rose =
@@ -191,7 +191,7 @@ module _ {V : Type 0} (tells : Type 0) (may_leave : V → List ℕ → Type 0) (
     -- no memory was found for a draw, and the round is ended
     pub loses_by : (old mid new : DeskView V) (round : Round) → old.round ≡ Some round → mid ≡ record old { vault = mid.vault } → ShowsTheSame old.vault mid.vault
         → (tells → (n : ℕ) → IsPast may_leave n old.vault → IsPast may_leave n mid.vault)
-        → (tells → LeavesOnly moment left_since (disk_of old.vault) (disk_of mid.vault) (IsBeforeOrAfter (kept_of old.vault) (kept_to_draw (counter_of old.vault) (kept_of old.vault))))
+        → (tells → LeavesOnly moment left_since (disk_of old.vault) (disk_of mid.vault) (KeepsBeforeOrAfter (kept_of old.vault) (kept_to_draw (counter_of old.vault) (kept_of old.vault))))
         → ((r : Round) → mid.round ≡ Some r → new ≡ record mid { vault = new.vault; cache = cache_after r None mid.cache; round = None })
         → counter_of new.vault ≡ counter_without mid.round (counter_of mid.vault) → kept_of new.vault ≡ kept_of mid.vault → disk_of new.vault ≡ disk_of mid.vault
         → ((n : ℕ) → IsPast may_leave n mid.vault → IsPast may_leave n new.vault) → faults (disk_of old.vault) ≤ faults (disk_of mid.vault) → LosesMemory (disks tells may_leave faults) round.key old new None
@@ -308,9 +308,9 @@ module _ {V : Type 0} (tells : Type 0) (may_leave : V → List ℕ → Type 0) (
       }
 
   module _ (seen : V → List ℕ) (moment : V → ℕ) (left_since : V → ℕ → List ℕ → Type 0) (counts_now : (disk : V) (t : ℕ) (c : List ℕ) → tells → t ≤ moment disk → may_leave disk c → left_since disk t c) where
-    pub drew_by : (old new : DeskView V) (ballot : Ballot) → old.id ≤ 16 → Draws old.id old.vault new.vault ballot → Stands tells seen may_leave new.vault → (tells → IsPast may_leave (counter_of new.vault) new.vault)
+    pub drew_by : (old new : DeskView V) (ballot : Ballot) → old.id ≤ 16 → Draws old.id old.vault new.vault ballot → VaultStands tells seen may_leave new.vault → (tells → IsPast may_leave (counter_of new.vault) new.vault)
         → (tells → (n : ℕ) → IsPast may_leave n old.vault → IsPast may_leave n new.vault)
-        → (tells → LeavesOnly moment left_since (disk_of old.vault) (disk_of new.vault) (IsBeforeOrAfter (kept_of old.vault) (kept_to_draw (counter_of old.vault) (kept_of old.vault))))
+        → (tells → LeavesOnly moment left_since (disk_of old.vault) (disk_of new.vault) (KeepsBeforeOrAfter (kept_of old.vault) (kept_to_draw (counter_of old.vault) (kept_of old.vault))))
         → faults (disk_of old.vault) ≤ faults (disk_of new.vault)
         → HasDrawn (disks tells may_leave faults) old.id old.vault new.vault ballot
     drew_by old new ballot few draws stands past still moments never_falls = record {
@@ -321,9 +321,9 @@ module _ {V : Type 0} (tells : Type 0) (may_leave : V → List ℕ → Type 0) (
     }
 
     -- a tag is drawn
-    pub drew_tag : (old new : DeskView V) (ballot : Ballot) → old.id ≤ 16 → old.down ≡ false → Draws old.id old.vault new.vault ballot → new ≡ record old { vault = new.vault } → (new.down ≡ false → Stands tells seen may_leave new.vault)
+    pub drew_tag : (old new : DeskView V) (ballot : Ballot) → old.id ≤ 16 → old.down ≡ false → Draws old.id old.vault new.vault ballot → new ≡ record old { vault = new.vault } → (new.down ≡ false → VaultStands tells seen may_leave new.vault)
         → (tells → IsPast may_leave ballot.counter new.vault) → (tells → (n : ℕ) → IsPast may_leave n old.vault → IsPast may_leave n new.vault)
-        → (tells → LeavesOnly moment left_since (disk_of old.vault) (disk_of new.vault) (IsBeforeOrAfter (kept_of old.vault) (kept_to_draw (counter_of old.vault) (kept_of old.vault))))
+        → (tells → LeavesOnly moment left_since (disk_of old.vault) (disk_of new.vault) (KeepsBeforeOrAfter (kept_of old.vault) (kept_to_draw (counter_of old.vault) (kept_of old.vault))))
         → faults (disk_of old.vault) ≤ faults (disk_of new.vault)
         → HasDrawn (disks tells may_leave faults) old.id old.vault new.vault ballot
     drew_tag old new ballot few up draws at stands past still moments never_falls =
@@ -331,8 +331,8 @@ module _ {V : Type 0} (tells : Type 0) (may_leave : V → List ℕ → Type 0) (
         (λ t. subst (λ (n : ℕ). IsPast may_leave n new.vault) (ap (λ (b : Ballot). b.counter) draws.next ∙ sym draws.counter) (past t)) still moments never_falls
 
     -- the vault failed in a draw beside rounds
-    pub failed_tag : (key : List ℕ) (old new : DeskView V) → old.round ≡ None → GoesDown old new → (tells → (n : ℕ) → IsPast may_leave n old.vault → IsPast may_leave n new.vault)
-        → (tells → LeavesOnly moment left_since (disk_of old.vault) (disk_of new.vault) (IsBeforeOrAfter (kept_of old.vault) (kept_to_draw (counter_of old.vault) (kept_of old.vault))))
+    pub failed_tag : (key : List ℕ) (old new : DeskView V) → old.round ≡ None → GoesDownInDraw old new → (tells → (n : ℕ) → IsPast may_leave n old.vault → IsPast may_leave n new.vault)
+        → (tells → LeavesOnly moment left_since (disk_of old.vault) (disk_of new.vault) (KeepsBeforeOrAfter (kept_of old.vault) (kept_to_draw (counter_of old.vault) (kept_of old.vault))))
         → faults (disk_of old.vault) ≤ faults (disk_of new.vault) → Rose (faults (disk_of old.vault)) (faults (disk_of new.vault))
         → FailsToDraw (disks tells may_leave faults) key old new
     failed_tag key old new none goes still moments never_falls rose =
@@ -347,7 +347,7 @@ module _ {V : Type 0} (tells : Type 0) (may_leave : V → List ℕ → Type 0) (
 
     -- nothing was drawn
     pub kept_by : (old new : DeskView V) → ShowsTheSame old.vault new.vault → (tells → (n : ℕ) → IsPast may_leave n old.vault → IsPast may_leave n new.vault)
-        → (tells → LeavesOnly moment left_since (disk_of old.vault) (disk_of new.vault) (IsBeforeOrAfter (kept_of old.vault) (kept_to_draw (counter_of old.vault) (kept_of old.vault))))
+        → (tells → LeavesOnly moment left_since (disk_of old.vault) (disk_of new.vault) (KeepsBeforeOrAfter (kept_of old.vault) (kept_to_draw (counter_of old.vault) (kept_of old.vault))))
         → faults (disk_of old.vault) ≤ faults (disk_of new.vault)
         → HasKept (disks tells may_leave faults) old.vault new.vault
     kept_by old new shows still moments never_falls = record {
@@ -380,7 +380,7 @@ module _ {V : Type 0} (tells : Type 0) (may_leave : V → List ℕ → Type 0) (
   )
 
   -- it is one for what is asked at the age of a vault that is in use
-  pub tags_all : (seen : V → List ℕ) (goes_on : Option ListingView) (old new : DeskView V) (tag : Ballot) → Stands tells seen may_leave old.vault → HasTag (disks tells may_leave faults) goes_on old new tag → TagsAll (disks tells may_leave faults) goes_on old new tag
+  pub tags_all : (seen : V → List ℕ) (goes_on : Option ListingView) (old new : DeskView V) (tag : Ballot) → VaultStands tells seen may_leave old.vault → HasTag (disks tells may_leave faults) goes_on old new tag → TagsAll (disks tells may_leave faults) goes_on old new tag
   tags_all seen goes_on old new tag stands has = record {
     has_tag = has;
     aged = λ t. (tag_goes_on (disks tells may_leave faults) goes_on old new tag has).ages t _ (aged_by tells may_leave faults seen (kept_of old.vault).age old.vault stands refl t);

@@ -39,7 +39,7 @@ use Rattle.cas_protocol.specs.Protocol.{is_done}
 use Rattle.cas_world_calls.specs.Call.{over, with_proposal}
 use Rattle.cas_world_calls.specs.Proposing.{proposing_of, ProposesOn, FailsToPropose}
 use Rattle.cas_world.specs.Calls.Reading as reading
-use Rattle.cas_world.specs.Calls.Reading.{MayPropose, Reads, Proposes, EndsShort, HasProposed, ready_of}
+use Rattle.cas_world.specs.Calls.Reading.{MayEndPrepare, ReadsRound, Proposes, EndsShort, HasProposed, ready_of}
 use Rattle.cas_world.specs.World.{HasCopies, IsInPhase, IsWorld, WasTold, view_of, call_view, caller_view}
 use Rattle.cas_world_calls.specs.declared.call.Caller.{Caller}
 use Rattle.cas_world_calls.specs.declared.call.OpenCall.{OpenCall}
@@ -67,7 +67,7 @@ module _ {V : Type 0} (m : DiskMeaning V) (round : Round) (old mid new : DeskVie
   turned_desk : mid ≡ record old { round = Some turned }
   turned_desk = at ∙ ap (λ (r : Option Round). record old { round = r }) turned_is
 
-  pub proposed_on : (proposer number : ℕ) (call : OpenCall) (before after : FlowView) (era : Era) (ready : Ready) (made : Proposing) → Reads round era ready → round.key ≡ call.key → has_quorum round.phase ≡ true
+  pub proposed_on : (proposer number : ℕ) (call : OpenCall) (before after : FlowView) (era : Era) (ready : Ready) (made : Proposing) → ReadsRound round era ready → round.key ≡ call.key → has_quorum round.phase ≡ true
       → made ≡ proposing_of (record { caller = proposer; call = number }) call.key era.number call.program ready
       → ProposesOn m turned mid new proposer call.key era (outcome_of call.program ready.state).state ready.ballot before after
       → Proposes m proposer number round call old new before after made
@@ -185,7 +185,7 @@ idle_then m round old new told (reading.by_failure fails) = failed_idle_desk m r
 pub record IsProposing {V : Type 0} (desks : List (DeskView V)) (callers : List Caller) (flow : FlowView) (id : ℕ) (desk : DeskView V) (caller : Caller) (left : ℕ) : Type 0 where
   pub at_desk : IsAt desks id desk
   pub at_caller : IsAt callers id caller
-  pub may : MayPropose desk caller flow id
+  pub may : MayEndPrepare desk caller flow id
   pub reserved : 0 < may.call.reserved
   pub room : 0 < left
 

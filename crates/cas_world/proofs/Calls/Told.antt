@@ -8,13 +8,13 @@ use Rattle.cas_model.specs.History.{IsRemembered}
 use Rattle.cas_model.specs.Step.{Step, Propose, Count}
 use Rattle.cas_model.specs.Calls.Step.{IsFull}
 use Rattle.cas_model.specs.View.{Meaning, View, CallerView, IsAt}
-use Rattle.cas_model_causes.specs.Calls.Causes.{IsTold}
+use Rattle.cas_model_causes.specs.Calls.Causes.{CallIsTold}
 use Rattle.cas_model_causes.specs.Calls.Told.{BeginsBy, PreparesBy, AcceptsBy, TellsAbove}
 use Rattle.cas_model_causes.proofs.Calls.Told.{begins_by, prepares_by, accepts_by, prepares_above, accepts_above}
 use Rattle.cas_world.specs.Calls.Beginning.{BeginsOrNot}
 use Rattle.cas_world.specs.World.{WasTold}
 
-told_so : {S V : Type 0} (view : View S V) (id number : ℕ) (told : Answer) → WasTold view id number told → IsTold view id (Some told)
+told_so : {S V : Type 0} (view : View S V) (id number : ℕ) (told : Answer) → WasTold view id number told → CallIsTold view id (Some told)
 told_so view id number told was = record { caller = was.caller; at_caller = was.at_caller; call = was.call; is_open = was.is_open; told_is = was.told }
 
 -- ---- a beginning

@@ -13,7 +13,7 @@ use Rattle.cas_record.specs.declared.answer.Answer.TheVariants as answer
 use Rattle.cas_record.specs.declared.answer.Cause.TheVariants as cause
 use Rattle.cas_record.specs.declared.operator.OpAnswer.{OpAnswer}
 use Rattle.cas_record.specs.declared.operator.OpAnswer.TheVariants as op
-use Rattle.cas_vault.specs.Vault.{disk_of, counter_of, kept_of, kept_one_older, IsBeforeOrAfter, Stands, IsPast}
+use Rattle.cas_vault.specs.Vault.{disk_of, counter_of, kept_of, kept_one_older, KeepsBeforeOrAfter, VaultStands, IsPast}
 use Rattle.cas_vault.specs.declared.kept.Kept.{Kept}
 use Rattle.cas_vault.specs.declared.error.VaultError.{VaultError}
 use Rattle.cas_vault.specs.declared.error.VaultError.TheVariants as error
@@ -43,7 +43,7 @@ use Rattle.cas_world_calls.specs.declared.council.Council.{Council}
 use Rattle.cas_world.specs.Collection.Collect as marks
 use Rattle.cas_world.specs.Collection.Collect.{GoesOnCollecting, IsDueStep, MarksRenewal}
 use Rattle.cas_world.specs.Exchanges.Exchange.{WasToldOrder}
-use Rattle.cas_world.specs.Eras.Moving.{Leaves, closed_with, crash_at, abandoned_at}
+use Rattle.cas_world.specs.Eras.Moving.{LeavesDesk, closed_with, crash_at, abandoned_at}
 use Rattle.cas_world.specs.World.{view_of, call_view, caller_view}
 use Rattle.cas_collect.specs.declared.collect.CollectStep.TheVariants.{Renew}
 use Rattle.cas_world.proofs.Collection.Collects.{hushed_on}
@@ -57,7 +57,7 @@ use Rattle.cas_world.proofs.Stops.Stops.{HaveCopies, copies_idle, copies_still}
 module _ {V : Type 0} (tells : Type 0) (may_leave : V → List ℕ → Type 0) (faults : V → ℕ) where
   -- it is past the tombstone and at the new age, whatever a crash leaves
   pub grows_older : (seen : V → List ℕ) (key : List ℕ) (tomb : Ballot) (age : ℕ) (old new : DeskView V) → old.down ≡ false → new ≡ record old { vault = new.vault; cache = without key (cache_without old.round old.cache); round = None }
-      → age ≡ (kept_of old.vault).age + 1 → kept_of new.vault ≡ kept_one_older (max (counter_of old.vault) tomb.counter) (kept_of old.vault) → (new.down ≡ false → Stands tells seen may_leave new.vault)
+      → age ≡ (kept_of old.vault).age + 1 → kept_of new.vault ≡ kept_one_older (max (counter_of old.vault) tomb.counter) (kept_of old.vault) → (new.down ≡ false → VaultStands tells seen may_leave new.vault)
       → (tells → IsPast may_leave tomb.counter new.vault) → (tells → (n : ℕ) → IsPast may_leave n old.vault → IsPast may_leave n new.vault) → faults (disk_of old.vault) ≤ faults (disk_of new.vault) → Renews (disks tells may_leave faults) key tomb age old new
   grows_older seen key tomb age old new up desk older kept stands past still never_falls = record {
     up = up;
@@ -85,7 +85,7 @@ module _ {V : Type 0} (tells : Type 0) (may_leave : V → List ℕ → Type 0) (
   -- it stopped within the write: a crash leaves it at the new age, or as it was
   pub fails_to_grow : (moment : V → ℕ) (left_since : V → ℕ → List ℕ → Type 0) (counter : ℕ) (old new : DeskView V) → old.down ≡ false → IsCrashed old new → kept_of new.vault ≡ kept_of old.vault
       → (tells → (t : ℕ) (c : List ℕ) → t ≤ moment (disk_of new.vault) → may_leave (disk_of new.vault) c → left_since (disk_of new.vault) t c)
-      → (tells → LeavesOnly moment left_since (disk_of old.vault) (disk_of new.vault) (IsBeforeOrAfter (kept_of old.vault) (kept_one_older counter (kept_of old.vault))))
+      → (tells → LeavesOnly moment left_since (disk_of old.vault) (disk_of new.vault) (KeepsBeforeOrAfter (kept_of old.vault) (kept_one_older counter (kept_of old.vault))))
       → (tells → (n : ℕ) → IsPast may_leave n old.vault → IsPast may_leave n new.vault) → Rose (faults (disk_of old.vault)) (faults (disk_of new.vault)) → faults (disk_of old.vault) ≤ faults (disk_of new.vault) → FailsToRenew (disks tells may_leave faults) old new
   fails_to_grow moment left_since counter old new up crashed same now moments past rose never_falls = record {
     up = up;
@@ -94,14 +94,14 @@ module _ {V : Type 0} (tells : Type 0) (may_leave : V → List ℕ → Type 0) (
       still_past = past;
       ages = λ told age is. record {
         kept = omega (arith, is.kept, ap (λ (k : Kept). k.age) same);
-        left = λ c k may on. elim (left_at moment left_since may_leave (disk_of old.vault) (disk_of new.vault) (IsBeforeOrAfter (kept_of old.vault) (kept_one_older counter (kept_of old.vault))) (now told) (moments told) c may) [
+        left = λ c k may on. elim (left_at moment left_since may_leave (disk_of old.vault) (disk_of new.vault) (KeepsBeforeOrAfter (kept_of old.vault) (kept_one_older counter (kept_of old.vault))) (now told) (moments told) c may) [
           | inl before ↦ omega (arith, is.kept, ap (λ (x : Kept). x.age) (same_kept k (kept_of old.vault) c on before))
           | inr after ↦ omega (arith, is.kept, ap (λ (x : Kept). x.age) (same_kept k (kept_one_older counter (kept_of old.vault)) c on after))
         ];
       };
       era = λ told era other is. record {
         kept = ap (λ (k : Kept). k.era) same ∙ is.kept;
-        left = λ c k may on. elim (left_at moment left_since may_leave (disk_of old.vault) (disk_of new.vault) (IsBeforeOrAfter (kept_of old.vault) (kept_one_older counter (kept_of old.vault))) (now told) (moments told) c may) [
+        left = λ c k may on. elim (left_at moment left_since may_leave (disk_of old.vault) (disk_of new.vault) (KeepsBeforeOrAfter (kept_of old.vault) (kept_one_older counter (kept_of old.vault))) (now told) (moments told) c may) [
           | inl before ↦ inl (ap (λ (x : Kept). x.era) (same_kept k (kept_of old.vault) c on before) ∙ is.kept)
           | inr after ↦ inl (ap (λ (x : Kept). x.era) (same_kept k (kept_one_older counter (kept_of old.vault)) c on after) ∙ is.kept)
         ];
@@ -113,7 +113,7 @@ module _ {V : Type 0} (tells : Type 0) (may_leave : V → List ℕ → Type 0) (
 
   -- no memory was found for it
   pub finds_no_age : (seen : V → List ℕ) (tomb : Ballot) (old new : DeskView V) → old.down ≡ false → new ≡ record old { vault = new.vault } → counter_of new.vault ≡ max (counter_of old.vault) tomb.counter → kept_of new.vault ≡ kept_of old.vault
-      → (new.down ≡ false → Stands tells seen may_leave new.vault) → (tells → (n : ℕ) → IsPast may_leave n old.vault → IsPast may_leave n new.vault) → faults (disk_of old.vault) ≤ faults (disk_of new.vault) → FindsNoAge (disks tells may_leave faults) tomb old new
+      → (new.down ≡ false → VaultStands tells seen may_leave new.vault) → (tells → (n : ℕ) → IsPast may_leave n old.vault → IsPast may_leave n new.vault) → faults (disk_of old.vault) ≤ faults (disk_of new.vault) → FindsNoAge (disks tells may_leave faults) tomb old new
   finds_no_age seen tomb old new up desk counter same stands past never_falls = record {
     desk = desk;
     counter = counter;
@@ -176,7 +176,7 @@ module _ {S V : Type 0} (m : Meaning S V) (last_proposer : ℕ) (council council
     same = itself;
   }
 
-  grows : (age : ℕ) (result : Result ℕ OpAnswer) → Leaves (Renews m.disks at.collection.course.key (tomb_of at.collection.tombstone) age) (closed_with (λ proposed. aged_answer proposed age)) id desk now caller caller_now flow then_
+  grows : (age : ℕ) (result : Result ℕ OpAnswer) → LeavesDesk (Renews m.disks at.collection.course.key (tomb_of at.collection.tombstone) age) (closed_with (λ proposed. aged_answer proposed age)) id desk now caller caller_now flow then_
       → council_view council_now ≡ with_collection (hushed (council_view council)) (λ c. record (confirmed_step c) { ages = c.ages ++ age ∷ [] }) → flow_now ≡ then_ → result ≡ Ok age → Outcome result
   grows age result leaves_ is flows answer_is = record {
     renews = collect.renews age left
@@ -204,7 +204,7 @@ module _ {S V : Type 0} (m : Meaning S V) (last_proposer : ℕ) (council council
     older = subst (λ (r : Result ℕ OpAnswer). IfOk r (λ age. age ≡ (kept_of desk.vault).age + 1)) (sym answer_is) (turned _ _ id desk now caller caller_now flow then_ leaves_).one_more;
   }
 
-  goes_down : (result : Result ℕ OpAnswer) → Leaves (FailsToRenew m.disks) (closed_with crash_answer) id desk now caller caller_now flow then_ → council_view council_now ≡ telling (crash_at id (council_view council)) (op.ProposerDown id)
+  goes_down : (result : Result ℕ OpAnswer) → LeavesDesk (FailsToRenew m.disks) (closed_with crash_answer) id desk now caller caller_now flow then_ → council_view council_now ≡ telling (crash_at id (council_view council)) (op.ProposerDown id)
       → flow_now ≡ abandoned_at id then_ → result ≡ Err (op.ProposerDown id) → Outcome result
   goes_down result leaves_ is flows answer_is = record {
     renews = by_id id refl;
@@ -257,12 +257,12 @@ module _ {S V : Type 0} (m : Meaning S V) (last_proposer : ℕ) (council council
   }
 
   -- whichever became of it
-  pub renewed_so : (moved : Result ℕ VaultError) (result : Result ℕ OpAnswer) → IfOk moved (λ age. Leaves (Renews m.disks at.collection.course.key (tomb_of at.collection.tombstone) age) (closed_with (λ proposed. aged_answer proposed age)) id desk now caller caller_now flow then_)
-      → (IsErrOf moved error.VaultFault → Leaves (FailsToRenew m.disks) (closed_with crash_answer) id desk now caller caller_now flow then_) → (IsErrOf moved error.Spent → ((kept_of desk.vault).age ≡ 2 ^ 48) × (now ≡ desk))
+  pub renewed_so : (moved : Result ℕ VaultError) (result : Result ℕ OpAnswer) → IfOk moved (λ age. LeavesDesk (Renews m.disks at.collection.course.key (tomb_of at.collection.tombstone) age) (closed_with (λ proposed. aged_answer proposed age)) id desk now caller caller_now flow then_)
+      → (IsErrOf moved error.VaultFault → LeavesDesk (FailsToRenew m.disks) (closed_with crash_answer) id desk now caller caller_now flow then_) → (IsErrOf moved error.Spent → ((kept_of desk.vault).age ≡ 2 ^ 48) × (now ≡ desk))
       → (IsErrOf moved error.NoMemory → FindsNoAge m.disks (tomb_of at.collection.tombstone) desk now) → ((IsErrOf moved error.VaultFault → ⊥) → IfErr moved (λ e. (caller_now ≡ caller) × (then_ ≡ flow)))
       → MarksRenewal id moved (council_view council) (council_view council_now) then_ flow_now result → Outcome result
   renewed_so moved result ok fault spent none same (marks.renews age is council_is flows answer_is) =
-      grows age result (subst (λ (r : Result ℕ VaultError). IfOk r (λ a. Leaves (Renews m.disks at.collection.course.key (tomb_of at.collection.tombstone) a) (closed_with (λ proposed. aged_answer proposed a)) id desk now caller caller_now flow then_)) is ok) council_is flows answer_is
+      grows age result (subst (λ (r : Result ℕ VaultError). IfOk r (λ a. LeavesDesk (Renews m.disks at.collection.course.key (tomb_of at.collection.tombstone) a) (closed_with (λ proposed. aged_answer proposed a)) id desk now caller caller_now flow then_)) is ok) council_is flows answer_is
   renewed_so moved result ok fault spent none same (marks.fails is council_is flows answer_is) = goes_down result (fault is) council_is flows answer_is
   renewed_so moved result ok fault spent none same (marks.is_spent is council_is flows answer_is) =
       let kept = subst (λ (r : Result ℕ VaultError). IfErr r (λ e. (caller_now ≡ caller) × (then_ ≡ flow))) is (same (λ failed. cc (is, failed))) in

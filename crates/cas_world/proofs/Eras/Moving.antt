@@ -16,7 +16,7 @@ use Rattle.cas_record.specs.declared.mark.Mark.{Mark}
 use Rattle.cas_record.specs.declared.mark.Mark.TheVariants.{EraEntered}
 use Rattle.cas_record.specs.declared.operator.OpAnswer.{OpAnswer}
 use Rattle.cas_record.specs.declared.operator.OpAnswer.TheVariants as op
-use Rattle.cas_vault.specs.Vault.{disk_of, kept_of, kept_in_era, IsBeforeOrAfter, Stands, IsPast}
+use Rattle.cas_vault.specs.Vault.{disk_of, kept_of, kept_in_era, KeepsBeforeOrAfter, VaultStands, IsPast}
 use Rattle.cas_vault.specs.declared.kept.Kept.{Kept}
 use Rattle.cas_vault.specs.declared.error.VaultError.{VaultError}
 use Rattle.cas_vault.specs.declared.error.VaultError.TheVariants as error
@@ -39,7 +39,7 @@ use Rattle.cas_world_calls.specs.Answers.{crash_answer, moved_answer}
 use Rattle.cas_world_calls.specs.Call.{over}
 use Rattle.cas_world_calls.specs.Council.{council_view}
 use Rattle.cas_world.specs.Eras.Moving as moving
-use Rattle.cas_world.specs.Eras.Moving.{Leaves, Stays, MarksMove, closed_with, crash_at, abandoned_at}
+use Rattle.cas_world.specs.Eras.Moving.{LeavesDesk, Stays, MarksMove, closed_with, crash_at, abandoned_at}
 use Rattle.cas_world.specs.Exchanges.Exchange.{WasToldOrder}
 use Rattle.cas_world.specs.Eras.Plans.{IsUnderWay}
 use Rattle.cas_world.proofs.Calls.Disks.{disks}
@@ -56,7 +56,7 @@ use Rattle.cas_world.proofs.Stops.Stops.{HaveCopies, copies_idle, copies_still}
 module _ {V : Type 0} (tells : Type 0) (may_leave : V → List ℕ → Type 0) (faults : V → ℕ) where
   -- it is in the era, whatever a crash leaves
   pub enters_era : (seen : V → List ℕ) (era : Era) (old new : DeskView V) → old.down ≡ false → new ≡ record old { vault = new.vault; cache = []; round = None } → kept_of new.vault ≡ kept_in_era era.number (kept_of old.vault)
-      → (new.down ≡ false → Stands tells seen may_leave new.vault) → (tells → (n : ℕ) → IsPast may_leave n old.vault → IsPast may_leave n new.vault) → faults (disk_of old.vault) ≤ faults (disk_of new.vault) → EntersEra (disks tells may_leave faults) era old new
+      → (new.down ≡ false → VaultStands tells seen may_leave new.vault) → (tells → (n : ℕ) → IsPast may_leave n old.vault → IsPast may_leave n new.vault) → faults (disk_of old.vault) ≤ faults (disk_of new.vault) → EntersEra (disks tells may_leave faults) era old new
   enters_era seen era old new up desk kept stands past never_falls = record {
     up = up;
     desk = desk;
@@ -75,7 +75,7 @@ module _ {V : Type 0} (tells : Type 0) (may_leave : V → List ℕ → Type 0) (
   -- it stopped within the write: a crash leaves it in the era, or as it was
   pub fails_to_enter : (moment : V → ℕ) (left_since : V → ℕ → List ℕ → Type 0) (era : Era) (old new : DeskView V) → old.down ≡ false → IsCrashed old new → kept_of new.vault ≡ kept_of old.vault
       → (tells → (t : ℕ) (c : List ℕ) → t ≤ moment (disk_of new.vault) → may_leave (disk_of new.vault) c → left_since (disk_of new.vault) t c)
-      → (tells → LeavesOnly moment left_since (disk_of old.vault) (disk_of new.vault) (IsBeforeOrAfter (kept_of old.vault) (kept_in_era era.number (kept_of old.vault))))
+      → (tells → LeavesOnly moment left_since (disk_of old.vault) (disk_of new.vault) (KeepsBeforeOrAfter (kept_of old.vault) (kept_in_era era.number (kept_of old.vault))))
       → (tells → (n : ℕ) → IsPast may_leave n old.vault → IsPast may_leave n new.vault) → Rose (faults (disk_of old.vault)) (faults (disk_of new.vault)) → FailsToEnter (disks tells may_leave faults) era old new
   fails_to_enter moment left_since era old new up crashed same now moments past rose = record {
     up = up;
@@ -83,14 +83,14 @@ module _ {V : Type 0} (tells : Type 0) (may_leave : V → List ℕ → Type 0) (
     still_past = past;
     ages = λ told age is. record {
       kept = omega (arith, is.kept, ap (λ (k : Kept). k.age) same);
-      left = λ c k may on. elim (left_at moment left_since may_leave (disk_of old.vault) (disk_of new.vault) (IsBeforeOrAfter (kept_of old.vault) (kept_in_era era.number (kept_of old.vault))) (now told) (moments told) c may) [
+      left = λ c k may on. elim (left_at moment left_since may_leave (disk_of old.vault) (disk_of new.vault) (KeepsBeforeOrAfter (kept_of old.vault) (kept_in_era era.number (kept_of old.vault))) (now told) (moments told) c may) [
         | inl before ↦ omega (arith, is.kept, ap (λ (x : Kept). x.age) (same_kept k (kept_of old.vault) c on before))
         | inr after ↦ omega (arith, is.kept, ap (λ (x : Kept). x.age) (same_kept k (kept_in_era era.number (kept_of old.vault)) c on after))
       ];
     };
     torn = λ told number is. record {
       kept = ap (λ (k : Kept). k.era) same ∙ is.kept;
-      left = λ c k may on. elim (left_at moment left_since may_leave (disk_of old.vault) (disk_of new.vault) (IsBeforeOrAfter (kept_of old.vault) (kept_in_era era.number (kept_of old.vault))) (now told) (moments told) c may) [
+      left = λ c k may on. elim (left_at moment left_since may_leave (disk_of old.vault) (disk_of new.vault) (KeepsBeforeOrAfter (kept_of old.vault) (kept_in_era era.number (kept_of old.vault))) (now told) (moments told) c may) [
         | inl before ↦ inl (ap (λ (x : Kept). x.era) (same_kept k (kept_of old.vault) c on before) ∙ is.kept)
         | inr after ↦ inr (ap (λ (x : Kept). x.era) (same_kept k (kept_in_era era.number (kept_of old.vault)) c on after))
       ];
@@ -103,19 +103,19 @@ module _ {V : Type 0} (tells : Type 0) (may_leave : V → List ℕ → Type 0) (
 pub leaves : {V : Type 0} (DeskTurns : DeskView V → DeskView V → Type 0) (told : Bool → Answer) (id : ℕ) (desk now : DeskView V) (caller caller_now : Caller) (flow flow_now : FlowView) (closes proposed : Bool) (said : Answer) (round : Option Round)
     → desk.round ≡ round → closes ≡ is_some round → (IsSome round → IsSome caller.call) → IfSome caller.call (λ call. proposed ≡ is_some call.proposed) → said ≡ told proposed → DeskTurns desk now → flow_now ≡ abandoned flow id
     → (closes ≡ true → IfSome caller.call (λ call. caller_now ≡ record caller { call = Some (record (over call said) { is_closed = true }) })) → (closes ≡ false → caller_now ≡ caller)
-    → Leaves DeskTurns (closed_with told) id desk now caller caller_now flow flow_now
+    → LeavesDesk DeskTurns (closed_with told) id desk now caller caller_now flow flow_now
 leaves DeskTurns told id desk now caller caller_now flow flow_now closes proposed said None is closes_is open_ has says turns flows closed stays = moving.idle is turns (stays closes_is) flows
 leaves {V} DeskTurns told id desk now caller caller_now flow flow_now closes proposed said (Some round) is closes_is open_ has says turns flows closed stays = by_call caller.call refl (open_ refl) has (closed closes_is)
   where
     by_call : (o : Option OpenCall) → caller.call ≡ o → IsSome o → IfSome o (λ call. proposed ≡ is_some call.proposed) → IfSome o (λ call. caller_now ≡ record caller { call = Some (record (over call said) { is_closed = true }) })
-        → Leaves DeskTurns (closed_with told) id desk now caller caller_now flow flow_now
+        → LeavesDesk DeskTurns (closed_with told) id desk now caller caller_now flow flow_now
     by_call None none some at by = absurd (cc some)
     by_call (Some call) is_open some at by =
         moving.closes round call is is_open turns (by ∙ ap (λ (a : Answer). record caller { call = Some (record (over call a) { is_closed = true }) }) (says ∙ ap told at)) flows
 
 -- so it is seen
 pub left_round : {S V : Type 0} (DeskTurns : DeskView V → DeskView V → Type 0) (closed : OpenCall → OpenCall) (seen : CallView → CallView) (last_proposer : ℕ) (council : Council) (acceptors : List (AcceptorView S)) (desks : List (DeskView V)) (callers : List Caller) (flow flow_now : FlowView) (book : Book)
-    (id : ℕ) (desk now : DeskView V) (caller caller_now : Caller) → ((call : OpenCall) → call_view (closed call) ≡ seen (call_view call)) → IsAt desks id desk → IsAt callers id caller → Leaves DeskTurns closed id desk now caller caller_now flow flow_now
+    (id : ℕ) (desk now : DeskView V) (caller caller_now : Caller) → ((call : OpenCall) → call_view (closed call) ≡ seen (call_view call)) → IsAt desks id desk → IsAt callers id caller → LeavesDesk DeskTurns closed id desk now caller caller_now flow flow_now
     → LeavesRound DeskTurns seen (view_of last_proposer council acceptors desks callers flow book) id (view_of last_proposer council acceptors (slice_set desks id now) (slice_set callers id caller_now) flow_now book)
 left_round {S} {V} DeskTurns closed seen last_proposer council acceptors desks callers flow flow_now book id desk now caller caller_now same at_desk at_caller (moving.idle none turns stays flows) =
     stops.idle desk now at_desk none turns
@@ -130,7 +130,7 @@ left_round {S} {V} DeskTurns closed seen last_proposer council acceptors desks c
 
 -- no more is reserved then
 pub left_reserves : {V : Type 0} (DeskTurns : DeskView V → DeskView V → Type 0) (told : Bool → Answer) (id place : ℕ) (callers : List Caller) (desk now : DeskView V) (caller caller_now : Caller) (flow flow_now : FlowView)
-    → IsAt callers place caller → ((call : OpenCall) → caller.call ≡ Some call → 0 < call.reserved) → Leaves DeskTurns (closed_with told) id desk now caller caller_now flow flow_now
+    → IsAt callers place caller → ((call : OpenCall) → caller.call ≡ Some call → 0 < call.reserved) → LeavesDesk DeskTurns (closed_with told) id desk now caller caller_now flow flow_now
     → reserved_of (map caller_view (slice_set callers place caller_now)) ≤ reserved_of (map caller_view callers)
 left_reserves DeskTurns told id place callers desk now caller caller_now flow flow_now at some (moving.idle none turns stays flows) =
     omega (arith, ap (λ (l : List Caller). reserved_of (map caller_view l)) (ap (slice_set callers place) stays ∙ set_same callers place caller at))
@@ -145,7 +145,7 @@ left_reserves DeskTurns told id place callers desk now caller caller_now flow fl
     )
 
 -- the desk changed so
-pub turned : {V : Type 0} (DeskTurns : DeskView V → DeskView V → Type 0) (closed : OpenCall → OpenCall) (id : ℕ) (desk now : DeskView V) (caller caller_now : Caller) (flow flow_now : FlowView) → Leaves DeskTurns closed id desk now caller caller_now flow flow_now → DeskTurns desk now
+pub turned : {V : Type 0} (DeskTurns : DeskView V → DeskView V → Type 0) (closed : OpenCall → OpenCall) (id : ℕ) (desk now : DeskView V) (caller caller_now : Caller) (flow flow_now : FlowView) → LeavesDesk DeskTurns closed id desk now caller caller_now flow flow_now → DeskTurns desk now
 turned DeskTurns closed id desk now caller caller_now flow flow_now (moving.idle none turns stays flows) = turns
 turned DeskTurns closed id desk now caller caller_now flow flow_now (moving.closes round call is is_open turns by flows) = turns
 
@@ -184,7 +184,7 @@ module _ {S V : Type 0} (m : Meaning S V) (last_proposer : ℕ) (council council
   abbrev new : View S V
   new = view_of last_proposer council_now acceptors (slice_set desks id now) (slice_set callers id caller_now) flow_now after
 
-  moves_on : (p : PlanView) → Leaves (EntersEra m.disks next) (closed_with (λ proposed. moved_answer proposed next.number)) id desk now caller caller_now flow then_ → (council_view council).plan ≡ Some p
+  moves_on : (p : PlanView) → LeavesDesk (EntersEra m.disks next) (closed_with (λ proposed. moved_answer proposed next.number)) id desk now caller caller_now flow then_ → (council_view council).plan ≡ Some p
       → council_view council_now ≡ record (hushed (council_view council)) { plan = Some (plan_after last_proposer p next) } → council_now.eras.0 ≡ slice_set council.eras.0 id next → flow_now ≡ then_ → after.marks ≡ middle.marks ++ EraEntered id next.number ∷ []
       → EntersNext m old plan next desk new
   moves_on p leaves_ is_p council_is eras flows marks =
@@ -199,7 +199,7 @@ module _ {S V : Type 0} (m : Meaning S V) (last_proposer : ℕ) (council council
         marks = (marks ∙ ap (λ (ms : List Mark). ms ++ EraEntered id next.number ∷ []) same ∙ ap (λ (n : ℕ). before.marks ++ EraEntered n next.number ∷ []) (sym is_due)) i;
       }))
 
-  goes_down : Leaves (FailsToEnter m.disks next) (closed_with crash_answer) id desk now caller caller_now flow then_ → council_view council_now ≡ telling (crash_at id (council_view council)) (op.ProposerDown id) → council_now.eras.0 ≡ council.eras.0
+  goes_down : LeavesDesk (FailsToEnter m.disks next) (closed_with crash_answer) id desk now caller caller_now flow then_ → council_view council_now ≡ telling (crash_at id (council_view council)) (op.ProposerDown id) → council_now.eras.0 ≡ council.eras.0
       → flow_now ≡ abandoned_at id then_ → after ≡ middle → EntersNext m old plan next desk new
   goes_down leaves_ council_is eras flows books = by_id id refl
     where
@@ -234,17 +234,17 @@ module _ {S V : Type 0} (m : Meaning S V) (last_proposer : ℕ) (council council
       ∙ ap (λ (i : ℕ). told_view (with_desk old i now) (op.Stopped (answer.NoMemory false))) (sym is_due))
 
   -- whichever became of it
-  pub entered_so : (moved : Result ⊤ VaultError) (result : Result ⊤ OpAnswer) → OnOk moved (Leaves (EntersEra m.disks next) (closed_with (λ proposed. moved_answer proposed next.number)) id desk now caller caller_now flow then_)
-      → (IsErrOf moved error.VaultFault → Leaves (FailsToEnter m.disks next) (closed_with crash_answer) id desk now caller caller_now flow then_) → (IsErrOf moved error.NoMemory → Stays m.disks desk now caller caller_now flow then_)
+  pub entered_so : (moved : Result ⊤ VaultError) (result : Result ⊤ OpAnswer) → OnOk moved (LeavesDesk (EntersEra m.disks next) (closed_with (λ proposed. moved_answer proposed next.number)) id desk now caller caller_now flow then_)
+      → (IsErrOf moved error.VaultFault → LeavesDesk (FailsToEnter m.disks next) (closed_with crash_answer) id desk now caller caller_now flow then_) → (IsErrOf moved error.NoMemory → Stays m.disks desk now caller caller_now flow then_)
       → MarksMove last_proposer id next moved (council_view council) (council_view council_now) council.eras.0 council_now.eras.0 then_ flow_now middle after result → EntersNext m old plan next desk new
   entered_so moved result ok fault none (moving.moves p is is_p council_is eras flows marks room answer_is) =
-      moves_on p (subst (λ (r : Result ⊤ VaultError). OnOk r (Leaves (EntersEra m.disks next) (closed_with (λ proposed. moved_answer proposed next.number)) id desk now caller caller_now flow then_)) is ok) is_p council_is eras flows marks
+      moves_on p (subst (λ (r : Result ⊤ VaultError). OnOk r (LeavesDesk (EntersEra m.disks next) (closed_with (λ proposed. moved_answer proposed next.number)) id desk now caller caller_now flow then_)) is ok) is_p council_is eras flows marks
   entered_so moved result ok fault none (moving.fails is council_is eras flows books answer_is) = goes_down (fault is) council_is eras flows books
   entered_so moved result ok fault none (moving.no_memory is council_is eras flows books answer_is) = finds_none (none is) council_is eras flows books
 
   -- no more is reserved than there is room for
-  pub entered_room : (moved : Result ⊤ VaultError) (result : Result ⊤ OpAnswer) → OnOk moved (Leaves (EntersEra m.disks next) (closed_with (λ proposed. moved_answer proposed next.number)) id desk now caller caller_now flow then_)
-      → (IsErrOf moved error.VaultFault → Leaves (FailsToEnter m.disks next) (closed_with crash_answer) id desk now caller caller_now flow then_) → (IsErrOf moved error.NoMemory → Stays m.disks desk now caller caller_now flow then_)
+  pub entered_room : (moved : Result ⊤ VaultError) (result : Result ⊤ OpAnswer) → OnOk moved (LeavesDesk (EntersEra m.disks next) (closed_with (λ proposed. moved_answer proposed next.number)) id desk now caller caller_now flow then_)
+      → (IsErrOf moved error.VaultFault → LeavesDesk (FailsToEnter m.disks next) (closed_with crash_answer) id desk now caller caller_now flow then_) → (IsErrOf moved error.NoMemory → Stays m.disks desk now caller caller_now flow then_)
       → MarksMove last_proposer id next moved (council_view council) (council_view council_now) council.eras.0 council_now.eras.0 then_ flow_now middle after result
       → ((call : OpenCall) → caller.call ≡ Some call → 0 < call.reserved) → reserved_in_all old < middle.room → reserved_in_all new ≤ after.room
   entered_room moved result ok fault none (moving.moves p is is_p council_is eras flows marks room answer_is) some has =
@@ -253,7 +253,7 @@ module _ {S V : Type 0} (m : Meaning S V) (last_proposer : ℕ) (council council
         has,
         room,
         left_reserves (EntersEra m.disks next) (λ proposed. moved_answer proposed next.number) id id callers desk now caller caller_now flow then_ at_caller some
-            (subst (λ (r : Result ⊤ VaultError). OnOk r (Leaves (EntersEra m.disks next) (closed_with (λ proposed. moved_answer proposed next.number)) id desk now caller caller_now flow then_)) is ok),
+            (subst (λ (r : Result ⊤ VaultError). OnOk r (LeavesDesk (EntersEra m.disks next) (closed_with (λ proposed. moved_answer proposed next.number)) id desk now caller caller_now flow then_)) is ok),
         ap reserved_by council_is,
         hushed_reserves (council_view council).order,
       )
@@ -278,13 +278,13 @@ module _ {S V : Type 0} (m : Meaning S V) (last_proposer : ℕ) (council council
       )
 
   -- an accept phase that stays has its copies
-  pub entered_copies : (moved : Result ⊤ VaultError) (result : Result ⊤ OpAnswer) → OnOk moved (Leaves (EntersEra m.disks next) (closed_with (λ proposed. moved_answer proposed next.number)) id desk now caller caller_now flow then_)
-      → (IsErrOf moved error.VaultFault → Leaves (FailsToEnter m.disks next) (closed_with crash_answer) id desk now caller caller_now flow then_) → (IsErrOf moved error.NoMemory → Stays m.disks desk now caller caller_now flow then_)
+  pub entered_copies : (moved : Result ⊤ VaultError) (result : Result ⊤ OpAnswer) → OnOk moved (LeavesDesk (EntersEra m.disks next) (closed_with (λ proposed. moved_answer proposed next.number)) id desk now caller caller_now flow then_)
+      → (IsErrOf moved error.VaultFault → LeavesDesk (FailsToEnter m.disks next) (closed_with crash_answer) id desk now caller caller_now flow then_) → (IsErrOf moved error.NoMemory → Stays m.disks desk now caller caller_now flow then_)
       → MarksMove last_proposer id next moved (council_view council) (council_view council_now) council.eras.0 council_now.eras.0 then_ flow_now middle after result
       → HaveCopies desks callers → HaveCopies (slice_set desks id now) (slice_set callers id caller_now)
   entered_copies moved result ok fault none (moving.moves p is is_p council_is eras flows marks room answer_is) were =
       let by = turned (EntersEra m.disks next) (closed_with (λ proposed. moved_answer proposed next.number)) id desk now caller caller_now flow then_
-      (subst (λ (r : Result ⊤ VaultError). OnOk r (Leaves (EntersEra m.disks next) (closed_with (λ proposed. moved_answer proposed next.number)) id desk now caller caller_now flow then_)) is ok) in
+      (subst (λ (r : Result ⊤ VaultError). OnOk r (LeavesDesk (EntersEra m.disks next) (closed_with (λ proposed. moved_answer proposed next.number)) id desk now caller caller_now flow then_)) is ok) in
       copies_idle desks callers id now caller_now (ap (λ (d : DeskView V). d.round) by.desk) were
   entered_copies moved result ok fault none (moving.fails is council_is eras flows books answer_is) were =
       let by = turned (FailsToEnter m.disks next) (closed_with crash_answer) id desk now caller caller_now flow then_ (fault is) in copies_idle desks callers id now caller_now (ap (λ (d : DeskView V). d.round) by.crashed) were

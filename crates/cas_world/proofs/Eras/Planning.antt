@@ -20,8 +20,8 @@ use Rattle.cas_record.specs.declared.operator.OpAnswer.TheVariants as op
 use Rattle.cas_model.specs.Collection.State.{CollectionView}
 use Rattle.cas_model.specs.Council.{Council, ListingView, OrderView, PlanView, silent_order, told_so}
 use Rattle.cas_model.specs.Eras.Course as course
-use Rattle.cas_model.specs.Eras.Course.{IsMoving, IsSettled, IsStart, IsWhole, WorksIn, base_of, course_of, entering, entries_in}
-use Rattle.cas_model.specs.Eras.Course.{IsUnderWay as IsOnCourse}
+use Rattle.cas_model.specs.Eras.Course.{EraIsMoving, IsSettled, IsStart, IsWhole, WorksIn, base_of, course_of, entering, entries_in}
+use Rattle.cas_model.specs.Eras.Course.{CourseIsUnderWay as IsOnCourse}
 use Rattle.cas_model.specs.Safe.{IsListingSafe, IsRoundSafe, IsSafe}
 use Rattle.cas_model.specs.Step as step
 use Rattle.cas_model.specs.Step.{Step}
@@ -39,7 +39,7 @@ use Rattle.cas_record.specs.declared.operator.Asked.TheVariants as to_do
 use Rattle.cas_world_calls.specs.Council.{due_key, first_of, first_where}
 use Rattle.cas_world.specs.Exchanges.Exchange.{WasToldOrder}
 use Rattle.cas_world.specs.Stops.Restarting.{TellsOfAcceptor}
-use Rattle.cas_world.specs.Eras.Plans.{IsAtEnd, IsUnderWay, MayEnter, MayOpenPlan, asked_to, planned_by, step_of}
+use Rattle.cas_world.specs.Eras.Plans.{IsAtEnd, IsUnderWay, MayEnterNext, MayOpenPlan, asked_to, planned_by, step_of}
 use Rattle.cas_world.specs.declared.plans.PlanKind.{PlanKind}
 use Rattle.cas_world.specs.declared.plans.PlanKind.TheVariants.{Join, Leave}
 
@@ -193,11 +193,11 @@ is_under_way {S} {V} middle new asked progress order is is_open is_for = record 
 
 -- ---- a proposer that has to enter the next era
 -- it is one of the proposers
-pub entrant_known : {S V : Type 0} (view : View S V) (proposer : ℕ) → IsSafe view → MayEnter view proposer → proposer ≤ view.last_proposer
+pub entrant_known : {S V : Type 0} (view : View S V) (proposer : ℕ) → IsSafe view → MayEnterNext view proposer → proposer ≤ view.last_proposer
 entrant_known {S} {V} view proposer safe may =
-    let moves : IsMoving (course_of view) may.plan = subst (λ (o : Option PlanView). IsOnCourse (course_of view) o) may.is_plan safe.course.under_way in omega (arith, moves.some_left, may.is_due)
+    let moves : EraIsMoving (course_of view) may.plan = subst (λ (o : Option PlanView). IsOnCourse (course_of view) o) may.is_plan safe.course.under_way in omega (arith, moves.some_left, may.is_due)
 
-entered_low : {S V : Type 0} (view : View S V) (plan : PlanView) → IsSafe view → view.council.plan ≡ Some plan → IsMoving (course_of view) plan
+entered_low : {S V : Type 0} (view : View S V) (plan : PlanView) → IsSafe view → view.council.plan ≡ Some plan → EraIsMoving (course_of view) plan
 entered_low {S} {V} view plan safe is = subst (λ (o : Option PlanView). IsOnCourse (course_of view) o) is safe.course.under_way
 
 -- ---- the end of a change
@@ -218,7 +218,7 @@ at_end {S} {V} view safe finished = by_plan view.council.plan refl finished
     by_plan None is end = absurd (cc end)
     by_plan (Some plan) is end = by_left plan is plan.progress.left refl (entered_low view plan safe is).start (some_is end)
 
-pub enters_next : {S V : Type 0} (m : Meaning S V) (old new : View S V) (proposer : ℕ) (desk : DeskView V) (caller : CallerView) (may : MayEnter old proposer) → IsAt old.desks proposer desk → IsAt old.callers proposer caller → EntersNext m old may.plan may.next desk new → StepEnterEra m old proposer new
+pub enters_next : {S V : Type 0} (m : Meaning S V) (old new : View S V) (proposer : ℕ) (desk : DeskView V) (caller : CallerView) (may : MayEnterNext old proposer) → IsAt old.desks proposer desk → IsAt old.callers proposer caller → EntersNext m old may.plan may.next desk new → StepEnterEra m old proposer new
 enters_next {S} {V} m old new proposer desk caller may at at_caller by = record {
   plan = may.plan;
   next = may.next;

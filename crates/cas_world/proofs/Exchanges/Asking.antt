@@ -27,7 +27,7 @@ use Rattle.cas_model.proofs.Safety.Marks.{full_for_exchanges}
 use Rattle.cas_model.proofs.Safety.Parts.{at_low}
 use Rattle.cas_world.specs.Calls.Beginning.{HasNoCall}
 use Rattle.cas_world_calls.specs.Council.{council_view, exchange_view, goes_on_in, with_begun}
-use Rattle.cas_world.specs.Exchanges.Exchange.{MayAsk, Opens, FailsToAsk, asked_from, begins_with, question_from, question_in}
+use Rattle.cas_world.specs.Exchanges.Exchange.{MayAskMembers, OpensExchange, FailsToAsk, asked_from, begins_with, question_from, question_in}
 use Rattle.cas_world.specs.World.{view_of, IsWorld}
 use Rattle.cas_world_calls.specs.declared.call.Caller.{Caller}
 use Rattle.cas_world_calls.specs.declared.council.Council.{Council}
@@ -96,7 +96,7 @@ pub idle_first : {S V : Type 0} (view : View S V) (desk : DeskView V) → IsSafe
 idle_first {S} {V} view desk safe none at =
     none_open (era_at view 0) (length view.marks) 0 desk none.caller (queue_at view.flow 0) none.none_open (safe.sound.parties 0 desk none.caller at none.at_caller)
 
-pub may_ask : {S V : Type 0} (view : View S V) (question : Question) (desk : DeskView V) → IsSafe view → MayAsk view question → IsAt view.desks 0 desk → MayAskAll view question desk
+pub may_ask : {S V : Type 0} (view : View S V) (question : Question) (desk : DeskView V) → IsSafe view → MayAskMembers view question → IsAt view.desks 0 desk → MayAskAll view question desk
 may_ask {S} {V} view question desk safe may at = record {
   order = may.order;
   is_open = may.is_open;
@@ -123,7 +123,7 @@ tag_fits {S} {V} view what.List safe = by_plan view.council.plan refl
 
 -- ---- it opens
 pub asks : {S V : Type 0} (m : Meaning S V) (last_proposer : ℕ) (council council_now : Council) (acceptors : List (AcceptorView S)) (desks : List (DeskView V)) (desk now : DeskView V) (callers : List Caller) (flow flow_now : FlowView) (before after : Book) (asking : Query) (opened : Opened)
-    → Opens m.disks desk now flow flow_now (everyone (view_of last_proposer council acceptors desks callers flow before)) (goes_on_in (council_view council) asking) asking (length before.marks) opened
+    → OpensExchange m.disks desk now flow flow_now (everyone (view_of last_proposer council acceptors desks callers flow before)) (goes_on_in (council_view council) asking) asking (length before.marks) opened
     → length before.marks + reserved_in_all (view_of last_proposer council acceptors desks callers flow before) + length (asked_from (everyone (view_of last_proposer council acceptors desks callers flow before)) (goes_on_in (council_view council) asking)) ≤ 1000000
     → after.marks ≡ before.marks → council_now.eras ≡ council.eras
     → council_view council_now ≡ record (council_view council) { exchange = Some (exchange_view opened.exchange); plan = option_map (with_begun opened.begun) (council_view council).plan }

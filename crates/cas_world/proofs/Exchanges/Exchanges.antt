@@ -43,7 +43,7 @@ use Rattle.cas_model.proofs.Eras.Rescanning.{told_reserves}
 use Rattle.cas_model.proofs.Exchanges.Safe.{harm_fits, no_vote}
 use Rattle.cas_model.proofs.Safety.Steps.{steps_are_safe, broken_safe as broken_off_safe, told_safe as told_view_safe}
 use Rattle.cas_world_calls.specs.Call.{reserved_of}
-use Rattle.cas_world_calls.specs.Council.{council_view, exchange_view, order_view, harmed_in, harms_in, harms_of, heard_by, heard_in, IsOfKeys, IsListing, MayConclude, MayList, concluded, left_in, left_to_list, listed_if, GathersAs, crashed, probed, lists, is_short, no_memory}
+use Rattle.cas_world_calls.specs.Council.{council_view, exchange_view, order_view, harmed_in, harms_in, harms_of, heard_by, heard_in, IsOfKeys, EraIsListed, MayConclude, MayList, concluded, left_in, left_to_list, listed_if, GathersAs, crashed, probed, lists, is_short, no_memory}
 use Rattle.cas_world_calls.specs.Answers.{is_plain}
 use Rattle.cas_world.specs.Exchanges.Exchange.{WasToldOrder, HasGathered, IsAsked}
 use Rattle.cas_world.specs.Eras.Plans as endings
@@ -328,7 +328,7 @@ keys_asked (cluster.NextKeys places) is = (places, refl)
 keys_asked other is = absurd is
 
 -- it is of the listing that is under way
-lists_for : {S V : Type 0} (view : View S V) (exchange : ExchangeView) → IsSafe view → view.council.exchange ≡ Some exchange → IsOfKeys exchange.question → (of : IsListing view.council.plan)
+lists_for : {S V : Type 0} (view : View S V) (exchange : ExchangeView) → IsSafe view → view.council.exchange ≡ Some exchange → IsOfKeys exchange.question → (of : EraIsListed view.council.plan)
     → (exchange.question ≡ cluster.NextKeys of.listing.places) × (exchange.tag ≡ of.listing.tag)
 lists_for view exchange safe is_open is_keys of =
     let asks = keys_asked exchange.question is_keys in
@@ -339,7 +339,7 @@ lists_for view exchange safe is_open is_keys of =
       sym open_.same_tag ∙ ap (λ (l : ListingView). l.tag) same,
     )
 
-abbrev lists_at : {S V : Type 0} (view : View S V) (exchange : ExchangeView) (of : IsListing view.council.plan) → (exchange.question ≡ cluster.NextKeys of.listing.places) × (exchange.tag ≡ of.listing.tag) → ListsFor view exchange
+abbrev lists_at : {S V : Type 0} (view : View S V) (exchange : ExchangeView) (of : EraIsListed view.council.plan) → (exchange.question ≡ cluster.NextKeys of.listing.places) × (exchange.tag ≡ of.listing.tag) → ListsFor view exchange
 lists_at view exchange of there = record { plan = of.plan; is_plan = of.is_plan; settles = of.settles; listing = of.listing; is_listing = of.is_listing; question = there.0; tag = there.1 }
 
 -- what is asked beside a collection may be listed

@@ -11,8 +11,8 @@ use Rattle.cas_record.specs.declared.mark.Mark.{Mark}
 use Rattle.cas_record.specs.declared.mark.Mark.TheVariants.{Voted}
 use Rattle.cas_record.specs.Logs.Happening.{marks_of}
 use Rattle.cas_slot.specs.Message.{tag_of}
-use Rattle.cas_slot.specs.Shelf.{Left, OnlyLeaves, LeavesOnly}
-use Rattle.cas_slot.specs.Table.{IsAnswered}
+use Rattle.cas_slot.specs.Shelf.{Left, OnlyLeaves, ShelfLeavesOnly}
+use Rattle.cas_slot.specs.Table.{IsReplyByTable}
 use Rattle.cas_slot.specs.declared.message.Ask.{Ask}
 use Rattle.cas_slot.specs.declared.message.Ask.TheVariants as ask
 use Rattle.cas_slot.specs.declared.message.Reply.{Reply}
@@ -56,7 +56,7 @@ not_down r is memory fell = absurd (cc (is, memory, fell))
 -- it answered
 pub replies_by : {S : Type 0} (m : ShelfMeaning S) (all now : List (AcceptorView S)) (request : Request) (frame : Option Message) (vote : Option Mark) (old new : AcceptorView S) (reply : Reply) (key : Option (List ℕ))
     → IsAt all request.to old → old.id ≡ request.to → old.down ≡ false → new.down ≡ false → new.id ≡ old.id → new.started ≡ old.started
-    → IsAnswered old.id (m.contents old.shelf) request reply (m.contents new.shelf)
+    → IsReplyByTable old.id (m.contents old.shelf) request reply (m.contents new.shelf)
     → (m.tells → new.down ≡ false → OnlyLeaves (m.contents new.shelf) (m.may_leave new.shelf)) → m.faults old.shelf ≤ m.faults new.shelf
     → frame ≡ Some (message.Reply reply) → key ≡ voted_key request.ask → vote ≡ vote_by key reply reply.tell → now ≡ slice_set all request.to new
     → RepliesBy m all request frame vote now
@@ -80,7 +80,7 @@ replies_by {S} m all now request frame vote old new reply key stands is up still
 -- it went down within the answer
 pub stops_within : {S : Type 0} (m : ShelfMeaning S) (moment : S → ℕ) (left_since : S → ℕ → Left → Type 0) (request : Request) (old new : AcceptorView S)
     → old.down ≡ false → new.down ≡ true → new.id ≡ old.id → new.started ≡ old.started
-    → (m.tells → old.down ≡ false → LeavesOnly moment left_since old.shelf new.shelf (LeavesByTable (m.contents old.shelf) request))
+    → (m.tells → old.down ≡ false → ShelfLeavesOnly moment left_since old.shelf new.shelf (LeavesByTable (m.contents old.shelf) request))
     → ((left : Left) → m.tells → moment old.shelf ≤ moment new.shelf → m.may_leave new.shelf left → left_since new.shelf (moment old.shelf) left)
     → Rose (m.faults old.shelf) (m.faults new.shelf) → StopsWithin m old new request
 stops_within {S} m moment left_since request old new up down same_id same_started leaves counts_now rose = record {
@@ -99,7 +99,7 @@ rose_where up (inr rose) = rose
 pub finds_down : {S : Type 0} (m : ShelfMeaning S) (moment : S → ℕ) (left_since : S → ℕ → Left → Type 0) (all now : List (AcceptorView S)) (request : Request) (old new : AcceptorView S)
     → IsAt all request.to old → new.down ≡ true → new.id ≡ old.id → new.started ≡ old.started
     → (old.down ≡ true → new ≡ old)
-    → (m.tells → old.down ≡ false → LeavesOnly moment left_since old.shelf new.shelf (LeavesByTable (m.contents old.shelf) request))
+    → (m.tells → old.down ≡ false → ShelfLeavesOnly moment left_since old.shelf new.shelf (LeavesByTable (m.contents old.shelf) request))
     → ((left : Left) → m.tells → moment old.shelf ≤ moment new.shelf → m.may_leave new.shelf left → left_since new.shelf (moment old.shelf) left)
     → (IsTrue old.down ⊎ Rose (m.faults old.shelf) (m.faults new.shelf)) → now ≡ slice_set all request.to new → FindsDown m all request now
 finds_down {S} m moment left_since all now request old new stands down same_id same_started stays leaves counts_now cause changed = elim (true_or_false old.down) [

@@ -14,7 +14,7 @@ use Rattle.cas_slot.specs.declared.message.Request.{Request}
 use Rattle.cas_model.specs.View.{ShelfMeaning}
 use Rattle.cas_world_calls.specs.Call.{harmed_by, harms_marked}
 use Rattle.cas_world.specs.Frames.Serve.{mark_in, Serves}
-use Rattle.cas_world.specs.Frames.Turn.{Makes, Harms, Asks, is_answered, silent, marking}
+use Rattle.cas_world.specs.Frames.Turn.{MakesInRoom, Harms, Asks, is_answered, silent, marking}
 use Rattle.cas_world.specs.declared.serve.Served.TheVariants as served
 use Rattle.cas_world_calls.specs.declared.call.Caller.{Caller}
 use Rattle.cas_world_calls.specs.declared.call.OpenCall.{OpenCall}
@@ -37,7 +37,7 @@ if_is : {A : Type 0} (P : A → Type 0) {o : Option A} {x : A} → o ≡ Some x 
 if_is {A} P same h = subst (λ (o : Option A). IfSome o P) same h
 
 -- it is told nothing
-pub makes_none : (old new : Caller) (book : Book) → IsSome old.call → IfSome old.call (λ call. new ≡ record old { call = Some (silent call) }) → Makes old new book book silent (λ call. [])
+pub makes_none : (old new : Caller) (book : Book) → IsSome old.call → IfSome old.call (λ call. new ≡ record old { call = Some (silent call) }) → MakesInRoom old new book book silent (λ call. [])
 makes_none old new book is silences =
     let call = some_of old.call is in
     record {
@@ -48,7 +48,7 @@ makes_none old new book is silences =
       room = omega arith;
     }
 
-pub makes_no_vote : (old new : Caller) (book : Book) → IsSome old.call → IfSome old.call (λ call. new ≡ record old { call = Some (silent call) }) → Makes old new book book (marking []) (λ call. [])
+pub makes_no_vote : (old new : Caller) (book : Book) → IsSome old.call → IfSome old.call (λ call. new ≡ record old { call = Some (silent call) }) → MakesInRoom old new book book (marking []) (λ call. [])
 makes_no_vote old new book is silences =
     let call = some_of old.call is in
     let same : call.0.reserved ≡ call.0.reserved - 0 = omega arith in
@@ -63,7 +63,7 @@ makes_no_vote old new book is silences =
 -- and its vote is marked
 pub makes_vote : (old middle new : Caller) (before after : Book) (mark : Mark) → IsSome old.call → IfSome old.call (λ call. middle ≡ record old { call = Some (silent call) })
     → IfSome middle.call (λ call. new ≡ record middle { call = Some (record call { reserved = call.reserved - 1 }) })
-    → after.marks ≡ before.marks ++ mark ∷ [] → after.room + 1 ≡ before.room → Makes old new before after (marking (mark ∷ [])) (λ call. mark ∷ [])
+    → after.marks ≡ before.marks ++ mark ∷ [] → after.room + 1 ≡ before.room → MakesInRoom old new before after (marking (mark ∷ [])) (λ call. mark ∷ [])
 makes_vote old middle new before after mark is silences marks made room =
     let call = some_of old.call is in
     let still : middle ≡ record old { call = Some (silent call.0) } = if_is (λ (c : OpenCall). middle ≡ record old { call = Some (silent c) }) call.1 silences in
@@ -97,14 +97,14 @@ makes_harm proposer old new before after acceptor down is harms made room =
 pub answered : {S : Type 0} (m : ShelfMeaning S) (proposer : ℕ) (verdict : Verdict) (request : Request) (acceptors acceptors_now : List (AcceptorView S)) (caller caller_now : Caller) (flow middle flow_now : FlowView) (before after : Book)
     (frame : Option Message) (vote : Option Mark) → Serves m acceptors request (served.Replied frame vote) acceptors_now → middle ≡ taken flow proposer verdict
     → IfSome frame (λ message. flow_now ≡ with_queue middle proposer (pushed (queue_at middle proposer) message))
-    → Makes caller caller_now before after (marking (mark_in vote)) (λ call. mark_in vote)
+    → MakesInRoom caller caller_now before after (marking (mark_in vote)) (λ call. mark_in vote)
     → Asks m proposer verdict request acceptors acceptors_now caller caller_now flow flow_now before after
 answered {S} m proposer verdict request acceptors acceptors_now caller caller_now flow middle flow_now before after frame vote by takes pushes makes =
     let there : flow_now ≡ with_queue middle proposer (pushed (queue_at middle proposer) (message.Reply by.reply)) =
     if_is (λ (message : Message). flow_now ≡ with_queue middle proposer (pushed (queue_at middle proposer) message)) by.bears pushes in
     is_answered by.acceptor by.after by.reply by.stands by.table by.changed
     (there ∙ ap (λ (f : FlowView). with_queue f proposer (pushed (queue_at f proposer) (message.Reply by.reply))) takes)
-    (subst (λ (marks : List Mark). Makes caller caller_now before after (marking marks) (λ call. marks)) by.voted makes)
+    (subst (λ (marks : List Mark). MakesInRoom caller caller_now before after (marking marks) (λ call. marks)) by.voted makes)
 
 -- what follows where a call succeeded
 pub on_ok : {T E : Type 0} {P Q : Type 0} (result : Result T E) → (P → Q) → OnOk result P → OnOk result Q

@@ -36,7 +36,7 @@ use Rattle.cas_model.proofs.Stops.Safe.{reserves_one, votes_few}
 use Rattle.cas_world_calls.specs.declared.council.Council.{Council}
 use Rattle.cas_world_calls.specs.Call.{harmed_by, harms_marked}
 use Rattle.cas_world.specs.Frames.Serve.{was_down, goes_down, KeepsAll, nothing_asked, was_kept}
-use Rattle.cas_world.specs.Frames.Turn.{MayMark, Makes, Harms, Handles, asks, arrives, is_answered, is_down, marking, silent}
+use Rattle.cas_world.specs.Frames.Turn.{HasReservedMark, MakesInRoom, Harms, HandlesFrame, asks, arrives, is_answered, is_down, marking, silent}
 use Rattle.cas_world.specs.World.{call_view, caller_view, view_of, HasCopies, IsWorld}
 use Rattle.cas_world_calls.specs.declared.proposal.Copies.{Copies}
 use Rattle.cas_world_calls.specs.declared.call.Caller.{Caller}
@@ -107,7 +107,7 @@ open_at last_proposer council acceptors desks callers flow book id caller inv lo
     by_round last_proposer council acceptors desks callers flow book id caller inv some at desk.0 desk.1 desk.0.round refl
 
 -- so a mark may be made
-pub may_mark : {V : Type 0} (desks : List (DeskView V)) (flow : FlowView) (id : ℕ) (caller : Caller) (left : ℕ) → IsOpenAt desks flow id caller left → MayMark caller left
+pub may_mark : {V : Type 0} (desks : List (DeskView V)) (flow : FlowView) (id : ℕ) (caller : Caller) (left : ℕ) → IsOpenAt desks flow id caller left → HasReservedMark caller left
 may_mark desks flow id caller left at = record {
   is_open = subst (λ (o : Option OpenCall). IsSome o) (sym at.is_call) refl;
   reserved = subst (λ (o : Option OpenCall). IfSome o (λ call. 0 < call.reserved)) (sym at.is_call) (omega (arith, at.reserved));
@@ -267,7 +267,7 @@ next_copies {V} desks desks_now callers id caller caller_now call next copies ke
 
 -- a world whose caller went on, with the marks that it made, is kept true where it is safe
 pub next_world : {S V : Type 0} {m : Meaning S V} (last_proposer : ℕ) (council : Council) (acceptors acceptors_now : List (AcceptorView S)) (desks desks_now : List (DeskView V)) (callers : List Caller) (flow flow_now : FlowView) (before after : Book) (id : ℕ) (caller caller_now : Caller)
-    (next : OpenCall → OpenCall) (marks : OpenCall → List Mark) → IsWorld m (view_of last_proposer council acceptors desks callers flow before) callers before.room → IsAt callers id caller → (by : Makes caller caller_now before after next marks)
+    (next : OpenCall → OpenCall) (marks : OpenCall → List Mark) → IsWorld m (view_of last_proposer council acceptors desks callers flow before) callers before.room → IsAt callers id caller → (by : MakesInRoom caller caller_now before after next marks)
     → (next by.call).reserved + length (marks by.call) ≡ by.call.reserved → (next by.call).proposed ≡ by.call.proposed → (next by.call).copies ≡ by.call.copies → KeepsDesks desks desks_now
     → IsSafe (view_of last_proposer council acceptors_now desks_now (slice_set callers id caller_now) flow_now after)
     → Remembers m (view_of last_proposer council acceptors_now desks_now (slice_set callers id caller_now) flow_now after)
@@ -316,7 +316,7 @@ round_at {V} desks flow id caller left desk at there = ap (λ (d : DeskView V). 
 
 pub handles : {S V : Type 0} (m : Meaning S V) (last_proposer : ℕ) (council : Council) (acceptors acceptors_now : List (AcceptorView S)) (desks : List (DeskView V)) (desk desk_now : DeskView V) (callers : List Caller) (flow flow_now : FlowView) (before after : Book) (id : ℕ) (v : Verdict) (caller caller_now : Caller)
     → IsAt desks id desk → IsAt callers id caller → IsOpenAt desks flow id caller before.room → fall_of (queue_at flow id).again v ≡ Handle
-    → Handles m.shelves id v acceptors acceptors_now desk desk_now caller caller_now flow flow_now before after
+    → HandlesFrame m.shelves id v acceptors acceptors_now desk desk_now caller caller_now flow flow_now before after
     → StepTurn m (view_of last_proposer council acceptors desks callers flow before) id v (view_of last_proposer council acceptors_now (slice_set desks id desk_now) (slice_set callers id caller_now) flow_now after)
 handles {S} {V} m last_proposer council acceptors acceptors_now desks desk desk_now callers flow flow_now before after id v caller caller_now at_desk at is_open fall (asks request waits (is_answered acceptor acceptor_now reply there table changed flows makes) same_desk) = record {
   of_call = call_at last_proposer council acceptors desks callers flow before id caller makes.call at makes.was_open;
@@ -373,7 +373,7 @@ hears_keep round heard reply by call has = λ accepting.
 
 pub handled_kept : {S V : Type 0} {w : Meaning S V} (m : ShelfMeaning S) (last_proposer : ℕ) (council : Council) (acceptors acceptors_now : List (AcceptorView S)) (desks : List (DeskView V)) (desk desk_now : DeskView V) (callers : List Caller) (flow flow_now : FlowView) (before after : Book) (id : ℕ) (v : Verdict) (caller caller_now : Caller)
     → IsWorld w (view_of last_proposer council acceptors desks callers flow before) callers before.room → IsAt desks id desk → IsAt callers id caller → IsOpenAt desks flow id caller before.room
-    → Handles m id v acceptors acceptors_now desk desk_now caller caller_now flow flow_now before after
+    → HandlesFrame m id v acceptors acceptors_now desk desk_now caller caller_now flow flow_now before after
     → IsSafe (view_of last_proposer council acceptors_now (slice_set desks id desk_now) (slice_set callers id caller_now) flow_now after)
     → Remembers w (view_of last_proposer council acceptors_now (slice_set desks id desk_now) (slice_set callers id caller_now) flow_now after)
     → IsWorld w (view_of last_proposer council acceptors_now (slice_set desks id desk_now) (slice_set callers id caller_now) flow_now after) (slice_set callers id caller_now) after.room

@@ -16,7 +16,7 @@ use Rattle.cas_proposer.specs.declared.round.Round.{Round}
 use Rattle.cas_vault.specs.declared.kept.Kept.{Kept}
 use Rattle.cas_vault.specs.declared.error.VaultError.{VaultError}
 use Rattle.cas_vault.specs.declared.vault.Vault.{Vault}
-use Rattle.cas_vault.specs.Vault.{kept_of, disk_of, KeptOn, IsPast, Stands}
+use Rattle.cas_vault.specs.Vault.{kept_of, disk_of, KeptOn, IsPast, VaultStands}
 use Rattle.cas_vault.proofs.Keeping.{same_kept}
 use Rattle.cas_model.specs.Step as step
 use Rattle.cas_model.specs.Step.{StepRestartAcceptor, StepRestartProposer}
@@ -24,8 +24,8 @@ use Rattle.cas_model.specs.Stops.Step as stops
 use Rattle.cas_model.specs.Stops.Step.{CrashesDesk}
 use Rattle.cas_quorum.specs.declared.era.Era.{Era}
 use Rattle.cas_model.specs.Eras.Course.{era_shown}
-use Rattle.cas_model.specs.Parties.{IsAged, IsWithin}
-use Rattle.cas_model.specs.Calls.Desks.{GoesOn, Crashes, Restarts}
+use Rattle.cas_model.specs.Parties.{IsAged, VaultKeepsEra}
+use Rattle.cas_model.specs.Calls.Desks.{VaultGoesOn, Crashes, Restarts}
 use Rattle.cas_model.specs.View.{DiskMeaning, Meaning, ShelfMeaning, View, CallerView, IsAt, reserved_in, reserved_of, era_at, with_acceptor, with_desk}
 use Rattle.cas_model.proofs.Places.{at_one, at_set, but_set, own_set, other_set}
 use Rattle.cas_model.proofs.Safety.Parts.{reserved_set}
@@ -102,7 +102,7 @@ desk_stays_down {V} desk now (Err e) err up = elim (true_or_false desk.down) [
 -- ---- vaults
 -- a crash leaves a vault in the same eras, past all that it was past
 pub crash_goes_on : {V : Type 0} (m : DiskMeaning V) (old new : Vault V) (seen : List ℕ) → kept_of new ≡ kept_of old → (m.tells → m.may_leave (disk_of old) seen) → (m.tells → Only seen (m.may_leave (disk_of new)))
-    → (m.tells → (n : ℕ) → IsPast m.may_leave n old → IsPast m.may_leave n new) → m.faults (disk_of old) ≤ m.faults (disk_of new) → GoesOn m old new
+    → (m.tells → (n : ℕ) → IsPast m.may_leave n old → IsPast m.may_leave n new) → m.faults (disk_of old) ≤ m.faults (disk_of new) → VaultGoesOn m old new
 crash_goes_on m old new seen kept image settled past never_falls = record {
   still_past = past;
   never_falls = never_falls;
@@ -117,7 +117,7 @@ crash_goes_on m old new seen kept image settled past never_falls = record {
 }
 
 -- so does the end of a round, which changes nothing of the disk
-pub end_goes_on : {V : Type 0} (m : DiskMeaning V) (old new : Vault V) → kept_of new ≡ kept_of old → disk_of new ≡ disk_of old → ((n : ℕ) → IsPast m.may_leave n old → IsPast m.may_leave n new) → GoesOn m old new
+pub end_goes_on : {V : Type 0} (m : DiskMeaning V) (old new : Vault V) → kept_of new ≡ kept_of old → disk_of new ≡ disk_of old → ((n : ℕ) → IsPast m.may_leave n old → IsPast m.may_leave n new) → VaultGoesOn m old new
 end_goes_on {V} m old new kept disk past = record {
   still_past = λ tells n is. past n is;
   never_falls = no_more (m.faults (disk_of old)) (m.faults (disk_of new)) (ap m.faults disk);
@@ -131,17 +131,17 @@ kept_same old new (Err e) same = same.kept
 
 -- a restart shows one era, and a crash leaves just that from then on
 pub shows_era : {V : Type 0} (m : DiskMeaning V) (old new : Vault V) (seen : List ℕ) → m.may_leave (disk_of old) seen → KeptOn (kept_of new) seen → ((c : List ℕ) → m.may_leave (disk_of new) c → KeptOn (kept_of new) c)
-    → (era other : ℕ) → IsWithin m era other old → IsWithin m era era new ⊎ IsWithin m other other new
+    → (era other : ℕ) → VaultKeepsEra m era other old → VaultKeepsEra m era era new ⊎ VaultKeepsEra m other other new
 shows_era {V} m old new seen image on lasts era other is = elim (is.left seen (kept_of new) image on) [
   | inl same ↦ inl (within era same)
   | inr next ↦ inr (within other next)
 ]
   where
-    within : (n : ℕ) → (kept_of new).era ≡ n → IsWithin m n n new
+    within : (n : ℕ) → (kept_of new).era ≡ n → VaultKeepsEra m n n new
     within n is_n = record { kept = is_n; left = λ c k may k_on. inl (ap (λ (x : Kept). x.era) (same_kept k (kept_of new) c k_on (lasts c may)) ∙ is_n) }
 
 -- one that fails leaves what the vault kept
-pub stays_within : {V : Type 0} (m : DiskMeaning V) (old new : Vault V) → kept_of new ≡ kept_of old → ((c : List ℕ) → m.may_leave (disk_of new) c → m.may_leave (disk_of old) c) → (era other : ℕ) → IsWithin m era other old → IsWithin m era other new
+pub stays_within : {V : Type 0} (m : DiskMeaning V) (old new : Vault V) → kept_of new ≡ kept_of old → ((c : List ℕ) → m.may_leave (disk_of new) c → m.may_leave (disk_of old) c) → (era other : ℕ) → VaultKeepsEra m era other old → VaultKeepsEra m era other new
 stays_within m old new same leaves era other is = record { kept = ap (λ (k : Kept). k.era) same ∙ is.kept; left = λ c k may on. is.left c k (leaves c may) on }
 
 -- a restart shows an age that it kept, and a crash leaves just that from then on
@@ -160,8 +160,8 @@ stays_aged m old new same leaves age is = record { kept = subst (λ (k : Kept). 
 pub record RestartsVault {V : Type 0} (m : DiskMeaning V) (old new : Vault V) (r : Result ⊤ VaultError) : Type 0 where
   pub still_past : m.tells → (n : ℕ) → IsPast m.may_leave n old → IsPast m.may_leave n new
   pub ages : m.tells → (age : ℕ) → IsAged m age old → IsAged m age new
-  pub shows : OnOk r (m.tells → (era other : ℕ) → IsWithin m era other old → IsWithin m era era new ⊎ IsWithin m other other new)
-  pub stays : OnErr r (m.tells → (era other : ℕ) → IsWithin m era other old → IsWithin m era other new)
+  pub shows : OnOk r (m.tells → (era other : ℕ) → VaultKeepsEra m era other old → VaultKeepsEra m era era new ⊎ VaultKeepsEra m other other new)
+  pub stays : OnErr r (m.tells → (era other : ℕ) → VaultKeepsEra m era other old → VaultKeepsEra m era other new)
   pub never_falls : m.faults (disk_of old) ≤ m.faults (disk_of new)
 
 pub restarts_vault : {V : Type 0} (m : DiskMeaning V) (old new : Vault V) (r : Result ⊤ VaultError) (seen : List ℕ) → (m.tells → m.may_leave (disk_of old) seen) → (m.tells → OnOk r (KeptOn (kept_of new) seen))
@@ -200,7 +200,7 @@ on_err_not (Ok x) P is = tt
 on_err_not (Err e) P is = absurd (cc is)
 
 -- a vault that stands leaves what it keeps, where its desk is up
-pub lasts_then : {V : Type 0} (m : DiskMeaning V) (seen : V → List ℕ) (desk now : DeskView V) (r : Result ⊤ VaultError) → OnOk r (now ≡ record desk { vault = now.vault; down = false }) → (now.down ≡ false → Stands m.tells seen m.may_leave now.vault)
+pub lasts_then : {V : Type 0} (m : DiskMeaning V) (seen : V → List ℕ) (desk now : DeskView V) (r : Result ⊤ VaultError) → OnOk r (now ≡ record desk { vault = now.vault; down = false }) → (now.down ≡ false → VaultStands m.tells seen m.may_leave now.vault)
     → OnOk r (m.tells → (c : List ℕ) → m.may_leave (disk_of now.vault) c → KeptOn (kept_of now.vault) c)
 lasts_then {V} m seen desk now (Ok x) ok stands = λ tells. (stands (ap (λ (d : DeskView V). d.down) ok)).images tells
 lasts_then m seen desk now (Err e) ok stands = tt

@@ -24,7 +24,7 @@ use Rattle.cas_world_calls.specs.declared.call.OpenCall.{OpenCall}
 use Rattle.cas_world_calls.specs.declared.proposal.Proposing.{Proposing}
 
 -- a prepare phase that may end, of an open call for the same key
-pub record MayPropose {V : Type 0} (desk : DeskView V) (caller : Caller) (flow : FlowView) (proposer : ℕ) : Type 0 where
+pub record MayEndPrepare {V : Type 0} (desk : DeskView V) (caller : Caller) (flow : FlowView) (proposer : ℕ) : Type 0 where
   pub round : Round
   pub is_round : desk.round ≡ Some round
   pub preparing : is_preparing round.phase ≡ true
@@ -41,7 +41,7 @@ pub record MayPropose {V : Type 0} (desk : DeskView V) (caller : Caller) (flow :
 abbrev pub ready_of : Round → Option Accepted → List ℕ → Ready
 ready_of round read by = record { ballot = round.ballot; state = state_read read; read = accepted_ballot read; by = by }
 
-pub record Reads (round : Round) (era : Era) (ready : Ready) : Type 0 where
+pub record ReadsRound (round : Round) (era : Era) (ready : Ready) : Type 0 where
   pub read : Option Accepted
   pub by : List ℕ
   pub confirmers : IsConfirmersOf round by

@@ -33,7 +33,7 @@ use Rattle.cas_vault.specs.declared.error.VaultError.{VaultError}
 use Rattle.cas_vault.specs.declared.error.VaultError.TheVariants as error
 use Rattle.cas_model.specs.Collection.State.{CollectionView, course_stepped, confirmed_step}
 use Rattle.cas_model.specs.Council as cluster
-use Rattle.cas_model.specs.Collection.Laws.{IsMemberUp, IsRemovalDone, IsUnderWay}
+use Rattle.cas_model.specs.Collection.Laws.{IsMemberUp, IsRemovalDone, MessageIsUnderWay}
 use Rattle.cas_model.specs.Council.{ExchangeView, OrderView, PlanView, telling, hushed}
 use Rattle.cas_protocol.specs.Proposers.{state_read}
 use Rattle.cas_protocol.specs.Protocol.{is_done}
@@ -143,7 +143,7 @@ pub record AreFloorsPassed {S V : Type 0} (m : Meaning S V) (view : View S V) : 
   pub members : (key : List ℕ) (floor : Ballot) (proposer id : ℕ) (acceptor : AcceptorView S) → HasFloor key floor (reverse view.marks) → proposer ≤ view.last_proposer
       → (has_member (era_at view proposer).prep id ≡ true) ⊎ (has_member (era_at view proposer).acc id ≡ true) → IsAt view.acceptors id acceptor → acceptor.down ≡ false
       → (left : Contents) → m.shelves.may_leave acceptor.shelf (Ok left) → IsNoneOrAbove floor (accepted_ballot (accepted_at left key))
-  pub requests : (key : List ℕ) (floor : Ballot) (id : ℕ) (acceptor : AcceptorView S) (request : Request) (left : Contents) → HasFloor key floor (reverse view.marks) → IsMemberUp view id acceptor → IsUnderWay view (message.Request request)
+  pub requests : (key : List ℕ) (floor : Ballot) (id : ℕ) (acceptor : AcceptorView S) (request : Request) (left : Contents) → HasFloor key floor (reverse view.marks) → IsMemberUp view id acceptor → MessageIsUnderWay view (message.Request request)
       → request.to ≡ id → IsRoundAsk request.ask → key_of request.ask ≡ key → BallotAtMost (tag_of request.ask) floor → m.shelves.may_leave acceptor.shelf (Ok left) → request.age < least_age left.ages request.from
 
 -- Where what all members told to a removal brings a collection to its end, the removal is done.

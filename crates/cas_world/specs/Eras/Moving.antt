@@ -26,10 +26,10 @@ abbrev pub closed_with : (Bool → Answer) → OpenCall → OpenCall
 closed_with told call = record (over call (told (is_some call.proposed))) { is_closed = true }
 
 -- the desk changes so and has no open round then: the caller of one is told, and its frames join the late ones
-pub data Leaves {V : Type 0} (DeskTurns : DeskView V → DeskView V → Type 0) (closed : OpenCall → OpenCall) (id : ℕ) (desk now : DeskView V) (caller caller_now : Caller) (flow flow_now : FlowView) : Type 0 where
-  idle : desk.round ≡ None → DeskTurns desk now → caller_now ≡ caller → flow_now ≡ abandoned flow id → Leaves DeskTurns closed id desk now caller caller_now flow flow_now
+pub data LeavesDesk {V : Type 0} (DeskTurns : DeskView V → DeskView V → Type 0) (closed : OpenCall → OpenCall) (id : ℕ) (desk now : DeskView V) (caller caller_now : Caller) (flow flow_now : FlowView) : Type 0 where
+  idle : desk.round ≡ None → DeskTurns desk now → caller_now ≡ caller → flow_now ≡ abandoned flow id → LeavesDesk DeskTurns closed id desk now caller caller_now flow flow_now
   closes : (round : Round) (call : OpenCall) → desk.round ≡ Some round → caller.call ≡ Some call → DeskTurns desk now → caller_now ≡ record caller { call = Some (closed call) } → flow_now ≡ abandoned flow id
-      → Leaves DeskTurns closed id desk now caller caller_now flow flow_now
+      → LeavesDesk DeskTurns closed id desk now caller caller_now flow flow_now
 
 -- all stays but for what the vault lost with the memory
 pub record Stays {V : Type 0} (m : DiskMeaning V) (desk now : DeskView V) (caller caller_now : Caller) (flow flow_now : FlowView) : Type 0 where

@@ -73,7 +73,7 @@ pub record IsPartial (under_way : Option PlanView) : Type 0 where
 
 -- ---- what the calls ask
 -- the operator's call asks for the change, and it is the proposer's turn
-pub record MayEnter {S V : Type 0} (view : View S V) (proposer : ℕ) : Type 0 where
+pub record MayEnterNext {S V : Type 0} (view : View S V) (proposer : ℕ) : Type 0 where
   pub order : OrderView
   pub is_order : view.council.order ≡ Some order
   pub plan : PlanView

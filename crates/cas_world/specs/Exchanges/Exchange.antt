@@ -80,7 +80,7 @@ begins_with members None what.List tag = Some (begun_listing (places_from member
 begins_with members goes_on other tag = None
 
 -- it was opened for just that, no exchange is open, and caller 0 has no open call
-pub record MayAsk {S V : Type 0} (view : View S V) (question : Question) : Type 0 where
+pub record MayAskMembers {S V : Type 0} (view : View S V) (question : Question) : Type 0 where
   pub order : OrderView
   pub is_open : view.council.order ≡ Some order
   pub is_for : IsForQuestion (everyone view) view.council None order.asked question
@@ -98,8 +98,8 @@ pub record MayAskCollected {S V : Type 0} (view : View S V) (step : CollectStep)
 abbrev pub MayAskThis : {S V : Type 0} → View S V → Exchange → Type 0
 MayAskThis view this.Ages = MayAskCollected view collect.Ages
 MayAskThis view this.Remove = MayAskCollected view collect.Remove
-MayAskThis view this.List = MayAsk view (question_in view what.List)
-MayAskThis view (this.Probe key) = MayAsk view (question_in view (what.Probe key))
+MayAskThis view this.List = MayAskMembers view (question_in view what.List)
+MayAskThis view (this.Probe key) = MayAskMembers view (question_in view (what.Probe key))
 
 -- which step of the store that is
 abbrev pub asking_of : {S V : Type 0} → View S V → Exchange → Event
@@ -168,7 +168,7 @@ IsAsked view request = slice_get (queue_at view.flow exchange_place).messages 0 
 
 -- ---- an exchange that opens
 -- it has a tag, and each of those that are to be asked is, behind so many marks
-pub record Opens {V : Type 0} (m : DiskMeaning V) (old new : DeskView V) (before after : FlowView) (members : List ℕ) (goes_on : Option ListingView) (what : Query) (since : ℕ) (opened : Opened) : Type 0 where
+pub record OpensExchange {V : Type 0} (m : DiskMeaning V) (old new : DeskView V) (before after : FlowView) (members : List ℕ) (goes_on : Option ListingView) (what : Query) (since : ℕ) (opened : Opened) : Type 0 where
   pub up : old.down ≡ false
   pub tag : Ballot
   pub tagged : TagsAll m goes_on old new tag

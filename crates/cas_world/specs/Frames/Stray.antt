@@ -33,15 +33,15 @@ pub data ArrivesAt {V : Type 0} (reply : Reply) (desks desks_now : List (DeskVie
 
 -- ---- the frame is let in
 -- no mark is made, and so many more have room
-pub record HasRoom (marks : ℕ) (before after : Book) : Type 0 where
+pub record LeavesRoom (marks : ℕ) (before after : Book) : Type 0 where
   pub same : after.marks ≡ before.marks
   pub room : marks ≤ after.room
 
 -- what the frame bears is handled, once there is room for so many marks; the acceptor at its other end is `peer`
 pub data LetsIn {S V : Type 0} (m : ShelfMeaning S) (index marks peer : ℕ) (acceptors acceptors_now : List (AcceptorView S)) (desks desks_now : List (DeskView V)) (flow flow_now : FlowView) (before after : Book) : Type 0 where
-  asks : (request : Request) (middle : Book) → slice_get flow.late index ≡ Some (message.Request request) → peer ≡ request.to → HasRoom marks before middle
+  asks : (request : Request) (middle : Book) → slice_get flow.late index ≡ Some (message.Request request) → peer ≡ request.to → LeavesRoom marks before middle
       → AsksLate m index request acceptors acceptors_now flow flow_now middle after → desks_now ≡ desks
       → LetsIn m index marks peer acceptors acceptors_now desks desks_now flow flow_now before after
-  arrives : (reply : Reply) → slice_get flow.late index ≡ Some (message.Reply reply) → peer ≡ reply.from → HasRoom marks before after
+  arrives : (reply : Reply) → slice_get flow.late index ≡ Some (message.Reply reply) → peer ≡ reply.from → LeavesRoom marks before after
       → ArrivesAt reply desks desks_now → acceptors_now ≡ acceptors → flow_now ≡ without_late flow index
       → LetsIn m index marks peer acceptors acceptors_now desks desks_now flow flow_now before after

@@ -21,13 +21,13 @@ use Rattle.cas_world_calls.specs.declared.call.OpenCall.{OpenCall}
 
 -- ---- a caller and the record
 -- its call is open, and a mark is reserved for it
-pub record MayMark (caller : Caller) (left : ℕ) : Type 0 where
+pub record HasReservedMark (caller : Caller) (left : ℕ) : Type 0 where
   pub is_open : IsSome caller.call
   pub reserved : IfSome caller.call (λ call. 0 < call.reserved)
   pub room : 0 < left
 
 -- its open call goes on so, and these marks are made in the room that was reserved
-pub record Makes (old new : Caller) (before after : Book) (next : OpenCall → OpenCall) (marks : OpenCall → List Mark) : Type 0 where
+pub record MakesInRoom (old new : Caller) (before after : Book) (next : OpenCall → OpenCall) (marks : OpenCall → List Mark) : Type 0 where
   pub call : OpenCall
   pub was_open : old.call ≡ Some call
   pub caller : new ≡ record old { call = Some (next call) }
@@ -43,14 +43,14 @@ marking marks call = record call { told = None; reserved = call.reserved - lengt
 -- a frame to or from the acceptor is harmed
 abbrev pub Harms : ℕ → Caller → Caller → Book → Book → ℕ → Bool → Type 0
 Harms proposer old new before after acceptor down =
-    Makes old new before after (λ call. harmed_by call acceptor) (λ call. harms_marked proposer old.number call acceptor down)
+    MakesInRoom old new before after (λ call. harmed_by call acceptor) (λ call. harms_marked proposer old.number call acceptor down)
 
 -- ---- a request
 pub data Asks {S : Type 0} (m : ShelfMeaning S) (proposer : ℕ) (verdict : Verdict) (request : Request) (acceptors acceptors_now : List (AcceptorView S)) (caller caller_now : Caller) (flow flow_now : FlowView) (before after : Book) : Type 0 where
   -- the acceptor answers, and its vote is marked
   is_answered : (acceptor acceptor_now : AcceptorView S) (reply : Reply) → IsAt acceptors request.to acceptor → AnswersByTable m acceptor acceptor_now request reply
       → acceptors_now ≡ slice_set acceptors request.to acceptor_now → flow_now ≡ replied_flow flow proposer verdict reply
-      → Makes caller caller_now before after (marking (votes_marked request reply)) (λ call. votes_marked request reply)
+      → MakesInRoom caller caller_now before after (marking (votes_marked request reply)) (λ call. votes_marked request reply)
       → Asks m proposer verdict request acceptors acceptors_now caller caller_now flow flow_now before after
   -- it is down or goes down
   is_down : FindsDown m acceptors request acceptors_now → flow_now ≡ taken flow proposer verdict → Harms proposer caller caller_now before after request.to true
@@ -63,10 +63,10 @@ pub record Arrives {V : Type 0} (old new : DeskView V) (reply : Reply) : Type 0 
   pub heard : (round : Round) → old.round ≡ Some round → IsSomeAnd new.round (Hears round reply)
 
 -- ---- what the frame bears is handled
-pub data Handles {S V : Type 0} (m : ShelfMeaning S) (proposer : ℕ) (verdict : Verdict) (acceptors acceptors_now : List (AcceptorView S)) (desk desk_now : DeskView V) (caller caller_now : Caller) (flow flow_now : FlowView) (before after : Book) : Type 0 where
+pub data HandlesFrame {S V : Type 0} (m : ShelfMeaning S) (proposer : ℕ) (verdict : Verdict) (acceptors acceptors_now : List (AcceptorView S)) (desk desk_now : DeskView V) (caller caller_now : Caller) (flow flow_now : FlowView) (before after : Book) : Type 0 where
   asks : (request : Request) → slice_get (queue_at flow proposer).messages 0 ≡ Some (message.Request request)
       → Asks m proposer verdict request acceptors acceptors_now caller caller_now flow flow_now before after → desk_now ≡ desk
-      → Handles m proposer verdict acceptors acceptors_now desk desk_now caller caller_now flow flow_now before after
+      → HandlesFrame m proposer verdict acceptors acceptors_now desk desk_now caller caller_now flow flow_now before after
   arrives : (reply : Reply) → slice_get (queue_at flow proposer).messages 0 ≡ Some (message.Reply reply) → Arrives desk desk_now reply
-      → Makes caller caller_now before after silent (λ call. []) → acceptors_now ≡ acceptors → flow_now ≡ taken flow proposer verdict
-      → Handles m proposer verdict acceptors acceptors_now desk desk_now caller caller_now flow flow_now before after
+      → MakesInRoom caller caller_now before after silent (λ call. []) → acceptors_now ≡ acceptors → flow_now ≡ taken flow proposer verdict
+      → HandlesFrame m proposer verdict acceptors acceptors_now desk desk_now caller caller_now flow flow_now before after

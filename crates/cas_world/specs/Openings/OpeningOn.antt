@@ -10,7 +10,7 @@ use Rattle.cas_vault.specs.declared.error.VaultError.{VaultError}
 use Rattle.cas_vault.specs.declared.error.VaultError.TheVariants as vault_error
 use Rattle.cas_vault.specs.declared.kept.Kept.{Kept}
 use Rattle.cas_vault.specs.declared.vault.Vault.{Vault}
-use Rattle.cas_model.specs.Openings.{Opening, Holds}
+use Rattle.cas_model.specs.Openings.{Opening, HoldsFloors}
 use Rattle.cas_model.specs.View.{DiskMeaning, IsAt}
 use Rattle.cas_world.specs.declared.fault.OpenFault.{OpenFault}
 use Rattle.cas_world.specs.declared.fault.OpenFault.TheVariants.{DiskFault, Foreign, Spent, NoMemory}
@@ -42,26 +42,26 @@ placed members number (shelf ∷ shelves) = placed_as (has_member members number
 -- the shelf of each member is up, and holds the floors
 pub record MembersHold {S : Type 0} (is_up : S → Type 0) (contents : S → Contents) (members : List ℕ) (floors : List Opening) (shelves : List S) : Type 0 where
   pub up : (id : ℕ) (shelf : S) → has_member members id ≡ true → IsAt shelves id shelf → is_up shelf
-  pub holds : (id : ℕ) (shelf : S) → has_member members id ≡ true → IsAt shelves id shelf → Holds floors (contents shelf)
+  pub holds : (id : ℕ) (shelf : S) → has_member members id ≡ true → IsAt shelves id shelf → HoldsFloors floors (contents shelf)
 
 -- ---- vaults that are taken up
 -- it is past the counter and in era 0, and a crash leaves just what it keeps
-pub record IsTakenUp {V : Type 0} (m : DiskMeaning V) (past : ℕ) (vault : Vault V) : Type 0 where
+pub record VaultIsTakenUp {V : Type 0} (m : DiskMeaning V) (past : ℕ) (vault : Vault V) : Type 0 where
   pub counter : past ≤ counter_of vault
   pub is_past : m.tells → IsPast m.may_leave past vault
   pub era : (kept_of vault).era ≡ 0
   pub lasts : m.tells → (c : List ℕ) → m.may_leave (disk_of vault) c → KeptOn (kept_of vault) c
 
 -- why it was not: where its first foreign byte is, or that its age is at its end
-abbrev pub IsRefused : {V : Type 0} → DiskMeaning V → (V → List ℕ) → Vault V → VaultError → Type 0
-IsRefused m seen vault (vault_error.Foreign at) = m.tells → IsForeignAt (seen (disk_of vault)) at
-IsRefused m seen vault vault_error.Spent = ((kept_of vault).age ≡ 2 ^ 48) × (m.tells → (c : List ℕ) → m.may_leave (disk_of vault) c → KeptOn (kept_of vault) c)
-IsRefused m seen vault other = ⊤
+abbrev pub VaultIsRefused : {V : Type 0} → DiskMeaning V → (V → List ℕ) → Vault V → VaultError → Type 0
+VaultIsRefused m seen vault (vault_error.Foreign at) = m.tells → IsForeignAt (seen (disk_of vault)) at
+VaultIsRefused m seen vault vault_error.Spent = ((kept_of vault).age ≡ 2 ^ 48) × (m.tells → (c : List ℕ) → m.may_leave (disk_of vault) c → KeptOn (kept_of vault) c)
+VaultIsRefused m seen vault other = ⊤
 
 -- the desk of that proposer, over a vault on that disk that was taken up
 pub record IsTakenUpOver {V : Type 0} (m : DiskMeaning V) (faults : V → ℕ) (past id : ℕ) (disk : V) (desk : DeskView V) : Type 0 where
   pub is : desk ≡ record { id = id; vault = desk.vault; cache = []; round = None; down = false }
-  pub vault : IsTakenUp m past desk.vault
+  pub vault : VaultIsTakenUp m past desk.vault
   pub never_falls : faults disk ≤ faults (disk_of desk.vault)
 
 -- the disk of this number failed, or is foreign at that byte, or keeps an age that is at its end; otherwise there was no memory

@@ -24,7 +24,7 @@ use Rattle.casreg_script.specs.Calls.Changes as changes
 use Rattle.casreg_script.specs.Calls.Changes.{Turned, FailsToTurn, EndsPrepareBy, IsAcceptedBy, IsCutOff, IsCutShort, IsRoundBy, AreRoundsBy, AreRounds, IsChange}
 use Rattle.casreg_script.specs.Frames.Conditions.{NetworkView}
 use Rattle.casreg_script.specs.Events as events
-use Rattle.casreg_script.specs.Events.{CrashesAcceptor, RestartsAcceptor, RestartsProposer, StraysIn}
+use Rattle.casreg_script.specs.Events.{CrashesAcceptor, RestartsAcceptor, RestartsProposer, AnswersStray}
 use Rattle.casreg_script.specs.Exchanges.Orders.{KeepsIdle}
 use Rattle.casreg_script.specs.Stage.{AllIdle}
 use Rattle.casreg_script.specs.Frames.Strays.{KeepsUnderWay}
@@ -327,7 +327,7 @@ stray_step m old new index late (frames.brings_down request acceptor now late_is
 stray_step m old new index late (frames.arrives reply desk now round heard late_is at is_round hears is) = by_view old _ new is refl refl refl
 stray_step m old new index late (frames.drops ignored is) = by_view old _ new is refl refl refl
 
-pub strays_keep : {S V : Type 0} (m : Meaning S V) (old new : View S V) (index : ℕ) (answer : EventAnswer) → StraysIn m old index answer new → KeepsCallers old new
+pub strays_keep : {S V : Type 0} (m : Meaning S V) (old new : View S V) (index : ℕ) (answer : EventAnswer) → AnswersStray m old index answer new → KeepsCallers old new
 strays_keep m old new index answer (events.absent none) = by_view old old old refl refl refl refl
 strays_keep m old new index answer (events.strays by) = stray_step m old new index by.late by.strays
 strays_keep m old new index answer (events.full low is) = by_view old old old refl refl refl refl

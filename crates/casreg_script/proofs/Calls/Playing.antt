@@ -29,14 +29,14 @@ use Rattle.cas_world.specs.Calls.Beginning.{HasNoCall, HasRound, MayBegin, first
 use Rattle.cas_world.specs.Readers.{next_number, closed_in, told_if, IsVerdictIn}
 use Rattle.cas_world.specs.Calls.Reading.{HasProposed}
 use Rattle.cas_world.specs.World.{IsInPhase, WasTold}
-use Rattle.casreg_script.specs.Calls.Changes.{IsRefused, full, no_memory, IsAccepting, HasQuorum, IsMet}
+use Rattle.casreg_script.specs.Calls.Changes.{IsRefused, full, no_memory, IsInAcceptPhase, HasQuorum, IsMet}
 use Rattle.casreg_script.proofs.Calls.Keeping.{KeepsOthers, quiet_then, begin_keeps, refuse_keeps, propose_keeps, count_keeps, crash_keeps}
-use Rattle.casreg_script.specs.Calls.Playing.{Asked, IsFor, HasBegun, IsPlaying, IsOver, is_conflict}
+use Rattle.casreg_script.specs.Calls.Playing.{AskedCall, IsCallFor, HasBegun, IsPlaying, IsOver, is_conflict}
 
 -- ---- who plays on
 -- the same caller with another state of its call
-for_on : {S V : Type 0} (old new : View S V) (id : ℕ) (asked : Asked) (was_call : CallView) → IsFor old id asked was_call → (caller : CallerView) (call next : CallView) → IsAt old.callers id caller → caller.call ≡ Some call
-    → new.callers ≡ slice_set old.callers id (record caller { call = Some next }) → next.key ≡ call.key → next.program ≡ call.program → IsFor new id asked next
+for_on : {S V : Type 0} (old new : View S V) (id : ℕ) (asked : AskedCall) (was_call : CallView) → IsCallFor old id asked was_call → (caller : CallerView) (call next : CallView) → IsAt old.callers id caller → caller.call ≡ Some call
+    → new.callers ≡ slice_set old.callers id (record caller { call = Some next }) → next.key ≡ call.key → next.program ≡ call.program → IsCallFor new id asked next
 for_on old new id asked was_call was caller call next at is_open callers key program =
     let one : caller ≡ was.caller = at_one old.callers id at was.at_caller in
     let same_call : call ≡ was_call = some_is (sym is_open ∙ ap (λ (c : CallerView). c.call) one ∙ was.is_call) in
@@ -50,15 +50,15 @@ for_on old new id asked was_call was caller call next at is_open callers key pro
     }
 
 -- the call that is asked for is the one that is open
-pub same_call : {S V : Type 0} (old : View S V) (id : ℕ) (asked : Asked) (was_call : CallView) → IsFor old id asked was_call → (at : OpenCallAt old id) → at.call ≡ was_call
+pub same_call : {S V : Type 0} (old : View S V) (id : ℕ) (asked : AskedCall) (was_call : CallView) → IsCallFor old id asked was_call → (at : OpenCallAt old id) → at.call ≡ was_call
 same_call old id asked was_call was at = some_is (sym at.is_open ∙ ap (λ (c : CallerView). c.call) (at_one old.callers id at.at_caller was.at_caller) ∙ was.is_call)
 
 -- what a call that is open is told
-told_on : {S V : Type 0} (new : View S V) (id : ℕ) (asked : Asked) (next : CallView) (told : Answer) → IsFor new id asked next → next.told ≡ Some told → WasTold new id asked.number told
+told_on : {S V : Type 0} (new : View S V) (id : ℕ) (asked : AskedCall) (next : CallView) (told : Answer) → IsCallFor new id asked next → next.told ≡ Some told → WasTold new id asked.number told
 told_on new id asked next told is tells = record { caller = is.caller; at_caller = is.at_caller; same_number = is.number; call = next; is_open = is.is_call; told = tells }
 
 -- a call that keeps what was proposed, and a desk that keeps its round's phase
-plays_on : {S V : Type 0} (old new : View S V) (id : ℕ) (asked : Asked) (proposed : Bool) (was : IsPlaying old id asked proposed) (caller : CallerView) (call next : CallView) → IsAt old.callers id caller → caller.call ≡ Some call
+plays_on : {S V : Type 0} (old new : View S V) (id : ℕ) (asked : AskedCall) (proposed : Bool) (was : IsPlaying old id asked proposed) (caller : CallerView) (call next : CallView) → IsAt old.callers id caller → caller.call ≡ Some call
     → new.callers ≡ slice_set old.callers id (record caller { call = Some next }) → next.key ≡ call.key → next.program ≡ call.program → next.proposed ≡ call.proposed
     → (desk : DeskView V) → IsAt new.desks id desk → (round : Round) → desk.round ≡ Some round → is_preparing round.phase ≡ is_preparing was.round.phase → new.council.exchange ≡ None → IsPlaying new id asked proposed
 plays_on old new id asked proposed was caller call next at is_open callers key program same desk at_desk round is_round phase quiet =
@@ -77,13 +77,13 @@ plays_on old new id asked proposed was caller call next at is_open callers key p
     }
 
 -- the desk stays
-stays_on : {S V : Type 0} (old new : View S V) (id : ℕ) (asked : Asked) (proposed : Bool) → IsPlaying old id asked proposed → (caller : CallerView) (call next : CallView) → IsAt old.callers id caller → caller.call ≡ Some call
+stays_on : {S V : Type 0} (old new : View S V) (id : ℕ) (asked : AskedCall) (proposed : Bool) → IsPlaying old id asked proposed → (caller : CallerView) (call next : CallView) → IsAt old.callers id caller → caller.call ≡ Some call
     → new.callers ≡ slice_set old.callers id (record caller { call = Some next }) → next.key ≡ call.key → next.program ≡ call.program → next.proposed ≡ call.proposed → new.desks ≡ old.desks → new.council.exchange ≡ None → IsPlaying new id asked proposed
 stays_on old new id asked proposed was caller call next at is_open callers key program same desks quiet =
     plays_on old new id asked proposed was caller call next at is_open callers key program same was.desk (subst (λ (l : List (DeskView _)). IsAt l id was.desk) (sym desks) was.at_desk) was.round was.is_round refl quiet
 
 -- ---- a turn
-pub turn_plays : {S V : Type 0} (m : Meaning S V) (old new : View S V) (id : ℕ) (v : Verdict) (asked : Asked) (proposed : Bool) → IsPlaying old id asked proposed → StepTurn m old id v new → IsPlaying new id asked proposed
+pub turn_plays : {S V : Type 0} (m : Meaning S V) (old new : View S V) (id : ℕ) (v : Verdict) (asked : AskedCall) (proposed : Bool) → IsPlaying old id asked proposed → StepTurn m old id v new → IsPlaying new id asked proposed
 turn_plays {S} {V} m old new id v asked proposed was by = in_turn by.of_call by.front by.turn
   where
     in_turn : (of_call : OpenCallAt old id) (front : Message) → frames.TakesTurn m old id v front of_call.caller of_call.call new → IsPlaying new id asked proposed
@@ -104,12 +104,12 @@ turn_plays {S} {V} m old new id v asked proposed was by = in_turn by.of_call by.
         (hears.hears.same_phase ∙ ap (λ (r : Round). is_preparing r.phase) same_round) was.quiet)
 
 -- ---- no memory for a turn
-pub turn_fails : {S V : Type 0} (m : Meaning S V) (old new : View S V) (id : ℕ) (asked : Asked) (proposed : Bool) → IsPlaying old id asked proposed → StepRefuseTurn m old id new → IsOver new id asked (answer.NoMemory proposed)
+pub turn_fails : {S V : Type 0} (m : Meaning S V) (old new : View S V) (id : ℕ) (asked : AskedCall) (proposed : Bool) → IsPlaying old id asked proposed → StepRefuseTurn m old id new → IsOver new id asked (answer.NoMemory proposed)
 turn_fails {S} {V} m old new id asked proposed was by =
     let at = by.of_call in
     let has : is_some at.call.proposed ≡ proposed = ap (λ (c : CallView). is_some c.proposed) (same_call old id asked was.call was.is_for at) ∙ was.proposed_is in
     let next : CallView = calls.telling at.call (answer.NoMemory (is_some at.call.proposed)) in
-    let is : IsFor new id asked next = for_on old new id asked was.call was.is_for at.caller at.call next at.at_caller at.is_open
+    let is : IsCallFor new id asked next = for_on old new id asked was.call was.is_for at.caller at.call next at.at_caller at.is_open
     (ap (λ (w : View S V). w.callers) by.view ∙ ap (λ (l : List CallerView). slice_set l id (record at.caller { call = Some next })) (callers_stay by.refuses)) refl refl in
     record {
       call = next;
@@ -124,7 +124,7 @@ turn_fails {S} {V} m old new id asked proposed was by =
     callers_stay (frames.kept id acceptor now there finds same) = ap (λ (w : View S V). w.callers) same
 
 -- ---- the round that has begun
-pub round_plays : {S V : Type 0} (view : View S V) (id : ℕ) (asked : Asked) (proposed : Bool) → HasBegun view id asked → ((seen : CallerView) → slice_get view.callers id ≡ Some seen → IfSome seen.call (λ call. proposed ≡ is_some call.proposed))
+pub round_plays : {S V : Type 0} (view : View S V) (id : ℕ) (asked : AskedCall) (proposed : Bool) → HasBegun view id asked → ((seen : CallerView) → slice_get view.callers id ≡ Some seen → IfSome seen.call (λ call. proposed ≡ is_some call.proposed))
     → ((desk : DeskView V) → slice_get view.desks id ≡ Some desk → IfSome desk.round (λ round. is_preparing round.phase ≡ not proposed)) → IsPlaying view id asked proposed
 round_plays {S} {V} view id asked proposed was says phase = by_round was.desk.round refl was.is_open
   where
@@ -143,14 +143,14 @@ round_plays {S} {V} view id asked proposed was says phase = by_round was.desk.ro
     }
 
 -- a phase none of whose frames waits
-pub in_phase_of : {S V : Type 0} (view : View S V) (id : ℕ) (asked : Asked) (proposed : Bool) → IsPlaying view id asked proposed → (queue_at view.flow id).messages ≡ [] → IsInPhase view id (not proposed)
+pub in_phase_of : {S V : Type 0} (view : View S V) (id : ℕ) (asked : AskedCall) (proposed : Bool) → IsPlaying view id asked proposed → (queue_at view.flow id).messages ≡ [] → IsInPhase view id (not proposed)
 in_phase_of view id asked proposed was none = record { desk = was.desk; at_desk = was.at_desk; round = was.round; is_round = was.is_round; phase = was.phase; none_waits = none }
 
-pub is_accepting : {S V : Type 0} (view : View S V) (id : ℕ) (asked : Asked) → IsPlaying view id asked true → IsAccepting view id
+pub is_accepting : {S V : Type 0} (view : View S V) (id : ℕ) (asked : AskedCall) → IsPlaying view id asked true → IsInAcceptPhase view id
 is_accepting view id asked was = record { desk = was.desk; at_desk = was.at_desk; round = was.round; is_round = was.is_round; accepting = was.phase }
 
 -- ---- a proposal
-pub propose_plays : {S V : Type 0} (m : Meaning S V) (old new : View S V) (id : ℕ) (asked : Asked) (proposed : Bool) → IsPlaying old id asked proposed → HasProposed new id → StepPropose m old id new → IsPlaying new id asked true
+pub propose_plays : {S V : Type 0} (m : Meaning S V) (old new : View S V) (id : ℕ) (asked : AskedCall) (proposed : Bool) → IsPlaying old id asked proposed → HasProposed new id → StepPropose m old id new → IsPlaying new id asked true
 propose_plays {S} {V} m old new id asked proposed was has by = in_phase by.at_round.of_call by.at_round.desk by.at_round.round by.proposes
   where
     quiet : new.council.exchange ≡ None
@@ -184,7 +184,7 @@ none_of None is = refl
 none_of (Some x) is = absurd (cc is)
 
 -- a prepare phase that ended without a proposal
-pub propose_over : {S V : Type 0} (m : Meaning S V) (old new : View S V) (id : ℕ) (asked : Asked) (told : Answer) → IsPlaying old id asked false → StepPropose m old id new → ((caller : CallerView) → slice_get old.callers id ≡ Some caller → WasTold new id caller.number told) → IsOver new id asked told
+pub propose_over : {S V : Type 0} (m : Meaning S V) (old new : View S V) (id : ℕ) (asked : AskedCall) (told : Answer) → IsPlaying old id asked false → StepPropose m old id new → ((caller : CallerView) → slice_get old.callers id ≡ Some caller → WasTold new id caller.number told) → IsOver new id asked told
 propose_over {S} {V} m old new id asked told was by tells = record {
   call = (now_for by.at_round.of_call by.at_round.desk by.at_round.round by.proposes).0;
   is_for = (now_for by.at_round.of_call by.at_round.desk by.at_round.round by.proposes).1;
@@ -194,16 +194,16 @@ propose_over {S} {V} m old new id asked told was by tells = record {
 }
   where
     -- what the caller was told is what its call says
-    is_told : (call : CallView) → IsFor new id asked call → call.told ≡ Some told
+    is_told : (call : CallView) → IsCallFor new id asked call → call.told ≡ Some told
     is_told call is =
         let was_told = tells was.is_for.caller was.is_for.at_caller in
         let one : was_told.caller ≡ is.caller = at_one new.callers id was_told.at_caller is.at_caller in
         ap (λ (c : CallView). c.told) (some_is (sym is.is_call ∙ ap (λ (c : CallerView). c.call) (sym one) ∙ was_told.is_open)) ∙ was_told.told
 
-    over_for : (at : OpenCallAt old id) (now : DeskView V) (one : Answer) → new.callers ≡ slice_set old.callers id (record at.caller { call = Some (calls.over at.call one) }) → IsFor new id asked (calls.over at.call one)
+    over_for : (at : OpenCallAt old id) (now : DeskView V) (one : Answer) → new.callers ≡ slice_set old.callers id (record at.caller { call = Some (calls.over at.call one) }) → IsCallFor new id asked (calls.over at.call one)
     over_for at now one callers = for_on old new id asked was.call was.is_for at.caller at.call (calls.over at.call one) at.at_caller at.is_open callers refl refl
 
-    now_for : (of_call : OpenCallAt old id) (desk : DeskView V) (round : Round) → calls.ProposesOrEnds m old id desk round of_call.caller of_call.call new → (call : CallView) × IsFor new id asked call
+    now_for : (of_call : OpenCallAt old id) (desk : DeskView V) (round : Round) → calls.ProposesOrEnds m old id desk round of_call.caller of_call.call new → (call : CallView) × IsCallFor new id asked call
     now_for at desk round (calls.proposes now turned read by ride outcome flow quorum confirmers reads turns made sends same) =
         (calls.proposing at.call outcome, for_on old new id asked was.call was.is_for at.caller at.call (calls.proposing at.call outcome) at.at_caller at.is_open (ap (λ (w : View S V). w.callers) same) refl refl)
     now_for at desk round (calls.ends now verdict one is refuses ends same) = (calls.over at.call one, over_for at now one (ap (λ (w : View S V). w.callers) same))
@@ -302,11 +302,11 @@ pub not_met : {S V : Type 0} (view : View S V) (id number tries : ℕ) (told : A
 not_met view id number tries told was is met = absurd (cc (is, met_is view id number told was met))
 
 -- so another round may begin
-pub may_again : {S V : Type 0} (view : View S V) (id : ℕ) (asked : Asked) (told : Answer) → IsOver view id asked told → is_conflict told ≡ true → MayBegin view id asked.number asked.key asked.program
+pub may_again : {S V : Type 0} (view : View S V) (id : ℕ) (asked : AskedCall) (told : Answer) → IsOver view id asked told → is_conflict told ≡ true → MayBegin view id asked.number asked.key asked.program
 may_again view id asked told over is = let met = conflict_met told is in over.again met.0 met.1
 
 -- ---- a count
-pub count_over : {S V : Type 0} (m : Meaning S V) (old new : View S V) (id : ℕ) (asked : Asked) (told : Answer) → IsPlaying old id asked true → StepCount m old id new → ((caller : CallerView) → slice_get old.callers id ≡ Some caller → WasTold new id caller.number told) → IsOver new id asked told
+pub count_over : {S V : Type 0} (m : Meaning S V) (old new : View S V) (id : ℕ) (asked : AskedCall) (told : Answer) → IsPlaying old id asked true → StepCount m old id new → ((caller : CallerView) → slice_get old.callers id ≡ Some caller → WasTold new id caller.number told) → IsOver new id asked told
 count_over {S} {V} m old new id asked told was by tells = record {
   call = (now_for by.at_round.of_call by.at_round.desk by.at_round.round by.counts).0;
   is_for = (now_for by.at_round.of_call by.at_round.desk by.at_round.round by.counts).1;
@@ -315,10 +315,10 @@ count_over {S} {V} m old new id asked told was by tells = record {
   again = in_phase by.at_round.of_call by.at_round.desk by.at_round.round by.counts;
 }
   where
-    over_for : (at : OpenCallAt old id) (one : Answer) → new.callers ≡ slice_set old.callers id (record at.caller { call = Some (calls.over at.call one) }) → (call : CallView) × IsFor new id asked call
+    over_for : (at : OpenCallAt old id) (one : Answer) → new.callers ≡ slice_set old.callers id (record at.caller { call = Some (calls.over at.call one) }) → (call : CallView) × IsCallFor new id asked call
     over_for at one callers = (calls.over at.call one, for_on old new id asked was.call was.is_for at.caller at.call (calls.over at.call one) at.at_caller at.is_open callers refl refl)
 
-    now_for : (of_call : OpenCallAt old id) (desk : DeskView V) (round : Round) → calls.CountsOrEnds m old id desk round of_call.caller of_call.call new → (call : CallView) × IsFor new id asked call
+    now_for : (of_call : OpenCallAt old id) (desk : DeskView V) (round : Round) → calls.CountsOrEnds m old id desk round of_call.caller of_call.call new → (call : CallView) × IsCallFor new id asked call
     now_for at desk round (calls.counts now by outcome quorum confirmers proposed ends same) = over_for at _ (ap (λ (w : View S V). w.callers) same)
     now_for at desk round (calls.ends now verdict why is cause ends same) = over_for at _ (ap (λ (w : View S V). w.callers) same)
 
@@ -345,13 +345,13 @@ crashed_not_done true = refl
 crashed_not_done false = refl
 
 -- what the caller of the round is told, as its closing shows
-pub record IsCrashed {S V : Type 0} (view : View S V) (id : ℕ) (asked : Asked) (closed : Option Answer) : Type 0 where
+pub record IsCrashed {S V : Type 0} (view : View S V) (id : ℕ) (asked : AskedCall) (closed : Option Answer) : Type 0 where
   pub told : Answer
   pub is : closed ≡ Some told
   pub over : IsOver view id asked told
   pub not_done : is_done told ≡ false
 
-crash_of : {S V : Type 0} (m : Meaning S V) (old middle new : View S V) (id : ℕ) (asked : Asked) (proposed : Bool) (closed : Option Answer) → IsPlaying old id asked proposed → CrashesDesk m old id middle → new.callers ≡ middle.callers → new.council.exchange ≡ None
+crash_of : {S V : Type 0} (m : Meaning S V) (old middle new : View S V) (id : ℕ) (asked : AskedCall) (proposed : Bool) (closed : Option Answer) → IsPlaying old id asked proposed → CrashesDesk m old id middle → new.callers ≡ middle.callers → new.council.exchange ≡ None
     → ((caller : CallerView) → IsAt new.callers id caller → closed ≡ closed_in caller.call) → IsCrashed new id asked closed
 crash_of {S} {V} m old middle new id asked proposed closed was (idle desk now at none crashes same) callers quiet says =
     absurd (cc (sym none ∙ ap (λ (d : DeskView V). d.round) (at_one old.desks id at was.at_desk) ∙ was.is_round))
@@ -365,7 +365,7 @@ crash_of {S} {V} m old middle new id asked proposed closed was (closes desk now 
       not_done = crashed_not_done (is_some at.call.proposed);
     }
 
-pub crash_over : {S V : Type 0} (m : Meaning S V) (old new : View S V) (id : ℕ) (asked : Asked) (proposed : Bool) (closed : Option Answer) → IsPlaying old id asked proposed → StepCrashProposer m old id new → ((caller : CallerView) → IsAt new.callers id caller → closed ≡ closed_in caller.call)
+pub crash_over : {S V : Type 0} (m : Meaning S V) (old new : View S V) (id : ℕ) (asked : AskedCall) (proposed : Bool) (closed : Option Answer) → IsPlaying old id asked proposed → StepCrashProposer m old id new → ((caller : CallerView) → IsAt new.callers id caller → closed ≡ closed_in caller.call)
     → IsCrashed new id asked closed
 crash_over m old new id asked proposed closed was (of_client client crashes) says =
     crash_of m old new new id asked proposed closed was crashes refl (quiet_then old new id (crash_keeps m old new id (of_client client crashes)) was.quiet) says
@@ -377,7 +377,7 @@ verdict_shown : (r : Option RoundVerdict) (round : Round) → IsVerdictIn (Some 
 verdict_shown None round is = absurd is
 verdict_shown (Some v) round is = (λ same. is.1.0 (some_is same), λ quorum. ap (λ (w : RoundVerdict). Some w) (is.1.1 quorum))
 
-pub quorum_shown : {S V : Type 0} (view : View S V) (id : ℕ) (asked : Asked) (proposed : Bool) (r : Option RoundVerdict) → IsPlaying view id asked proposed → ((desk : DeskView V) → IsAt view.desks id desk → IsVerdictIn desk.round r) → (r ≡ Some verdict.Quorum) ↔ HasQuorum view id
+pub quorum_shown : {S V : Type 0} (view : View S V) (id : ℕ) (asked : AskedCall) (proposed : Bool) (r : Option RoundVerdict) → IsPlaying view id asked proposed → ((desk : DeskView V) → IsAt view.desks id desk → IsVerdictIn desk.round r) → (r ≡ Some verdict.Quorum) ↔ HasQuorum view id
 quorum_shown {S} {V} view id asked proposed r was says =
     let shown = verdict_shown r was.round (subst (λ (o : Option Round). IsVerdictIn o r) was.is_round (says was.desk was.at_desk)) in (
       λ is. record { desk = was.desk; at_desk = was.at_desk; round = was.round; is_round = was.is_round; quorum = shown.0 is },
@@ -537,7 +537,7 @@ again_is A m old new id number before key program told last was (inr not_begun) 
 
 -- ---- a call ends
 -- the key that it was for is proposed anew with it, if it is due
-pub ends_rescan : {S V : Type 0} (m : Meaning S V) (old told new : View S V) (id : ℕ) (asked : Asked) (answer : Answer) → KeepsOthers old told id → old.council.exchange ≡ None → IsOver told id asked answer → StepEnd m told id answer new
+pub ends_rescan : {S V : Type 0} (m : Meaning S V) (old told new : View S V) (id : ℕ) (asked : AskedCall) (answer : Answer) → KeepsOthers old told id → old.council.exchange ≡ None → IsOver told id asked answer → StepEnd m told id answer new
     → calls.Rescans old.council id asked.key answer new.council
 ends_rescan {S} {V} m old told new id asked answer keeps quiet over by =
     let key : by.of_call.call.key ≡ asked.key = ap (λ (c : CallView). c.key) (same_call told id asked over.call over.is_for by.of_call) ∙ over.is_for.key in

@@ -22,8 +22,8 @@ use Rattle.cas_model.specs.View.{Meaning, View}
 use Rattle.cas_model.proofs.Frames.Steps.{taken_own}
 use Rattle.cas_model.proofs.Places.{queue_same, has_queue, some_is}
 use Rattle.casreg_script.specs.Calls.Changes.{Turned, FailsToTurn, one_more}
-use Rattle.casreg_script.specs.Frames.Conditions.{NetworkView, Decides, is_to_repeat}
-use Rattle.casreg_script.specs.Frames.Strays.{LetsIn, KeepsUnderWay}
+use Rattle.casreg_script.specs.Frames.Conditions.{NetworkView, DecidesVerdict, is_to_repeat}
+use Rattle.casreg_script.specs.Frames.Strays.{LetsStrayIn, KeepsUnderWay}
 use Rattle.casreg_script.specs.Calls.Playing.{turns_of, turns_in, turns_left_in, turns_left}
 
 -- ---- frames of rounds
@@ -135,14 +135,14 @@ module _ {S V : Type 0} (mid near : View S V) (place : ℕ) (keeps : KeepsUnderW
 
 -- of the frame became what the network decided
 pub turned_more : {S V : Type 0} (m : Meaning S V) (id : ℕ) (old mid near new : View S V) {by before between after : NetworkView} {again : Bool} {verdict : Verdict} (front : Option (Leg × ℕ)) (leg : Leg) (peer : ℕ) → front ≡ option_map head_of (slice_get (queue_at mid.flow id).messages 0) → front ≡ Some (leg, peer)
-    → KeepsUnderWay mid near → Turned m by id old before again mid → LetsIn m before mid between near → Decides (leg, peer) between again verdict after → StepTurn m near id verdict new → Turned m by id old after (is_to_repeat again verdict) new
+    → KeepsUnderWay mid near → Turned m by id old before again mid → LetsStrayIn m before mid between near → DecidesVerdict (leg, peer) between again verdict after → StepTurn m near id verdict new → Turned m by id old after (is_to_repeat again verdict) new
 turned_more m id old mid near new {between = between} {after = after} {again = again} {verdict = verdict} front leg peer shown is keeps turned lets decides by =
     let one = front_of (queue_at mid.flow id).messages front leg peer shown is in
-    one_more one.frame turned lets (waits_near mid near id keeps one.at) (subst (λ (h : Leg × ℕ). Decides h between again verdict after) (sym one.head) decides) by
+    one_more one.frame turned lets (waits_near mid near id keeps one.at) (subst (λ (h : Leg × ℕ). DecidesVerdict h between again verdict after) (sym one.head) decides) by
 
 -- no memory was found for its turn
 pub turn_refused : {S V : Type 0} (m : Meaning S V) (id : ℕ) (old mid near new : View S V) {by before between after : NetworkView} {again : Bool} {verdict : Verdict} (front : Option (Leg × ℕ)) (leg : Leg) (peer : ℕ) → front ≡ option_map head_of (slice_get (queue_at mid.flow id).messages 0) → front ≡ Some (leg, peer)
-    → KeepsUnderWay mid near → Turned m by id old before again mid → LetsIn m before mid between near → Decides (leg, peer) between again verdict after → StepRefuseTurn m near id new → FailsToTurn m by id old after new
+    → KeepsUnderWay mid near → Turned m by id old before again mid → LetsStrayIn m before mid between near → DecidesVerdict (leg, peer) between again verdict after → StepRefuseTurn m near id new → FailsToTurn m by id old after new
 turn_refused m id old mid near new {before = before} {between = between} {after = after} {again = again} {verdict = verdict} front leg peer shown is keeps turned lets decides by =
     let one = front_of (queue_at mid.flow id).messages front leg peer shown is in
     record {
@@ -156,7 +156,7 @@ turn_refused m id old mid near new {before = before} {between = between} {after 
       frame = one.frame;
       waits = waits_near mid near id keeps one.at;
       verdict = verdict;
-      decides = subst (λ (h : Leg × ℕ). Decides h between again verdict after) (sym one.head) decides;
+      decides = subst (λ (h : Leg × ℕ). DecidesVerdict h between again verdict after) (sym one.head) decides;
       fails = by;
     }
 

@@ -22,10 +22,10 @@ use Rattle.cas_world.specs.Exchanges.Exchange as world
 use Rattle.cas_world.specs.Exchanges.Exchange.{HasGathered, MayAskCollected, MayGather, WasToldOrder, gathering_by, gathering_of}
 use Rattle.casreg_script.specs.Collection.Collecting.{IsDue, IsBuried}
 use Rattle.casreg_script.specs.Collection.Collections as collections
-use Rattle.casreg_script.specs.Collection.Collections.{AreTombstoneRounds, EndsReading, EndsVoting, HasRounds, HasTaken, IsCalled, TakesStep}
+use Rattle.casreg_script.specs.Collection.Collections.{AreTombstoneRounds, EndsReading, EndsVoting, HasRounds, HasTaken, IsCalled, TakesCollectStep}
 use Rattle.casreg_script.specs.Frames.Conditions.{NetworkView}
 use Rattle.casreg_script.specs.Exchanges.Exchanges.{AsksMembers, HasConfirmed, KeepsCalls}
-use Rattle.casreg_script.specs.Exchanges.Orders.{GoesOn, KeepsIdle}
+use Rattle.casreg_script.specs.Exchanges.Orders.{ExchangeGoesOn, KeepsIdle}
 use Rattle.casreg_script.specs.declared.halt.Halt.{Halt}
 use Rattle.casreg_script.proofs.Exchanges.Asking.{keeps_idle}
 use Rattle.casreg_script.proofs.Eras.Entering.{leaves_idle, down_idle, told_idle}
@@ -116,14 +116,14 @@ called_idle m tries key halt after old new (collections.over by none) own = idle
 called_idle m tries key halt after old new (collections.ended {told = told} answer by ends) own = idle_by old new (clients_join old told new (has_rounds_clients m tries key halt after old told by) (end_clients m told new answer ends)) own
 
 -- ---- its steps
-pub goes_on_due : {S V : Type 0} (view : View S V) (key : List ℕ) (step : CollectStep) → IsDue view key step → GoesOn view
+pub goes_on_due : {S V : Type 0} (view : View S V) (key : List ℕ) (step : CollectStep) → IsDue view key step → ExchangeGoesOn view
 goes_on_due view key step was = record { order = was.order; is_open = was.is_open; untold = was.untold }
 
 pub taken_on : {S V : Type 0} {m : Meaning S V} {net between : NetworkView} {old mid : View S V} {next : NetworkView} {new : View S V} → HasTaken m net old between mid → HasTaken m between mid next new → HasTaken m net old next new
 taken_on before collections.none = before
 taken_on before (collections.one_more more on by) = collections.one_more (taken_on before more) on by
 
-pub one_step : {S V : Type 0} {m : Meaning S V} {net next : NetworkView} {old new : View S V} (key : List ℕ) (step : CollectStep) → IsDue old key step → TakesStep m net old next new → HasTaken m net old next new
+pub one_step : {S V : Type 0} {m : Meaning S V} {net next : NetworkView} {old new : View S V} (key : List ℕ) (step : CollectStep) → IsDue old key step → TakesCollectStep m net old next new → HasTaken m net old next new
 one_step {old = old} key step was by = collections.one_more collections.none (goes_on_due old key step was) by
 
 -- the next one is due
@@ -262,7 +262,7 @@ pub record HasLed {S V : Type 0} (m : Meaning S V) (net : NetworkView) (old : Vi
   pub idle : KeepsIdle old new
 
 -- and one more, which may be the last
-pub taken_then : {S V : Type 0} {m : Meaning S V} {net between next : NetworkView} {old mid new : View S V} (key : List ℕ) (step : CollectStep) → HasLed m net old between mid key step → TakesStep m between mid next new → HasTaken m net old next new
+pub taken_then : {S V : Type 0} {m : Meaning S V} {net between next : NetworkView} {old mid new : View S V} (key : List ℕ) (step : CollectStep) → HasLed m net old between mid key step → TakesCollectStep m between mid next new → HasTaken m net old next new
 taken_then key step led by = collections.one_more led.taken (goes_on_due _ key step led.now_due) by
 
 idle_join : {S V : Type 0} (old mid new : View S V) → KeepsIdle old mid → KeepsIdle mid new → KeepsIdle old new
@@ -302,6 +302,6 @@ pub at_end : {S V : Type 0} (view : View S V) (key : List ℕ) → IsDue view ke
 at_end view key was = subst (λ (o : Option CollectionView). IsSomeAnd o (λ c. c.course.step ≡ due.End)) (sym was.is_collection) was.is_due
 
 -- it is at its end, or was told why it goes no further
-pub ends_so : {S V A : Type 0} (view : View S V) (key : List ℕ) (result : Result A OpAnswer) → OnOk result (IsDue view key due.End) → IfErr result (WasToldOrder view) → GoesOn view → IsSomeAnd view.council.collection (λ c. c.course.step ≡ due.End)
+pub ends_so : {S V A : Type 0} (view : View S V) (key : List ℕ) (result : Result A OpAnswer) → OnOk result (IsDue view key due.End) → IfErr result (WasToldOrder view) → ExchangeGoesOn view → IsSomeAnd view.council.collection (λ c. c.course.step ≡ due.End)
 ends_so view key (Ok done) ends told on = at_end view key ends
 ends_so view key (Err said) ends told on = told_stays view said told on

@@ -37,13 +37,13 @@ use Rattle.casreg_script.specs.Calls.Changes.{IsMet}
 use Rattle.casreg_script.specs.Collection.Collecting.{IsSeeking, IsRunning, IsInRound, HasStopped, IsBuried}
 use Rattle.casreg_script.specs.Collection.Collections.{EndsReading, proposes, reads_held, EndsVoting, acknowledges, leaves_open, IsUnsettled}
 use Rattle.casreg_script.specs.Exchanges.Orders.{IsFree, IsOrdered}
-use Rattle.casreg_script.specs.Calls.Playing.{Asked, IsFor, HasBegun, IsPlaying, IsOver}
+use Rattle.casreg_script.specs.Calls.Playing.{AskedCall, IsCallFor, HasBegun, IsPlaying, IsOver}
 use Rattle.casreg_script.proofs.Calls.Keeping.{begin_keeps, propose_keeps, count_keeps}
 use Rattle.casreg_script.proofs.Calls.Playing.{same_call, told_in, has_begun, begun_over, begun_not_met, propose_plays, propose_over, count_over, end_closes}
 
 -- ---- the same callers and desks
 module _ {S V : Type 0} (old new : View S V) (callers : new.callers ≡ old.callers) where
-  call_same : (id : ℕ) (asked : Asked) (call : CallView) → IsFor old id asked call → IsFor new id asked call
+  call_same : (id : ℕ) (asked : AskedCall) (call : CallView) → IsCallFor old id asked call → IsCallFor new id asked call
   call_same id asked call was = record { caller = was.caller; at_caller = ap (λ (l : List CallerView). slice_get l id) callers ∙ was.at_caller; number = was.number; is_call = was.is_call; key = was.key; program = was.program }
 
   told_same : (id number : ℕ) (told : Answer) → WasTold old id number told → WasTold new id number told
@@ -57,7 +57,7 @@ module _ {S V : Type 0} (old new : View S V) (callers : new.callers ≡ old.call
   may_same id number key program desks (another caller call at is_call is same_key same_program none met no_round) =
       another caller call (ap (λ (l : List CallerView). slice_get l id) callers ∙ at) is_call is same_key same_program none met (λ desk at_desk. no_round desk (sym (ap (λ (l : List (DeskView V)). slice_get l id) desks) ∙ at_desk))
 
-  begun_same : (id : ℕ) (asked : Asked) → new.desks ≡ old.desks → new.council.exchange ≡ None → HasBegun old id asked → HasBegun new id asked
+  begun_same : (id : ℕ) (asked : AskedCall) → new.desks ≡ old.desks → new.council.exchange ≡ None → HasBegun old id asked → HasBegun new id asked
   begun_same id asked desks quiet was = record {
     call = was.call;
     is_for = call_same id asked was.call was.is_for;
@@ -67,7 +67,7 @@ module _ {S V : Type 0} (old new : View S V) (callers : new.callers ≡ old.call
     quiet = quiet;
   }
 
-  over_same : (id : ℕ) (asked : Asked) (told : Answer) → new.desks ≡ old.desks → new.council.exchange ≡ None → IsOver old id asked told → IsOver new id asked told
+  over_same : (id : ℕ) (asked : AskedCall) (told : Answer) → new.desks ≡ old.desks → new.council.exchange ≡ None → IsOver old id asked told → IsOver new id asked told
   over_same id asked told desks quiet was = record {
     call = was.call;
     is_for = call_same id asked was.call was.is_for;
@@ -94,7 +94,7 @@ pub seeks_on : {S V : Type 0} (old new : View S V) (key : List ℕ) → new.coun
 seeks_on old new key same was = subst (λ (c : Council). IsSeeking c key) (sym same) was
 
 -- the call that is open is that of the collection
-pub collecting_call : {S V : Type 0} (view : View S V) (asked : Asked) (call : CallView) → IsFor view 0 asked call → IsSeeking view.council asked.key → IsCollectingCall view
+pub collecting_call : {S V : Type 0} (view : View S V) (asked : AskedCall) (call : CallView) → IsCallFor view 0 asked call → IsSeeking view.council asked.key → IsCollectingCall view
 collecting_call view asked call is seeks = record {
   of_call = record { caller = is.caller; at_caller = is.at_caller; call = call; is_open = is.is_call };
   is = subst (IsCollecting view.council) (sym is.key) seeks.is;
@@ -110,7 +110,7 @@ may_collect_first {S} {V} view key was free = record {
   goes_on = λ caller call at is. absurd (cc (sym is ∙ ap (λ (c : CallerView). c.call) (at_one view.callers 0 at free.idle.at_caller) ∙ free.idle.none_open));
 }
 
-pub may_collect_again : {S V : Type 0} (view : View S V) (asked : Asked) (told : Answer) → HasStopped view asked told → MayCollectKey view asked.key
+pub may_collect_again : {S V : Type 0} (view : View S V) (asked : AskedCall) (told : Answer) → HasStopped view asked told → MayCollectKey view asked.key
 may_collect_again view asked told was = record {
   order = was.seeks.is.at.order;
   is_open = was.seeks.is.at.is_open;
@@ -211,11 +211,11 @@ module _ {S V : Type 0} (m : Meaning S V) (old new : View S V) (key : List ℕ) 
 
 -- ---- its round
 -- it has begun, and is in the phase that its call says
-pub is_in_round : {S V : Type 0} (view : View S V) (asked : Asked) (proposed : Bool) → IsRunning view asked → IsPlaying view 0 asked proposed → IsInRound view asked proposed
+pub is_in_round : {S V : Type 0} (view : View S V) (asked : AskedCall) (proposed : Bool) → IsRunning view asked → IsPlaying view 0 asked proposed → IsInRound view asked proposed
 is_in_round view asked proposed was plays = record { plays = plays; seeks = was.seeks }
 
 -- a held state was read
-pub held_buried : {S V : Type 0} (m : Meaning S V) (old new : View S V) (asked : Asked) (proposed : Bool) → IsInRound old asked proposed → StepReadHeld m old new → IsBuried new asked.key
+pub held_buried : {S V : Type 0} (m : Meaning S V) (old new : View S V) (asked : AskedCall) (proposed : Bool) → IsInRound old asked proposed → StepReadHeld m old new → IsBuried new asked.key
 held_buried {S} {V} m old new asked proposed was by =
     let of_key : by.of_call.call.key ≡ asked.key = ap (λ (c : CallView). c.key) (same_call old 0 asked was.plays.call was.plays.is_for by.of_call) ∙ was.plays.is_for.key in
     record {
@@ -240,7 +240,7 @@ held_buried {S} {V} m old new asked proposed was by =
     }
 
 -- the empty state is proposed
-pub empty_plays : {S V : Type 0} (m : Meaning S V) (old new : View S V) (asked : Asked) → IsInRound old asked false → HasProposed new 0 → StepPropose m old 0 new → IsInRound new asked true
+pub empty_plays : {S V : Type 0} (m : Meaning S V) (old new : View S V) (asked : AskedCall) → IsInRound old asked false → HasProposed new 0 → StepPropose m old 0 new → IsInRound new asked true
 empty_plays m old new asked was has by = record {
   plays = propose_plays m old new 0 asked false was.plays has by;
   seeks = seeks_on old new asked.key ((propose_keeps m old new 0 by).council was.plays.quiet) was.seeks;
@@ -269,7 +269,7 @@ propose_not_done {S} {V} m old new told by tells = in_phase by.at_round.of_call 
     in_phase at desk round (calls.loses now ballot loses same) = sym (ap is_done (some_is (told_now old new 0 at (calls.over at.call (answer.NoMemory false)) told (ap (λ (w : View S V). w.callers) same) tells)))
 
 -- nothing is proposed
-pub propose_stops : {S V : Type 0} (m : Meaning S V) (old new : View S V) (asked : Asked) (told : Answer) → IsInRound old asked false → StepPropose m old 0 new → ((caller : CallerView) → slice_get old.callers 0 ≡ Some caller → WasTold new 0 caller.number told) → HasStopped new asked told
+pub propose_stops : {S V : Type 0} (m : Meaning S V) (old new : View S V) (asked : AskedCall) (told : Answer) → IsInRound old asked false → StepPropose m old 0 new → ((caller : CallerView) → slice_get old.callers 0 ≡ Some caller → WasTold new 0 caller.number told) → HasStopped new asked told
 propose_stops m old new asked told was by tells = record {
   over = propose_over m old new 0 asked told was.plays by tells;
   seeks = seeks_on old new asked.key ((propose_keeps m old new 0 by).council was.plays.quiet) was.seeks;
@@ -277,7 +277,7 @@ propose_stops m old new asked told was by tells = record {
 }
 
 -- its frames' turns cut it off
-pub cut_stops : {S V : Type 0} (old new : View S V) (asked : Asked) (proposed : Bool) (told : Answer) → IsInRound old asked proposed → new.council ≡ old.council → IsOver new 0 asked told → is_done told ≡ false → HasStopped new asked told
+pub cut_stops : {S V : Type 0} (old new : View S V) (asked : AskedCall) (proposed : Bool) (told : Answer) → IsInRound old asked proposed → new.council ≡ old.council → IsOver new 0 asked told → is_done told ≡ false → HasStopped new asked told
 cut_stops old new asked proposed told was same over not_done = record { over = over; seeks = seeks_on old new asked.key same was.seeks; known = λ done. absurd (cc (done, not_done)) }
 
 -- ---- what was accepted is counted
@@ -298,7 +298,7 @@ counted_so : {S V : Type 0} (old middle : View S V) (call : CallView) (collectio
 counted_so old middle call collection now (collects.acknowledges took acknowledgment told marks key era is) = record { course = ap (λ (c : CollectionView). c.course) is; calling = ap (λ (c : CollectionView). c.calling) is; known = ap (λ (c : CollectionView). is_sought c.tombstone) is }
 counted_so old middle call collection now (collects.finds_held version body took ballot told is) = record { course = ap (λ (c : CollectionView). c.course) is; calling = ap (λ (c : CollectionView). c.calling) is; known = ap (λ (c : CollectionView). is_sought c.tombstone) is }
 
-done_stops : {S V : Type 0} (m : Meaning S V) (old new : View S V) (asked : Asked) (told : Answer) → IsInRound old asked true → Step m old CountCollect new → ((caller : CallerView) → slice_get old.callers 0 ≡ Some caller → WasTold new 0 caller.number told) → HasStopped new asked told
+done_stops : {S V : Type 0} (m : Meaning S V) (old new : View S V) (asked : AskedCall) (told : Answer) → IsInRound old asked true → Step m old CountCollect new → ((caller : CallerView) → slice_get old.callers 0 ≡ Some caller → WasTold new 0 caller.number told) → HasStopped new asked told
 unfolding seeks_by
 done_stops {S} {V} m old new asked told was by tells =
     let callers : new.callers ≡ by.middle.callers = ap (λ (w : View S V). w.callers) by.view in
@@ -313,7 +313,7 @@ done_stops {S} {V} m old new asked told was by tells =
       known = λ done. so.known;
     }
 
-other_stops : {S V : Type 0} (m : Meaning S V) (old new : View S V) (asked : Asked) (told : Answer) → IsInRound old asked true → is_done told ≡ false → StepCount m old 0 new → ((caller : CallerView) → slice_get old.callers 0 ≡ Some caller → WasTold new 0 caller.number told) → HasStopped new asked told
+other_stops : {S V : Type 0} (m : Meaning S V) (old new : View S V) (asked : AskedCall) (told : Answer) → IsInRound old asked true → is_done told ≡ false → StepCount m old 0 new → ((caller : CallerView) → slice_get old.callers 0 ≡ Some caller → WasTold new 0 caller.number told) → HasStopped new asked told
 other_stops m old new asked told was not_done by tells = record {
   over = count_over m old new 0 asked told was.plays by tells;
   seeks = seeks_on old new asked.key ((count_keeps m old new 0 by).council was.plays.quiet) was.seeks;
@@ -338,7 +338,7 @@ unsettled {S} {V} m old new told not_done by tells = in_phase by.at_round.of_cal
           told = refl;
         }
 
-pub counted_stops : {S V : Type 0} (m : Meaning S V) (old new : View S V) (asked : Asked) (told : Answer) → IsInRound old asked true → CountsTombstone m old told new → ((caller : CallerView) → slice_get old.callers 0 ≡ Some caller → WasTold new 0 caller.number told) → HasStopped new asked told
+pub counted_stops : {S V : Type 0} (m : Meaning S V) (old new : View S V) (asked : AskedCall) (told : Answer) → IsInRound old asked true → CountsTombstone m old told new → ((caller : CallerView) → slice_get old.callers 0 ≡ Some caller → WasTold new 0 caller.number told) → HasStopped new asked told
 counted_stops m old new asked told was by tells = elim (true_or_false (is_done told)) [
   | inl done ↦ done_stops m old new asked told was (counts_done m old new told done by) tells
   | inr other ↦ other_stops m old new asked told was other (counts_other m old new told other by) tells
@@ -365,7 +365,7 @@ none_anew none (calls.rescans of done is) = absurd (cc (sym none ∙ of.is_plan)
 none_anew none (calls.stops of not_done is) = absurd (cc (sym none ∙ of.is_plan))
 none_anew none (calls.is_none other is) = is
 
-module _ {S V : Type 0} (m : Meaning S V) (old new : View S V) (asked : Asked) (told : Answer) (was : HasStopped old asked told) (by : Step m old (EndCollect told) new) where
+module _ {S V : Type 0} (m : Meaning S V) (old new : View S V) (asked : AskedCall) (told : Answer) (was : HasStopped old asked told) (by : Step m old (EndCollect told) new) where
   pub end_idle : HasNoCall new 0
   end_idle =
       let none = end_closes m old by.middle 0 told by.ends in
@@ -419,7 +419,7 @@ told_call old new number key told leaves (is_refused before after why same) = ab
 told_call old new number key told leaves (is_told said is not_done open_then was collects_now) = (said, is, record { not_done = not_done; was_told = was; is = collects_now })
 
 -- another round of it
-pub told_again : {S V : Type 0} (old new : View S V) (number : ℕ) (key : List ℕ) (told : OpAnswer) (asked : Asked) (last : Answer) → HasStopped old asked last → CollectsNot old new number key told → (said : Answer) × (told ≡ op.Stopped said) × WasBegun new number key said
+pub told_again : {S V : Type 0} (old new : View S V) (number : ℕ) (key : List ℕ) (told : OpAnswer) (asked : AskedCall) (last : Answer) → HasStopped old asked last → CollectsNot old new number key told → (said : Answer) × (told ≡ op.Stopped said) × WasBegun new number key said
 told_again {S} {V} old new number key told asked last was (is_refused before after why same) =
     absurd (cc (sym before.none_open ∙ ap (λ (c : CallerView). c.call) (at_one old.callers 0 before.at_caller was.over.was_told.at_caller) ∙ was.over.was_told.is_open))
 told_again old new number key told asked last was (is_told said is not_done open_then was_told collects_now) = (said, is, record { not_done = not_done; was_told = was_told; is = collects_now })
@@ -429,7 +429,7 @@ pub said_so : {S V : Type 0} (new : View S V) (number : ℕ) (key : List ℕ) (t
 said_so {S} {V} new number key told said answered is says begun = let one : said ≡ answered = cc (is, says) in subst (WasBegun new number key) one begun
 
 -- ---- where it stands
-pub in_round_still : {S V : Type 0} (old new : View S V) (asked : Asked) (proposed : Bool) → IsInRound old asked proposed → new.council ≡ old.council → IsPlaying new 0 asked proposed → IsInRound new asked proposed
+pub in_round_still : {S V : Type 0} (old new : View S V) (asked : AskedCall) (proposed : Bool) → IsInRound old asked proposed → new.council ≡ old.council → IsPlaying new 0 asked proposed → IsInRound new asked proposed
 in_round_still old new asked proposed was same plays = record { plays = plays; seeks = seeks_on old new asked.key same was.seeks }
 
 pub buried_not_met : {S V A : Type 0} (view : View S V) (key : List ℕ) → IsBuried view key → IsMet view 0 → A
@@ -445,6 +445,6 @@ ends_reading m old new (Ok (reading.Held version)) empty held err reads =
     reads_held version (record { desk = by.desk; at_desk = by.at_desk; finds = (reads version by.desk by.at_desk).0 refl }) by
 ends_reading m old new (Err told) empty held err reads = proposes (λ version found. absurd (cc ((reads version found.desk found.at_desk).1 found.finds))) err
 
-pub reading_stops : {S V : Type 0} (m : Meaning S V) (old new : View S V) (asked : Asked) (result : Result Reading Answer) → IsInRound old asked false → OnErr result (StepPropose m old 0 new) → ((caller : CallerView) → slice_get old.callers 0 ≡ Some caller → IfErr result (WasTold new 0 caller.number)) → IfErr result (HasStopped new asked)
+pub reading_stops : {S V : Type 0} (m : Meaning S V) (old new : View S V) (asked : AskedCall) (result : Result Reading Answer) → IsInRound old asked false → OnErr result (StepPropose m old 0 new) → ((caller : CallerView) → slice_get old.callers 0 ≡ Some caller → IfErr result (WasTold new 0 caller.number)) → IfErr result (HasStopped new asked)
 reading_stops m old new asked (Ok read) was err tells = tt
 reading_stops m old new asked (Err told) was err tells = propose_stops m old new asked told was err tells

@@ -12,7 +12,7 @@ use Rattle.cas_world.specs.Calls.Beginning.{HasNoCall}
 use Rattle.cas_world.specs.Eras.Plans.{IsUnderWay}
 use Rattle.casreg_script.specs.Exchanges.Exchanges.{HasListed, KeepsCalls}
 use Rattle.casreg_script.specs.Eras.Membership.{TakesStep, steps_left}
-use Rattle.casreg_script.specs.Exchanges.Orders.{GoesOn, IsFree, KeepsIdle}
+use Rattle.casreg_script.specs.Exchanges.Orders.{ExchangeGoesOn, IsFree, KeepsIdle}
 use Rattle.casreg_script.proofs.Exchanges.Asking.{has_gone_on, same_idle, both_idle, keeps_idle}
 use Rattle.casreg_script.proofs.Eras.Entering.{Enters, enter_idle}
 use Rattle.casreg_script.proofs.Calls.Keeping.{LeavesOthers, still_none}
@@ -36,7 +36,7 @@ then_goes old mid new before after = record {
   idle = both_idle old mid new before.idle after.idle;
 }
 
-pub goes_on_from : {S V : Type 0} (old new : View S V) (asked : Asked) → GoesFrom old new → IsUnderWay old asked → GoesOn new
+pub goes_on_from : {S V : Type 0} (old new : View S V) (asked : Asked) → GoesFrom old new → IsUnderWay old asked → ExchangeGoesOn new
 goes_on_from old new asked goes was = goes_on new asked (goes.under_way asked was)
 
 -- a step that was taken before, or is to come

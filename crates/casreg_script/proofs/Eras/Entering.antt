@@ -21,7 +21,7 @@ use Rattle.cas_model.specs.Stops.Step.{LeavesRound, GoesDown}
 use Rattle.cas_model.specs.View.{Meaning, View, CallView, CallerView, IsAt}
 use Rattle.cas_model.proofs.Places.{at_one, some_is}
 use Rattle.cas_world.specs.Calls.Beginning.{HasNoCall}
-use Rattle.cas_world.specs.Eras.Plans.{IsFor, IsUnderWay, MayOpenPlan, MayEnter, entrant_of, step_of}
+use Rattle.cas_world.specs.Eras.Plans.{IsFor, IsUnderWay, MayOpenPlan, MayEnterNext, entrant_of, step_of}
 use Rattle.casreg_script.specs.Exchanges.Exchanges.{KeepsCalls}
 use Rattle.casreg_script.specs.Eras.Membership as membership
 use Rattle.casreg_script.specs.Eras.Membership.{HasAdvanced, left_of, steps_left}
@@ -92,7 +92,7 @@ entrant_is plan proposer due = by_next (entering plan.progress.left) refl due
     by_next None is due = absurd (cc due)
     by_next (Some next) is due = record { next = next; is_next = is; is_due = some_is due }
 
-pub may_enter : {S V : Type 0} (view : View S V) (what : Asked) (proposer : ℕ) → IsUnderWay view what → entrant_of view.council.plan ≡ Some proposer → MayEnter view proposer
+pub may_enter : {S V : Type 0} (view : View S V) (what : Asked) (proposer : ℕ) → IsUnderWay view what → entrant_of view.council.plan ≡ Some proposer → MayEnterNext view proposer
 may_enter view what proposer was due =
     let is = entrant_is was.plan.open_plan proposer (sym (ap entrant_of was.plan.is_open) ∙ due) in
     record {

@@ -19,7 +19,7 @@ use Rattle.cas_model.proofs.Places.{some_is}
 use Rattle.cas_world.specs.Exchanges.Exchange.{WasToldOrder}
 use Rattle.cas_world.specs.Eras.Plans.{IsUnderWay}
 use Rattle.casreg_script.specs.Eras.Membership.{TakesStep, left_of, steps_left, listed_in, keys_listed}
-use Rattle.casreg_script.specs.Exchanges.Orders.{GoesOn}
+use Rattle.casreg_script.specs.Exchanges.Orders.{ExchangeGoesOn}
 
 -- ---- the key that is due
 -- it is the first of a complete listing
@@ -170,9 +170,9 @@ told_stopped {S} {V} old new key answer due not_done (stops of not_done_ is) = r
 }
 
 -- ---- the operator's call
-pub goes_on : {S V : Type 0} (view : View S V) (asked : Asked) → IsUnderWay view asked → GoesOn view
+pub goes_on : {S V : Type 0} (view : View S V) (asked : Asked) → IsUnderWay view asked → ExchangeGoesOn view
 goes_on view asked was = record { order = was.order; is_open = was.is_open; untold = was.untold }
 
 -- one that was told why it goes no further does not go on
-pub told_stays : {S V A : Type 0} (view : View S V) (told : OpAnswer) → WasToldOrder view told → GoesOn view → A
+pub told_stays : {S V A : Type 0} (view : View S V) (told : OpAnswer) → WasToldOrder view told → ExchangeGoesOn view → A
 told_stays view told was on = absurd (cc (sym was.was_said ∙ ap (λ (o : OrderView). o.told) (some_is (sym was.is_open ∙ on.is_open)) ∙ on.untold))

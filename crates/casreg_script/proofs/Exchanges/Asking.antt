@@ -36,16 +36,16 @@ use Rattle.cas_model.specs.View.{Meaning, View, CallerView}
 use Rattle.cas_model.proofs.Places.{some_is}
 use Rattle.cas_world.specs.Calls.Beginning.{HasNoCall}
 use Rattle.cas_world.specs.Exchanges.Exchange as world
-use Rattle.cas_world.specs.Exchanges.Exchange.{asks_as, place_of, turn_of, refusal_of, MayAsk, MayAskThis, MayGather, gathering_by, gathering_of, asking_of, WasToldOrder, HasGathered, probed, lists, acknowledged, confirmed, question_in}
+use Rattle.cas_world.specs.Exchanges.Exchange.{asks_as, place_of, turn_of, refusal_of, MayAskMembers, MayAskThis, MayGather, gathering_by, gathering_of, asking_of, WasToldOrder, HasGathered, probed, lists, acknowledged, confirmed, question_in}
 use Rattle.cas_world.specs.declared.exchange.Exchange.{Exchange}
 use Rattle.cas_world.specs.declared.exchange.Exchange.TheVariants as what
 use Rattle.cas_world.specs.Eras.Plans.{IsUnderWay, IsPartial, step_of}
-use Rattle.casreg_script.specs.Frames.Conditions.{NetworkView, Decides, is_to_repeat}
-use Rattle.casreg_script.specs.Exchanges.Exchanges.{AskTurned, FailsToAsk, one_more, HasListed, HasConfirmed, CameOf, IsAsking, KeepsCalls, KeepsOrder, answers_of, listing_left}
+use Rattle.casreg_script.specs.Frames.Conditions.{NetworkView, DecidesVerdict, is_to_repeat}
+use Rattle.casreg_script.specs.Exchanges.Exchanges.{AskTurned, BreaksOffAsking, one_more, HasListed, HasConfirmed, CameOf, IsAsking, KeepsCalls, KeepsOrder, answers_of, listing_left}
 use Rattle.casreg_script.specs.Eras.Membership.{TakesStep, left_of, steps_left}
 use Rattle.casreg_script.specs.Exchanges.Orders.{IsFree, KeepsIdle}
 use Rattle.casreg_script.specs.Calls.Playing.{turns_left}
-use Rattle.casreg_script.specs.Frames.Strays.{LetsIn, KeepsUnderWay}
+use Rattle.casreg_script.specs.Frames.Strays.{LetsStrayIn, KeepsUnderWay}
 use Rattle.cas_base.proofs.Bools.{true_or_false}
 use Rattle.casreg_script.proofs.Eras.Rescanning.{with_asked, settles_by, Settles}
 use Rattle.casreg_script.proofs.Calls.Turns.{front_of, not_held, fewer_taken, fewer_answered, waits_near}
@@ -151,7 +151,7 @@ answers_keep m old new (what.Probe key) by = gather_keeps old new by
 
 -- ---- the exchange
 -- the operator's call is open, and no exchange yet
-pub may_ask : {S V : Type 0} (old new : View S V) (key : List ℕ) → IsAtRest old.council → HasNoCall old 0 → StepOrder old (asked.Probe key) new → MayAsk new (Probe key)
+pub may_ask : {S V : Type 0} (old new : View S V) (key : List ℕ) → IsAtRest old.council → HasNoCall old 0 → StepOrder old (asked.Probe key) new → MayAskMembers new (Probe key)
 may_ask {S} {V} old new key quiet idle by =
     let keeps = order_keeps old new (asked.Probe key) by in
     record {
@@ -367,7 +367,7 @@ found_so old turned new key question result asks was (confirmed exchange collect
     absurd (cc (of_it, ap is_of_collection (asks_this turned question exchange.question exchange was is_open refl), ap is_of_collection asks))
 
 -- a listing went on
-listed_so : {S V : Type 0} (old asked turned new : View S V) (places : List MemberPlace) (result : Gathered) → MayAsk old (NextKeys places) → HasAsked old (NextKeys places) asked → KeepsOrder asked turned → IsAsking turned (NextKeys places) → HasGathered turned result new → HasListed old result new
+listed_so : {S V : Type 0} (old asked turned new : View S V) (places : List MemberPlace) (result : Gathered) → MayAskMembers old (NextKeys places) → HasAsked old (NextKeys places) asked → KeepsOrder asked turned → IsAsking turned (NextKeys places) → HasGathered turned result new → HasListed old result new
 listed_so old asked turned new places result may has keeps was (probed exchange key kept is_open is is_probed has_found told) = absurd (cc (asks_this turned (NextKeys places) (Probe key) exchange was is_open is))
 listed_so {S} {V} old asked turned new places result may has keeps was (lists exchange other plan listing is_open is is_plan came next) =
     let due = may.is_for.1 in
@@ -415,7 +415,7 @@ left_begun places tag members None is = ap keys_left is
 left_begun places tag members (Some listing) is = refl
 
 -- where it goes on and is not complete, less is left
-less_listed : {S V : Type 0} (old asked turned new : View S V) (places : List MemberPlace) (result : Gathered) → MayAsk old (NextKeys places) → HasAsked old (NextKeys places) asked → KeepsOrder asked turned → HasListed old result new → result ≡ gathered.More
+less_listed : {S V : Type 0} (old asked turned new : View S V) (places : List MemberPlace) (result : Gathered) → MayAskMembers old (NextKeys places) → HasAsked old (NextKeys places) asked → KeepsOrder asked turned → HasListed old result new → result ≡ gathered.More
     → left_to_list new.council.plan < left_to_list turned.council.plan → listing_left new < listing_left old
 less_listed {S} {V} old asked turned new places result may has keeps came more less =
     let due = may.is_for.1 in
@@ -486,14 +486,14 @@ module _ {S V : Type 0} (mid near : View S V) (keeps : KeepsUnderWay mid near) w
 
 -- of the frame became what the network decided
 pub ask_turned_more : {S V : Type 0} (m : Meaning S V) (old mid near new : View S V) {by before between after : NetworkView} {again : Bool} {verdict : Verdict} (front : Option (Leg × ℕ)) (leg : Leg) (peer : ℕ) → front ≡ option_map head_of (slice_get (queue_at mid.flow exchange_place).messages 0) → front ≡ Some (leg, peer)
-    → KeepsUnderWay mid near → AskTurned m by old before again mid → LetsIn m before mid between near → Decides (leg, peer) between again verdict after → StepTurnExchange m near verdict new → AskTurned m by old after (is_to_repeat again verdict) new
+    → KeepsUnderWay mid near → AskTurned m by old before again mid → LetsStrayIn m before mid between near → DecidesVerdict (leg, peer) between again verdict after → StepTurnExchange m near verdict new → AskTurned m by old after (is_to_repeat again verdict) new
 ask_turned_more m old mid near new {between = between} {after = after} {again = again} {verdict = verdict} front leg peer shown is keeps turned lets decides by =
     let one = front_of (queue_at mid.flow exchange_place).messages front leg peer shown is in
-    one_more one.frame turned lets (waits_near mid near exchange_place keeps one.at) (subst (λ (h : Leg × ℕ). Decides h between again verdict after) (sym one.head) decides) by
+    one_more one.frame turned lets (waits_near mid near exchange_place keeps one.at) (subst (λ (h : Leg × ℕ). DecidesVerdict h between again verdict after) (sym one.head) decides) by
 
 -- no memory was found for its turn
 pub ask_turn_refused : {S V : Type 0} (m : Meaning S V) (old mid near new : View S V) {by before between after : NetworkView} {again : Bool} {verdict : Verdict} (front : Option (Leg × ℕ)) (leg : Leg) (peer : ℕ) → front ≡ option_map head_of (slice_get (queue_at mid.flow exchange_place).messages 0) → front ≡ Some (leg, peer)
-    → KeepsUnderWay mid near → AskTurned m by old before again mid → LetsIn m before mid between near → Decides (leg, peer) between again verdict after → StepRefuseTurnExchange m near new → FailsToAsk m by old after new
+    → KeepsUnderWay mid near → AskTurned m by old before again mid → LetsStrayIn m before mid between near → DecidesVerdict (leg, peer) between again verdict after → StepRefuseTurnExchange m near new → BreaksOffAsking m by old after new
 ask_turn_refused m old mid near new {before = before} {between = between} {after = after} {again = again} {verdict = verdict} front leg peer shown is keeps turned lets decides by =
     let one = front_of (queue_at mid.flow exchange_place).messages front leg peer shown is in
     record {
@@ -507,13 +507,13 @@ ask_turn_refused m old mid near new {before = before} {between = between} {after
       frame = one.frame;
       waits = waits_near mid near exchange_place keeps one.at;
       verdict = verdict;
-      decides = subst (λ (h : Leg × ℕ). Decides h between again verdict after) (sym one.head) decides;
+      decides = subst (λ (h : Leg × ℕ). DecidesVerdict h between again verdict after) (sym one.head) decides;
       fails = by;
     }
 
 -- ---- a listing
 -- what the operator's call asks for is under way, and its era is to be settled
-pub may_list : {S V : Type 0} (view : View S V) (asked : Asked) → IsUnderWay view asked → IsFree view → step_of view.council.plan ≡ Some Settle → IsPartial view.council.plan → MayAsk view (question_in view query.List)
+pub may_list : {S V : Type 0} (view : View S V) (asked : Asked) → IsUnderWay view asked → IsFree view → step_of view.council.plan ≡ Some Settle → IsPartial view.council.plan → MayAskMembers view (question_in view query.List)
 may_list view asked was free settles partial = record {
   order = was.order;
   is_open = was.is_open;

@@ -12,18 +12,18 @@ use Rattle.cas_model.specs.View.{Meaning, View}
 use Rattle.casreg_script.specs.Calls.Changes as changes
 use Rattle.casreg_script.specs.Calls.Changes.{Turned, FailsToTurn, EndsPrepareBy, IsCutOff, IsCutShort, IsAcceptedBy, IsRoundBy, AreRoundsBy, IsChange}
 use Rattle.casreg_script.specs.Collection.Collections as collections
-use Rattle.casreg_script.specs.Collection.Collections.{IsCalled, TakesStep, HasTaken, IsCollection}
+use Rattle.casreg_script.specs.Collection.Collections.{IsCalled, TakesCollectStep, HasTaken, IsCollection}
 use Rattle.casreg_script.specs.Frames.Conditions as conditions
-use Rattle.casreg_script.specs.Frames.Conditions.{Rule, NetworkView, Ruled, Drawn, Decides, Names}
+use Rattle.casreg_script.specs.Frames.Conditions.{Rule, NetworkView, Ruled, Drawn, DecidesVerdict, Names}
 use Rattle.casreg_script.specs.Exchanges.Exchanges as exchanges
-use Rattle.casreg_script.specs.Exchanges.Exchanges.{AskTurned, FailsToAsk, AsksMembers}
+use Rattle.casreg_script.specs.Exchanges.Exchanges.{AskTurned, BreaksOffAsking, AsksMembers}
 use Rattle.casreg_script.specs.Eras.Membership as membership
 use Rattle.casreg_script.specs.Eras.Membership.{Advances, HasAdvanced, ChangesMembers}
-use Rattle.casreg_script.specs.Frames.Network.{IsNetwork, Leaves, Through}
+use Rattle.casreg_script.specs.Frames.Network.{IsNetwork, NetworkLeaves, Through}
 use Rattle.casreg_script.specs.Exchanges.Probes as probes
 use Rattle.casreg_script.specs.Exchanges.Probes.{IsProbe}
 use Rattle.casreg_script.specs.Frames.Strays as strays
-use Rattle.casreg_script.specs.Frames.Strays.{LetsIn}
+use Rattle.casreg_script.specs.Frames.Strays.{LetsStrayIn}
 use Rattle.casreg_script.specs.declared.halt.Halt.{Halt}
 use Rattle.casreg_script.specs.declared.network.Network.{Network}
 
@@ -40,7 +40,7 @@ pub stay_both : (by between next : NetworkView) → Stay by between → Stay bet
 stay_both (Ruled rules) between next before after = subst (λ (v : NetworkView). Stay v next) before after
 stay_both (Drawn random) between next before after = tt
 
-decides_stay : (head : Leg × ℕ) (by next : NetworkView) (again : Bool) (verdict : Verdict) → Decides head by again verdict next → Stay by next
+decides_stay : (head : Leg × ℕ) (by next : NetworkView) (again : Bool) (verdict : Verdict) → DecidesVerdict head by again verdict next → Stay by next
 decides_stay head by next again verdict conditions.by_rules = refl
 decides_stay head by next again verdict conditions.by_draw = tt
 decides_stay head by next again verdict conditions.repeats = tt
@@ -49,7 +49,7 @@ names_stay : (late : ℕ) (by next : NetworkView) (place : Option ℕ) → Names
 names_stay late by next place conditions.none_by_rules = refl
 names_stay late by next place conditions.by_draw_of_late = tt
 
-lets_stay : {S V : Type 0} (m : Meaning S V) (by next : NetworkView) (old new : View S V) → LetsIn m by old next new → Stay by next
+lets_stay : {S V : Type 0} (m : Meaning S V) (by next : NetworkView) (old new : View S V) → LetsStrayIn m by old next new → Stay by next
 lets_stay m by next old new (strays.none names) = names_stay _ by next _ names
 lets_stay m by next old new (strays.one place answer names strays_in) = names_stay _ by next _ names
 
@@ -68,7 +68,7 @@ asked_stay m by old next again new exchanges.none = stay_same by
 asked_stay m by old next again new (exchanges.one_more {before = before} {between = between} {mid = mid} {near = near} frame turned lets at decides step) =
     stay_both by before next (asked_stay m by old before _ mid turned) (stay_both before between next (lets_stay m before between mid near lets) (decides_stay _ between next _ _ decides))
 
-not_asked_stay : {S V : Type 0} (m : Meaning S V) (by next : NetworkView) (old new : View S V) → FailsToAsk m by old next new → Stay by next
+not_asked_stay : {S V : Type 0} (m : Meaning S V) (by next : NetworkView) (old new : View S V) → BreaksOffAsking m by old next new → Stay by next
 not_asked_stay m by next old new of =
     stay_both by of.before next (asked_stay m by old of.before of.again of.mid of.turned) (stay_both of.before of.between next (lets_stay m of.before of.between of.mid of.near of.lets_in) (decides_stay _ of.between next _ _ of.decides))
 
@@ -120,7 +120,7 @@ called_stay : {S V : Type 0} (m : Meaning S V) (tries : ℕ) (by next : NetworkV
 called_stay m tries by next key halt after old new (collections.over rounds none) = rounds_stay m 0 tries by next halt after rounds.begun new rounds.rounds
 called_stay m tries by next key halt after old new (collections.ended {told = told} answer rounds ends) = rounds_stay m 0 tries by next halt after rounds.begun told rounds.rounds
 
-step_stay : {S V : Type 0} (m : Meaning S V) (by next : NetworkView) (old new : View S V) → TakesStep m by old next new → Stay by next
+step_stay : {S V : Type 0} (m : Meaning S V) (by next : NetworkView) (old new : View S V) → TakesCollectStep m by old next new → Stay by next
 step_stay m by next old new (collections.gathers step) = stay_same by
 step_stay m by next old new (collections.renews proposer step) = stay_same by
 step_stay m by next old new (collections.asks asks) = asks_stay m by next _ _ old new asks
@@ -157,7 +157,7 @@ pub record StillRuled (network : Network) (rules : List Rule) (P : NetworkView �
   pub is : IsNetwork network (Ruled rules)
   pub has : P (Ruled rules)
 
-pub still_ruled : (network : Network) (rules : List Rule) (P : NetworkView → Type 0) → ((view : NetworkView) → P view → Stay (Ruled rules) view) → Leaves network P → StillRuled network rules P
+pub still_ruled : (network : Network) (rules : List Rule) (P : NetworkView → Type 0) → ((view : NetworkView) → P view → Stay (Ruled rules) view) → NetworkLeaves network P → StillRuled network rules P
 still_ruled network rules P stays leaves = let same : leaves.view ≡ Ruled rules = stays leaves.view leaves.has in record { is = subst (IsNetwork network) same leaves.is; has = subst P same leaves.has }
 
 -- a call that fails leaves the network as it is

@@ -12,10 +12,10 @@ use Rattle.cas_model.specs.View.{Meaning, View, CallerView, IsAt}
 use Rattle.cas_model.proofs.Places.{at_one, at_set, some_is}
 use Rattle.casreg_script.specs.Frames.Conditions.{NetworkView}
 use Rattle.casreg_script.specs.Events as events
-use Rattle.casreg_script.specs.Events.{StraysIn}
-use Rattle.casreg_script.specs.Calls.Playing.{Asked, IsPlaying}
+use Rattle.casreg_script.specs.Events.{AnswersStray}
+use Rattle.casreg_script.specs.Calls.Playing.{AskedCall, IsPlaying}
 use Rattle.casreg_script.specs.Frames.Strays as strays
-use Rattle.casreg_script.specs.Frames.Strays.{LetsIn, KeepsUnderWay}
+use Rattle.casreg_script.specs.Frames.Strays.{LetsStrayIn, KeepsUnderWay}
 use Rattle.casreg_script.proofs.Others.{get_other}
 
 pub same_under_way : {S V : Type 0} (old : View S V) → KeepsUnderWay old old
@@ -25,7 +25,7 @@ same_under_way old = record { own = refl; last_proposer = refl; callers = refl; 
 record KeepsRounds {S V : Type 0} (old new : View S V) : Type 0 where
   desks : (id : ℕ) (desk : DeskView V) (round : Round) → IsAt old.desks id desk → desk.round ≡ Some round → (now : DeskView V) × (heard : Round) × IsAt new.desks id now × (now.round ≡ Some heard) × (is_preparing heard.phase ≡ is_preparing round.phase)
 
-plays_on : {S V : Type 0} (old new : View S V) → new.callers ≡ old.callers → new.council ≡ old.council → KeepsRounds old new → (id : ℕ) (asked : Asked) (proposed : Bool) → IsPlaying old id asked proposed → IsPlaying new id asked proposed
+plays_on : {S V : Type 0} (old new : View S V) → new.callers ≡ old.callers → new.council ≡ old.council → KeepsRounds old new → (id : ℕ) (asked : AskedCall) (proposed : Bool) → IsPlaying old id asked proposed → IsPlaying new id asked proposed
 plays_on {S} {V} old new callers council keeps id asked proposed was =
     let now = keeps.desks id was.desk was.round was.at_desk was.is_round in
     record {
@@ -90,13 +90,13 @@ stray_keeps {S} {V} m old new index late (frames.arrives reply desk now round he
       plays = plays_on old _ refl refl (hears_on old _ desk now round heard at is_round (ap (λ (d : DeskView V). d.round) hears.desk) hears.hears.same_phase _ refl refl);
     })
 
-pub strays_under_way : {S V : Type 0} (m : Meaning S V) (old new : View S V) (index : ℕ) (answer : EventAnswer) → StraysIn m old index answer new → KeepsUnderWay old new
+pub strays_under_way : {S V : Type 0} (m : Meaning S V) (old new : View S V) (index : ℕ) (answer : EventAnswer) → AnswersStray m old index answer new → KeepsUnderWay old new
 strays_under_way m old new index answer (events.absent none) = same_under_way old
 strays_under_way m old new index answer (events.strays by) = stray_keeps m old new index by.late by.strays
 strays_under_way m old new index answer (events.full low is) = same_under_way old
 strays_under_way m old new index answer (events.no_memory low (frames.stays is)) = by_view old old new is (same_under_way old)
 strays_under_way m old new index answer (events.no_memory low (frames.kept id acceptor now there finds is)) = by_view old _ new is (same_desks old _ refl refl refl refl refl)
 
-pub lets_under_way : {S V : Type 0} (m : Meaning S V) (by next : NetworkView) (old new : View S V) → LetsIn m by old next new → KeepsUnderWay old new
+pub lets_under_way : {S V : Type 0} (m : Meaning S V) (by next : NetworkView) (old new : View S V) → LetsStrayIn m by old next new → KeepsUnderWay old new
 lets_under_way m by next old new (strays.none names) = same_under_way old
 lets_under_way m by next old new (strays.one place answer names strays_in) = strays_under_way m old new place answer strays_in

@@ -14,8 +14,8 @@ use Rattle.cas_model.specs.Step.{Step, Begin, RefuseBegin, Turn, RefuseTurn, Pro
 use Rattle.cas_model.specs.Stops.Step.{OpenCallAt}
 use Rattle.cas_model.specs.Calls.Step.{HasRoom, IsFull, WasMet, round_marks}
 use Rattle.cas_model.specs.View.{Meaning, View, IsAt, era_at}
-use Rattle.casreg_script.specs.Frames.Conditions.{NetworkView, Decides, is_to_repeat}
-use Rattle.casreg_script.specs.Frames.Strays.{LetsIn}
+use Rattle.casreg_script.specs.Frames.Conditions.{NetworkView, DecidesVerdict, is_to_repeat}
+use Rattle.casreg_script.specs.Frames.Strays.{LetsStrayIn}
 use Rattle.casreg_script.specs.declared.halt.Halt.{Halt}
 
 -- ---- turns
@@ -23,8 +23,8 @@ use Rattle.casreg_script.specs.declared.halt.Halt.{Halt}
 -- did. Told is what decides then, and whether the frame in front is to have its second turn.
 pub data Turned {S V : Type 0} (m : Meaning S V) (by : NetworkView) (id : ℕ) (old : View S V) : NetworkView → Bool → View S V → Type 0 where
   none : Turned m by id old by false old
-  one_more : {before between after : NetworkView} {again : Bool} {verdict : Verdict} {mid near new : View S V} (frame : Message) → Turned m by id old before again mid → LetsIn m before mid between near → IsAt (queue_at near.flow id).messages 0 frame
-      → Decides (head_of frame) between again verdict after → Step m near (Turn id verdict) new → Turned m by id old after (is_to_repeat again verdict) new
+  one_more : {before between after : NetworkView} {again : Bool} {verdict : Verdict} {mid near new : View S V} (frame : Message) → Turned m by id old before again mid → LetsStrayIn m before mid between near → IsAt (queue_at near.flow id).messages 0 frame
+      → DecidesVerdict (head_of frame) between again verdict after → Step m near (Turn id verdict) new → Turned m by id old after (is_to_repeat again verdict) new
 
 -- until none waits
 pub record AllTurned {S V : Type 0} (m : Meaning S V) (by : NetworkView) (id : ℕ) (old : View S V) (next : NetworkView) (new : View S V) : Type 0 where
@@ -40,11 +40,11 @@ pub record FailsToTurn {S V : Type 0} (m : Meaning S V) (by : NetworkView) (id :
   pub turned : Turned m by id old before again mid
   pub between : NetworkView
   pub near : View S V
-  pub lets_in : LetsIn m before mid between near
+  pub lets_in : LetsStrayIn m before mid between near
   pub frame : Message
   pub waits : IsAt (queue_at near.flow id).messages 0 frame
   pub verdict : Verdict
-  pub decides : Decides (head_of frame) between again verdict next
+  pub decides : DecidesVerdict (head_of frame) between again verdict next
   pub fails : Step m near (RefuseTurn id) new
 
 -- ---- the prepare phase
@@ -73,7 +73,7 @@ pub data IsCutOff {S V : Type 0} (m : Meaning S V) (by : NetworkView) (id : ℕ)
   halts : {next : NetworkView} {turned new : View S V} → AllTurned m by id old next turned → Strikes halt turned id → Step m turned (CrashProposer id) new → IsCutOff m by id halt old next (record halt { after_prepare = false }) new
 
 -- ---- the accept phase
-pub record IsAccepting {S V : Type 0} (view : View S V) (id : ℕ) : Type 0 where
+pub record IsInAcceptPhase {S V : Type 0} (view : View S V) (id : ℕ) : Type 0 where
   pub desk : DeskView V
   pub at_desk : IsAt view.desks id desk
   pub round : Round
@@ -83,7 +83,7 @@ pub record IsAccepting {S V : Type 0} (view : View S V) (id : ℕ) : Type 0 wher
 -- it is cut off before it is counted: right after the proposal the proposer halts, if it is to, and its frames join the late ones; or a turn
 -- finds no memory
 pub data IsCutShort {S V : Type 0} (m : Meaning S V) (by : NetworkView) (id : ℕ) (halt : Halt) (old : View S V) : NetworkView → Halt → View S V → Type 0 where
-  halts : {new : View S V} → IsAccepting old id → halt.after_propose ≡ true → Step m old (CrashProposer id) new → IsCutShort m by id halt old by (record halt { after_propose = false }) new
+  halts : {new : View S V} → IsInAcceptPhase old id → halt.after_propose ≡ true → Step m old (CrashProposer id) new → IsCutShort m by id halt old by (record halt { after_propose = false }) new
   no_memory : {next : NetworkView} {new : View S V} → halt.after_propose ≡ false → FailsToTurn m by id old next new → IsCutShort m by id halt old next halt new
 
 -- so it is, or all turns are made and what was accepted is counted
@@ -122,8 +122,8 @@ CountsAt m id old new = Step m old (Count id) new
 abbrev pub EndsPrepare : {S V : Type 0} → Meaning S V → NetworkView → ℕ → Halt → View S V → NetworkView → View S V → Type 0
 EndsPrepare m by id = EndsPrepareBy (ProposesAt m id) m by id
 
-abbrev pub IsAccepted : {S V : Type 0} → Meaning S V → NetworkView → ℕ → Halt → View S V → NetworkView → Halt → View S V → Type 0
-IsAccepted m by id = IsAcceptedBy (CountsAt m id) m by id
+abbrev pub EndsAcceptPhase : {S V : Type 0} → Meaning S V → NetworkView → ℕ → Halt → View S V → NetworkView → Halt → View S V → Type 0
+EndsAcceptPhase m by id = IsAcceptedBy (CountsAt m id) m by id
 
 abbrev pub IsRound : {S V : Type 0} → Meaning S V → NetworkView → ℕ → Halt → View S V → NetworkView → Halt → View S V → Type 0
 IsRound m by id = IsRoundBy (ProposesAt m id) (CountsAt m id) m by id

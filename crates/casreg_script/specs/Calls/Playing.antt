@@ -17,13 +17,13 @@ use Rattle.cas_world.specs.Calls.Beginning.{MayBegin}
 use Rattle.cas_world.specs.World.{WasTold}
 
 -- what a caller asks for
-pub record Asked : Type 0 where
+pub record AskedCall : Type 0 where
   pub number : ℕ
   pub key : List ℕ
   pub program : List Clause
 
 -- the caller's open call is for that
-pub record IsFor {S V : Type 0} (view : View S V) (id : ℕ) (asked : Asked) (call : CallView) : Type 0 where
+pub record IsCallFor {S V : Type 0} (view : View S V) (id : ℕ) (asked : AskedCall) (call : CallView) : Type 0 where
   pub caller : CallerView
   pub at_caller : IsAt view.callers id caller
   pub number : caller.number ≡ asked.number
@@ -32,18 +32,18 @@ pub record IsFor {S V : Type 0} (view : View S V) (id : ℕ) (asked : Asked) (ca
   pub program : call.program ≡ asked.program
 
 -- it is open, and so is its round, and no exchange is
-pub record HasBegun {S V : Type 0} (view : View S V) (id : ℕ) (asked : Asked) : Type 0 where
+pub record HasBegun {S V : Type 0} (view : View S V) (id : ℕ) (asked : AskedCall) : Type 0 where
   pub call : CallView
-  pub is_for : IsFor view id asked call
+  pub is_for : IsCallFor view id asked call
   pub desk : DeskView V
   pub at_desk : IsAt view.desks id desk
   pub is_open : IsSome desk.round
   pub quiet : view.council.exchange ≡ None
 
 -- it is open, and so is its round, which is in its accept phase where the call has proposed something
-pub record IsPlaying {S V : Type 0} (view : View S V) (id : ℕ) (asked : Asked) (proposed : Bool) : Type 0 where
+pub record IsPlaying {S V : Type 0} (view : View S V) (id : ℕ) (asked : AskedCall) (proposed : Bool) : Type 0 where
   pub call : CallView
-  pub is_for : IsFor view id asked call
+  pub is_for : IsCallFor view id asked call
   pub proposed_is : is_some call.proposed ≡ proposed
   pub desk : DeskView V
   pub at_desk : IsAt view.desks id desk
@@ -53,9 +53,9 @@ pub record IsPlaying {S V : Type 0} (view : View S V) (id : ℕ) (asked : Asked)
   pub quiet : view.council.exchange ≡ None
 
 -- it was told this, and where that is a conflict it may begin another round
-pub record IsOver {S V : Type 0} (view : View S V) (id : ℕ) (asked : Asked) (told : Answer) : Type 0 where
+pub record IsOver {S V : Type 0} (view : View S V) (id : ℕ) (asked : AskedCall) (told : Answer) : Type 0 where
   pub call : CallView
-  pub is_for : IsFor view id asked call
+  pub is_for : IsCallFor view id asked call
   pub was_told : WasTold view id asked.number told
   pub quiet : view.council.exchange ≡ None
   pub again : (met : Ballot) → told ≡ answer.Conflict met → MayBegin view id asked.number asked.key asked.program

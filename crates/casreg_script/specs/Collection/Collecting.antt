@@ -11,7 +11,7 @@ use Rattle.cas_collect.specs.declared.collect.CollectStep.TheVariants.{Round}
 use Rattle.cas_record.specs.declared.answer.Answer.{Answer}
 use Rattle.cas_record.specs.declared.operator.Asked.TheVariants as operator
 use Rattle.cas_world.specs.Calls.Beginning.{HasNoCall}
-use Rattle.casreg_script.specs.Calls.Playing.{Asked, HasBegun, IsPlaying, IsOver}
+use Rattle.casreg_script.specs.Calls.Playing.{AskedCall, HasBegun, IsPlaying, IsOver}
 
 -- ---- within its call
 -- the key's call is that of the collection, the operator's call was told nothing by its last step, and no change of membership is under way
@@ -21,17 +21,17 @@ pub record IsSeeking (council : Council) (key : List ℕ) : Type 0 where
   pub none_planned : council.plan ≡ None
 
 -- its round is open
-pub record IsRunning {S V : Type 0} (view : View S V) (asked : Asked) : Type 0 where
+pub record IsRunning {S V : Type 0} (view : View S V) (asked : AskedCall) : Type 0 where
   pub begun : HasBegun view 0 asked
   pub seeks : IsSeeking view.council asked.key
 
 -- and is in its accept phase where the call has proposed something
-pub record IsInRound {S V : Type 0} (view : View S V) (asked : Asked) (proposed : Bool) : Type 0 where
+pub record IsInRound {S V : Type 0} (view : View S V) (asked : AskedCall) (proposed : Bool) : Type 0 where
   pub plays : IsPlaying view 0 asked proposed
   pub seeks : IsSeeking view.council asked.key
 
 -- it was told this, and where that is done it is known what became of its round
-pub record HasStopped {S V : Type 0} (view : View S V) (asked : Asked) (told : Answer) : Type 0 where
+pub record HasStopped {S V : Type 0} (view : View S V) (asked : AskedCall) (told : Answer) : Type 0 where
   pub over : IsOver view 0 asked told
   pub seeks : IsSeeking view.council asked.key
   pub known : is_done told ≡ true → is_sought seeks.is.at.collection.tombstone ≡ false

@@ -16,7 +16,7 @@ use Rattle.cas_world.specs.Collection.Collect.{FindsHeld}
 use Rattle.casreg_script.specs.Calls.Changes.{AreRoundsBy}
 use Rattle.casreg_script.specs.Frames.Conditions.{NetworkView}
 use Rattle.casreg_script.specs.Exchanges.Exchanges.{AsksMembers}
-use Rattle.casreg_script.specs.Exchanges.Orders.{IsNotOrdered, GoesOn}
+use Rattle.casreg_script.specs.Exchanges.Orders.{IsNotOrdered, ExchangeGoesOn}
 use Rattle.casreg_script.specs.declared.halt.Halt.{Halt}
 
 -- ---- the rounds of its call
@@ -61,28 +61,28 @@ pub data IsCalled {S V : Type 0} (m : Meaning S V) (tries : ℕ) (by : NetworkVi
 -- ---- its steps
 -- The step that is due is taken: what the round came to is gathered, the next proposer is renewed, all members are asked, or the floor is
 -- marked.
-pub data TakesStep {S V : Type 0} (m : Meaning S V) (by : NetworkView) (old : View S V) : NetworkView → View S V → Type 0 where
-  gathers : {new : View S V} → Step m old GatherRound new → TakesStep m by old by new
-  renews : {new : View S V} (proposer : ℕ) → Step m old (Renew proposer) new → TakesStep m by old by new
-  asks : {next : NetworkView} {new : View S V} → AsksMembers m by AskCollect GatherCollect old next new → TakesStep m by old next new
-  marks : {new : View S V} → Step m old MakeFloor new → TakesStep m by old by new
+pub data TakesCollectStep {S V : Type 0} (m : Meaning S V) (by : NetworkView) (old : View S V) : NetworkView → View S V → Type 0 where
+  gathers : {new : View S V} → Step m old GatherRound new → TakesCollectStep m by old by new
+  renews : {new : View S V} (proposer : ℕ) → Step m old (Renew proposer) new → TakesCollectStep m by old by new
+  asks : {next : NetworkView} {new : View S V} → AsksMembers m by AskCollect GatherCollect old next new → TakesCollectStep m by old next new
+  marks : {new : View S V} → Step m old MakeFloor new → TakesCollectStep m by old by new
 
 -- so it goes on, up to the first step that tells why it goes no further
 pub data HasTaken {S V : Type 0} (m : Meaning S V) (by : NetworkView) (old : View S V) : NetworkView → View S V → Type 0 where
   none : HasTaken m by old by old
-  one_more : {between next : NetworkView} {mid new : View S V} → HasTaken m by old between mid → GoesOn mid → TakesStep m between mid next new → HasTaken m by old next new
+  one_more : {between next : NetworkView} {mid new : View S V} → HasTaken m by old between mid → ExchangeGoesOn mid → TakesCollectStep m between mid next new → HasTaken m by old next new
 
 -- ---- the whole
 -- its call comes first; then its steps are taken until one told why it goes no further, or it is at its end
-pub record IsCarriedOut {S V : Type 0} (m : Meaning S V) (tries : ℕ) (by : NetworkView) (key : List ℕ) (halt : Halt) (old : View S V) (next : NetworkView) (after : Halt) (new : View S V) : Type 0 where
+pub record CollectsWhole {S V : Type 0} (m : Meaning S V) (tries : ℕ) (by : NetworkView) (key : List ℕ) (halt : Halt) (old : View S V) (next : NetworkView) (after : Halt) (new : View S V) : Type 0 where
   pub called : View S V
   pub between : NetworkView
   pub calls : IsCalled m tries by key halt old between after called
   pub takes : HasTaken m between called next new
-  pub ends : GoesOn new → IsSomeAnd new.council.collection (λ c. c.course.step ≡ End)
+  pub ends : ExchangeGoesOn new → IsSomeAnd new.council.collection (λ c. c.course.step ≡ End)
 
 -- a collection of the key as a call of the operator, with its answer
 pub data IsCollection {S V : Type 0} (m : Meaning S V) (tries : ℕ) (by : NetworkView) (key : List ℕ) (halt : Halt) (old : View S V) : OpAnswer → NetworkView → Halt → View S V → Type 0 where
   refused : {refusal : Answer} {new : View S V} → IsNotOrdered old refusal → Step m old RefuseOrder new → IsCollection m tries by key halt old (op.Stopped refusal) by halt new
-  told : {ordered over new : View S V} {next : NetworkView} {after : Halt} {answer : OpAnswer} → Step m old (Order (asked.Collect key)) ordered → IsCarriedOut m tries by key halt ordered next after over → Step m over (Tell answer) new
+  told : {ordered over new : View S V} {next : NetworkView} {after : Halt} {answer : OpAnswer} → Step m old (Order (asked.Collect key)) ordered → CollectsWhole m tries by key halt ordered next after over → Step m over (Tell answer) new
       → IsCollection m tries by key halt old answer next after new

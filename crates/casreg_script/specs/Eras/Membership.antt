@@ -17,7 +17,7 @@ use Rattle.cas_world.specs.Eras.Plans.{IsFor, step_of, entrant_of}
 use Rattle.casreg_script.specs.Calls.Changes.{IsChange}
 use Rattle.casreg_script.specs.Frames.Conditions.{NetworkView}
 use Rattle.casreg_script.specs.Exchanges.Exchanges.{AsksMembers}
-use Rattle.casreg_script.specs.Exchanges.Orders.{IsNotOrdered, GoesOn}
+use Rattle.casreg_script.specs.Exchanges.Orders.{IsNotOrdered, ExchangeGoesOn}
 use Rattle.casreg_script.specs.declared.halt.Halt.{Halt}
 
 -- ---- its steps
@@ -33,7 +33,7 @@ pub data Advances {S V : Type 0} (m : Meaning S V) (tries : ℕ) (by : NetworkVi
 -- so it goes on, up to the first step that tells why it goes no further
 pub data HasAdvanced {S V : Type 0} (m : Meaning S V) (tries : ℕ) (by : NetworkView) (halt : Halt) (old : View S V) : NetworkView → Halt → View S V → Type 0 where
   none : HasAdvanced m tries by halt old by halt old
-  one_more : {between next : NetworkView} {before after : Halt} {mid new : View S V} → HasAdvanced m tries by halt old between before mid → GoesOn mid → Advances m tries between before mid next after new → HasAdvanced m tries by halt old next after new
+  one_more : {between next : NetworkView} {before after : Halt} {mid new : View S V} → HasAdvanced m tries by halt old between before mid → ExchangeGoesOn mid → Advances m tries between before mid next after new → HasAdvanced m tries by halt old next after new
 
 -- ---- the whole
 -- it goes on where it stopped, if it was opened for just that; otherwise it is opened
@@ -46,7 +46,7 @@ pub record IsCarriedOut {S V : Type 0} (m : Meaning S V) (tries : ℕ) (by : Net
   pub taken_up : View S V
   pub takes_up : IsTakenUp m asked old taken_up
   pub advances : HasAdvanced m tries by halt taken_up next after new
-  pub over : GoesOn new → step_of new.council.plan ≡ Some Finished
+  pub over : ExchangeGoesOn new → step_of new.council.plan ≡ Some Finished
 
 -- a change of membership as a call of the operator, with its answer
 pub data ChangesMembers {S V : Type 0} (m : Meaning S V) (tries : ℕ) (by : NetworkView) (asked : Asked) (halt : Halt) (old : View S V) : OpAnswer → NetworkView → Halt → View S V → Type 0 where

@@ -17,15 +17,15 @@ use Rattle.cas_model.specs.View.{Meaning, View, IsAt}
 use Rattle.cas_world.specs.Exchanges.Exchange.{WasToldOrder}
 use Rattle.cas_world.specs.declared.exchange.Exchange.{Exchange}
 use Rattle.cas_world.specs.declared.exchange.Exchange.TheVariants as what
-use Rattle.casreg_script.specs.Frames.Conditions.{NetworkView, Decides, is_to_repeat}
-use Rattle.casreg_script.specs.Frames.Strays.{LetsIn}
+use Rattle.casreg_script.specs.Frames.Conditions.{NetworkView, DecidesVerdict, is_to_repeat}
+use Rattle.casreg_script.specs.Frames.Strays.{LetsStrayIn}
 
 -- ---- turns
 -- turns were made, each on the first frame of the exchange, as those of a round are
 pub data AskTurned {S V : Type 0} (m : Meaning S V) (by : NetworkView) (old : View S V) : NetworkView → Bool → View S V → Type 0 where
   none : AskTurned m by old by false old
-  one_more : {before between after : NetworkView} {again : Bool} {verdict : Verdict} {mid near new : View S V} (frame : Message) → AskTurned m by old before again mid → LetsIn m before mid between near → IsAt (queue_at near.flow exchange_place).messages 0 frame
-      → Decides (head_of frame) between again verdict after → Step m near (TurnExchange verdict) new → AskTurned m by old after (is_to_repeat again verdict) new
+  one_more : {before between after : NetworkView} {again : Bool} {verdict : Verdict} {mid near new : View S V} (frame : Message) → AskTurned m by old before again mid → LetsStrayIn m before mid between near → IsAt (queue_at near.flow exchange_place).messages 0 frame
+      → DecidesVerdict (head_of frame) between again verdict after → Step m near (TurnExchange verdict) new → AskTurned m by old after (is_to_repeat again verdict) new
 
 -- turns were made until none of the exchange's frames waits
 pub record AllAskTurned {S V : Type 0} (m : Meaning S V) (by : NetworkView) (old : View S V) (next : NetworkView) (new : View S V) : Type 0 where
@@ -34,18 +34,18 @@ pub record AllAskTurned {S V : Type 0} (m : Meaning S V) (by : NetworkView) (old
   pub none_waits : (queue_at new.flow exchange_place).messages ≡ []
 
 -- after some turns one found no memory
-pub record FailsToAsk {S V : Type 0} (m : Meaning S V) (by : NetworkView) (old : View S V) (next : NetworkView) (new : View S V) : Type 0 where
+pub record BreaksOffAsking {S V : Type 0} (m : Meaning S V) (by : NetworkView) (old : View S V) (next : NetworkView) (new : View S V) : Type 0 where
   pub before : NetworkView
   pub again : Bool
   pub mid : View S V
   pub turned : AskTurned m by old before again mid
   pub between : NetworkView
   pub near : View S V
-  pub lets_in : LetsIn m before mid between near
+  pub lets_in : LetsStrayIn m before mid between near
   pub frame : Message
   pub waits : IsAt (queue_at near.flow exchange_place).messages 0 frame
   pub verdict : Verdict
-  pub decides : Decides (head_of frame) between again verdict next
+  pub decides : DecidesVerdict (head_of frame) between again verdict next
   pub fails : Step m near RefuseTurnExchange new
 
 -- ---- the whole
@@ -53,7 +53,7 @@ pub record FailsToAsk {S V : Type 0} (m : Meaning S V) (by : NetworkView) (old :
 -- the question is asked and its answers are gathered.
 pub data AsksMembers {S V : Type 0} (m : Meaning S V) (by : NetworkView) (asks gathers : Event) (old : View S V) : NetworkView → View S V → Type 0 where
   not_asked : {new : View S V} → Step m old asks new → new.council.exchange ≡ None → AsksMembers m by asks gathers old by new
-  no_memory : {next : NetworkView} {asked new : View S V} → Step m old asks asked → FailsToAsk m by asked next new → AsksMembers m by asks gathers old next new
+  no_memory : {next : NetworkView} {asked new : View S V} → Step m old asks asked → BreaksOffAsking m by asked next new → AsksMembers m by asks gathers old next new
   gathered : {next : NetworkView} {asked turned new : View S V} → Step m old asks asked → AllAskTurned m by asked next turned → Step m turned gathers new → AsksMembers m by asks gathers old next new
 
 -- the step of the store by which its answers are gathered

@@ -15,7 +15,7 @@ pub data IsNotOrdered {S V : Type 0} (world : View S V) : Answer → Type 0 wher
   no_memory : (length world.marks + reserved_in_all world ≡ most_marks → ⊥) → IsNotOrdered world (NoMemory false)
 
 -- it is open, and its last step did not tell why it goes no further
-pub record GoesOn {S V : Type 0} (view : View S V) : Type 0 where
+pub record ExchangeGoesOn {S V : Type 0} (view : View S V) : Type 0 where
   pub order : OrderView
   pub is_open : view.council.order ≡ Some order
   pub untold : order.told ≡ None

@@ -41,10 +41,10 @@ pub data NetworkView : Type 0 where
 
 -- The verdict on a frame with this head, and what decides then. By rules each of its turns has the verdict that they say. By a draw its first
 -- turn has the one that is drawn, and its second one draws nothing.
-pub data Decides (head : Leg × ℕ) : NetworkView → Bool → Verdict → NetworkView → Type 0 where
-  by_rules : {rules : List Rule} {again : Bool} → Decides head (Ruled rules) again (verdict_of rules head.0 head.1) (Ruled rules)
-  by_draw : {random : Lcg} → Decides head (Drawn random) false (drawn_verdict random).0 (Drawn (drawn_verdict random).1)
-  repeats : {random : Lcg} → Decides head (Drawn random) true Twice (Drawn random)
+pub data DecidesVerdict (head : Leg × ℕ) : NetworkView → Bool → Verdict → NetworkView → Type 0 where
+  by_rules : {rules : List Rule} {again : Bool} → DecidesVerdict head (Ruled rules) again (verdict_of rules head.0 head.1) (Ruled rules)
+  by_draw : {random : Lcg} → DecidesVerdict head (Drawn random) false (drawn_verdict random).0 (Drawn (drawn_verdict random).1)
+  repeats : {random : Lcg} → DecidesVerdict head (Drawn random) true Twice (Drawn random)
 
 -- Which of so many late frames is to stray in, if one is, and what decides then. By rules none is.
 pub data Names (late : ℕ) : NetworkView → Option ℕ → NetworkView → Type 0 where

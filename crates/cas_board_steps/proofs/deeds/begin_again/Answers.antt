@@ -1,7 +1,7 @@
 use Rattle.std.proofs.Common.{◌≡◌, false, sym, subst, arith}
 use Rattle.std.specs.Prelude.{⊤}
 use Rattle.cas_board_steps.specs.Calls.Conflicts.{is_conflict}
-use Rattle.cas_board_steps.specs.Calls.Deeds.{EndsIn}
+use Rattle.cas_board_steps.specs.Calls.Deeds.{EndsMarked}
 use Rattle.cas_board_steps.proofs.Calls.Holds.{again_ok, again_told, again_ends, again_no_conflict}
 use Rattle.cas_board_steps.proofs.Parts.{open_quiet}
 use Rattle.cas_board_steps.proofs.Calls.Stages.{may_again, unmet_there, running_tells, round_running}
@@ -35,7 +35,7 @@ pub returns-in-Err-clause-last_proposer : goal.returns-in-Err-clause-last_propos
 returns-in-Err-clause-last_proposer g c = (again_ends ⊤ _ c.args.caller c.args.call 0 c.args.key.now c.args.program.now c.in-Err.told c.args.world.now c.begin.new.self c.end.new.self c.requires.called c.requires.kept c.in-Err.ensures.step c.end.ensures.step).last_proposer
 
 pub returns-in-Err-clause-ends : goal.returns-in-Err-clause-ends
-returns-in-Err-clause-ends g c most = subst (EndsIn c.args.caller c.args.call most c.args.world.now c.end.new.self) (sym c.end.ensures.same) (again_ends ⊤ _ c.args.caller c.args.call most c.args.key.now c.args.program.now c.in-Err.told c.args.world.now c.begin.new.self c.end.new.self c.requires.called c.requires.kept c.in-Err.ensures.step c.end.ensures.step).does
+returns-in-Err-clause-ends g c most = subst (EndsMarked c.args.caller c.args.call most c.args.world.now c.end.new.self) (sym c.end.ensures.same) (again_ends ⊤ _ c.args.caller c.args.call most c.args.key.now c.args.program.now c.in-Err.told c.args.world.now c.begin.new.self c.end.new.self c.requires.called c.requires.kept c.in-Err.ensures.step c.end.ensures.step).does
 
 pub returns-in-Ok-clause-met : goal.returns-in-Ok-clause-met
 returns-in-Ok-clause-met g c =

@@ -1,7 +1,7 @@
 use Rattle.std.proofs.Common.{Bool, not, sym, ap, subst, ◌∙◌}
 use Rattle.cas_world.specs.World.{IsInPhase}
 use Rattle.cas_board_steps.specs.Calls.Conflicts.{is_conflict}
-use Rattle.cas_board_steps.specs.Calls.Deeds.{EndsIn, harm_by}
+use Rattle.cas_board_steps.specs.Calls.Deeds.{EndsMarked, harm_by}
 use Rattle.cas_board_steps.proofs.Calls.Holds.{closed_ends, count_ends, no_conflict_counted, on_ok, if_err}
 use Rattle.cas_board_steps.proofs.Parts.{open_quiet}
 use Rattle.cas_board_steps.proofs.Calls.Stages.{closed_was_told, closed_unmet, closed_no_conflict, is_idle, is_through, shown_there, none_waits, some_waits, in_phase}
@@ -15,7 +15,7 @@ pub returns-in-Some-clause-kept : goal.returns-in-Some-clause-kept
 returns-in-Some-clause-kept g c = (closed_ends _ c.args.caller c.args.call (harm_by c.args.verdict) c.in-Some.told c.args.world.now c.end.new.self c.requires.called c.requires.kept (closed_unmet c.args.world.now c.args.caller c.args.call c.in-Some.told c.closed.result c.requires.called c.requires.kept c.closed.ensures c.in-Some.is) c.end.ensures.step).kept
 
 pub returns-in-Some-clause-ends : goal.returns-in-Some-clause-ends
-returns-in-Some-clause-ends g c = subst (EndsIn c.args.caller c.args.call (harm_by c.args.verdict) c.args.world.now c.end.new.self) (sym c.end.ensures.same) (closed_ends _ c.args.caller c.args.call (harm_by c.args.verdict) c.in-Some.told c.args.world.now c.end.new.self c.requires.called c.requires.kept (closed_unmet c.args.world.now c.args.caller c.args.call c.in-Some.told c.closed.result c.requires.called c.requires.kept c.closed.ensures c.in-Some.is) c.end.ensures.step).does
+returns-in-Some-clause-ends g c = subst (EndsMarked c.args.caller c.args.call (harm_by c.args.verdict) c.args.world.now c.end.new.self) (sym c.end.ensures.same) (closed_ends _ c.args.caller c.args.call (harm_by c.args.verdict) c.in-Some.told c.args.world.now c.end.new.self c.requires.called c.requires.kept (closed_unmet c.args.world.now c.args.caller c.args.call c.in-Some.told c.closed.result c.requires.called c.requires.kept c.closed.ensures c.in-Some.is) c.end.ensures.step).does
 
 pub begin_again-requires-clause-idle : goal.begin_again-requires-clause-idle
 begin_again-requires-clause-idle g c = is_idle c.args.world.now c.args.caller c.verdict.result c.verdict.ensures (c.is_none.ensures ∙ ap not c.if-is_none.true)
@@ -38,7 +38,7 @@ pub returns-then-has_proposed-clause-kept : goal.returns-then-has_proposed-claus
 returns-then-has_proposed-clause-kept g c = (count_ends _ c.args.caller c.args.call (harm_by c.args.verdict) c.count-told.result c.args.world.now c.count-told.new.self c.end-then-has_proposed.new.self c.requires.called c.requires.kept c.count-told.ensures.step c.end-then-has_proposed.ensures.step).kept
 
 pub returns-then-has_proposed-clause-ends : goal.returns-then-has_proposed-clause-ends
-returns-then-has_proposed-clause-ends g c = subst (EndsIn c.args.caller c.args.call (harm_by c.args.verdict) c.args.world.now c.end-then-has_proposed.new.self) (sym c.end-then-has_proposed.ensures.same) (count_ends _ c.args.caller c.args.call (harm_by c.args.verdict) c.count-told.result c.args.world.now c.count-told.new.self c.end-then-has_proposed.new.self c.requires.called c.requires.kept c.count-told.ensures.step c.end-then-has_proposed.ensures.step).does
+returns-then-has_proposed-clause-ends g c = subst (EndsMarked c.args.caller c.args.call (harm_by c.args.verdict) c.args.world.now c.end-then-has_proposed.new.self) (sym c.end-then-has_proposed.ensures.same) (count_ends _ c.args.caller c.args.call (harm_by c.args.verdict) c.count-told.result c.args.world.now c.count-told.new.self c.end-then-has_proposed.new.self c.requires.called c.requires.kept c.count-told.ensures.step c.end-then-has_proposed.ensures.step).does
 
 pub propose-requires-clause-preparing : goal.propose-requires-clause-preparing
 propose-requires-clause-preparing g c = subst (λ (b : Bool). IsInPhase c.args.world.now c.args.caller (not b)) c.if-has_proposed.false

@@ -1,5 +1,5 @@
 use Rattle.std.proofs.Common.{sym, subst, ◌∙◌, arith}
-use Rattle.cas_board_steps.specs.Calls.Deeds.{EndsIn}
+use Rattle.cas_board_steps.specs.Calls.Deeds.{EndsMarked}
 use Rattle.cas_board_steps.proofs.Calls.Holds.{propose_ok, propose_told, propose_is_met, propose_ends, greatest_proposed}
 use Rattle.cas_board_steps.proofs.Parts.{open_quiet}
 use Rattle.cas_board_steps.proofs.Calls.Stages.{unmet_there, running_tells, proposed_running, met_tells}
@@ -39,7 +39,7 @@ pub returns-else-may_repeat-clause-last_proposer : goal.returns-else-may_repeat-
 returns-else-may_repeat-clause-last_proposer g c = (propose_ends _ c.args.caller c.args.call 0 c.in-Err.told c.args.world.now c.propose.new.self c.end.new.self c.requires.called c.requires.kept (propose_told c.args.caller c.args.call c.in-Err.told c.args.world.now c.propose.new.self c.requires.called c.in-Err.ensures.told) c.in-Err.ensures.step c.end.ensures.step).last_proposer
 
 pub returns-else-may_repeat-clause-ends : goal.returns-else-may_repeat-clause-ends
-returns-else-may_repeat-clause-ends g c most = subst (EndsIn c.args.caller c.args.call most c.args.world.now c.end.new.self) (sym c.end.ensures.same) (propose_ends _ c.args.caller c.args.call most c.in-Err.told c.args.world.now c.propose.new.self c.end.new.self c.requires.called c.requires.kept (propose_told c.args.caller c.args.call c.in-Err.told c.args.world.now c.propose.new.self c.requires.called c.in-Err.ensures.told) c.in-Err.ensures.step c.end.ensures.step).does
+returns-else-may_repeat-clause-ends g c most = subst (EndsMarked c.args.caller c.args.call most c.args.world.now c.end.new.self) (sym c.end.ensures.same) (propose_ends _ c.args.caller c.args.call most c.in-Err.told c.args.world.now c.propose.new.self c.end.new.self c.requires.called c.requires.kept (propose_told c.args.caller c.args.call c.in-Err.told c.args.world.now c.propose.new.self c.requires.called c.in-Err.ensures.told) c.in-Err.ensures.step c.end.ensures.step).does
 
 pub returns-in-Ok-clause-met : goal.returns-in-Ok-clause-met
 returns-in-Ok-clause-met g c =

@@ -1,6 +1,6 @@
 use Rattle.std.proofs.Common.{sym, ap, subst, arith}
 use Rattle.cas_board_steps.specs.Calls.Conflicts.{is_conflict}
-use Rattle.cas_board_steps.specs.Calls.Deeds.{EndsIn, harm_by}
+use Rattle.cas_board_steps.specs.Calls.Deeds.{EndsMarked, harm_by}
 use Rattle.cas_board_steps.proofs.Calls.Holds.{turn_ok, turn_told, turn_ends, greatest_refused}
 use Rattle.cas_board_steps.proofs.Parts.{open_quiet}
 use Rattle.cas_board_steps.proofs.Calls.Stages.{as_turn, as_refusal, waits_there, turn_running, unmet_there, running_tells}
@@ -37,7 +37,7 @@ pub returns-in-Err-clause-last_proposer : goal.returns-in-Err-clause-last_propos
 returns-in-Err-clause-last_proposer g c = (turn_ends _ c.args.caller c.args.call (harm_by c.args.verdict) _ c.args.world.now c.turn.new.self c.end.new.self c.requires.called c.requires.kept c.requires.running (as_refusal _ c.args.world.now c.turn.new.self c.args.caller (λ is_first. (open_quiet c.args.world.now c.args.caller c.args.call c.requires.called is_first).exchange) c.in-Err.ensures.err) (turn_told _ c.args.caller c.args.call c.has_proposed-proposed.result c.args.world.now c.turn.new.self c.requires.called (as_refusal _ c.args.world.now c.turn.new.self c.args.caller (λ is_first. (open_quiet c.args.world.now c.args.caller c.args.call c.requires.called is_first).exchange) c.in-Err.ensures.err) c.has_proposed-proposed.ensures.proposed) c.end.ensures.step).last_proposer
 
 pub returns-in-Err-clause-ends : goal.returns-in-Err-clause-ends
-returns-in-Err-clause-ends g c = subst (EndsIn c.args.caller c.args.call (harm_by c.args.verdict) c.args.world.now c.end.new.self) (sym c.end.ensures.same) (turn_ends _ c.args.caller c.args.call (harm_by c.args.verdict) _ c.args.world.now c.turn.new.self c.end.new.self c.requires.called c.requires.kept c.requires.running (as_refusal _ c.args.world.now c.turn.new.self c.args.caller (λ is_first. (open_quiet c.args.world.now c.args.caller c.args.call c.requires.called is_first).exchange) c.in-Err.ensures.err) (turn_told _ c.args.caller c.args.call c.has_proposed-proposed.result c.args.world.now c.turn.new.self c.requires.called (as_refusal _ c.args.world.now c.turn.new.self c.args.caller (λ is_first. (open_quiet c.args.world.now c.args.caller c.args.call c.requires.called is_first).exchange) c.in-Err.ensures.err) c.has_proposed-proposed.ensures.proposed) c.end.ensures.step).does
+returns-in-Err-clause-ends g c = subst (EndsMarked c.args.caller c.args.call (harm_by c.args.verdict) c.args.world.now c.end.new.self) (sym c.end.ensures.same) (turn_ends _ c.args.caller c.args.call (harm_by c.args.verdict) _ c.args.world.now c.turn.new.self c.end.new.self c.requires.called c.requires.kept c.requires.running (as_refusal _ c.args.world.now c.turn.new.self c.args.caller (λ is_first. (open_quiet c.args.world.now c.args.caller c.args.call c.requires.called is_first).exchange) c.in-Err.ensures.err) (turn_told _ c.args.caller c.args.call c.has_proposed-proposed.result c.args.world.now c.turn.new.self c.requires.called (as_refusal _ c.args.world.now c.turn.new.self c.args.caller (λ is_first. (open_quiet c.args.world.now c.args.caller c.args.call c.requires.called is_first).exchange) c.in-Err.ensures.err) c.has_proposed-proposed.ensures.proposed) c.end.ensures.step).does
 
 pub returns-in-Ok-clause-met : goal.returns-in-Ok-clause-met
 returns-in-Ok-clause-met g c =

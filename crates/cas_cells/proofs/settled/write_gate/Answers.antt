@@ -1,6 +1,6 @@
 use Rattle.std.proofs.Common.{◌≤◌, [], ◌∷◌, length, subst, arith, ℕ}
 use Rattle.std.proofs.lemmas.Result.{on_ok_weaker}
-use Rattle.cas_disk.specs.Disk.{Holds, Torn}
+use Rattle.cas_disk.specs.Disk.{HoldsBytes, Torn}
 use Rattle.cas_disk.proofs.Moments.{weaker}
 use Rattle.cas_cells.specs.Format.{frame_place}
 use Rattle.cas_cells.specs.Torn.{GateTorn}
@@ -14,7 +14,7 @@ pub returns-clause-held : goal.returns-clause-held
 returns-clause-held g c tells =
     let old = g.D.Disk.seen c.args.disk.now in
     let new = g.D.Disk.seen c.put.new.disk in
-    on_ok_weaker c.put.result (λ holds. gate_held c.args.narrow c.args.frame c.args.gate old new (c.requires.whole tells) (subst (λ (at : ℕ). Holds old at (c.args.gate ∷ []) new) c.frame_place.ensures.place holds)) (c.put.ensures.held tells)
+    on_ok_weaker c.put.result (λ holds. gate_held c.args.narrow c.args.frame c.args.gate old new (c.requires.whole tells) (subst (λ (at : ℕ). HoldsBytes old at (c.args.gate ∷ []) new) c.frame_place.ensures.place holds)) (c.put.ensures.held tells)
 
 pub returns-clause-others : goal.returns-clause-others
 returns-clause-others g c tells =
@@ -22,7 +22,7 @@ returns-clause-others g c tells =
     let new = g.D.Disk.seen c.put.new.disk in
     let place = frame_place c.args.narrow c.args.frame in
     let within : place ≤ length old = omega (arith, frame_within c.args.narrow old c.args.frame (c.requires.whole tells)) in
-    on_ok_weaker c.put.result (λ holds. (gate_torn c.args.narrow c.args.frame old new (c.requires.whole tells) (holds_torn old new (c.args.gate ∷ []) place within (subst (λ (at : ℕ). Holds old at (c.args.gate ∷ []) new) c.frame_place.ensures.place holds))).others) (c.put.ensures.held tells)
+    on_ok_weaker c.put.result (λ holds. (gate_torn c.args.narrow c.args.frame old new (c.requires.whole tells) (holds_torn old new (c.args.gate ∷ []) place within (subst (λ (at : ℕ). HoldsBytes old at (c.args.gate ∷ []) new) c.frame_place.ensures.place holds))).others) (c.put.ensures.held tells)
 
 pub returns-clause-any_moment : goal.returns-clause-any_moment
 returns-clause-any_moment g c tells =

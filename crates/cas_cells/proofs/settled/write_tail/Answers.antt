@@ -1,6 +1,6 @@
 use Rattle.std.proofs.Common.{◌≤◌, ◌+◌, length, subst, arith, ℕ}
 use Rattle.std.proofs.lemmas.Result.{on_ok_weaker}
-use Rattle.cas_disk.specs.Disk.{Holds, Torn}
+use Rattle.cas_disk.specs.Disk.{HoldsBytes, Torn}
 use Rattle.cas_disk.proofs.Moments.{weaker}
 use Rattle.cas_cells.specs.Format.{frame_place}
 use Rattle.cas_cells.specs.Torn.{TailTorn}
@@ -15,7 +15,7 @@ pub returns-clause-held : goal.returns-clause-held
 returns-clause-held g c tells =
     let old = g.D.Disk.seen c.args.disk.now in
     let new = g.D.Disk.seen c.put.new.disk in
-    on_ok_weaker c.put.result (λ holds. tail_held c.args.narrow c.args.frame c.args.tail.now old new (c.requires.whole tells) c.requires.size (subst (λ (at : ℕ). Holds old (at + 1) c.args.tail.now new) c.frame_place.ensures.place holds)) (c.put.ensures.held tells)
+    on_ok_weaker c.put.result (λ holds. tail_held c.args.narrow c.args.frame c.args.tail.now old new (c.requires.whole tells) c.requires.size (subst (λ (at : ℕ). HoldsBytes old (at + 1) c.args.tail.now new) c.frame_place.ensures.place holds)) (c.put.ensures.held tells)
 
 pub returns-clause-torn : goal.returns-clause-torn
 returns-clause-torn g c tells =
@@ -25,7 +25,7 @@ returns-clause-torn g c tells =
     let place = frame_place c.args.narrow c.args.frame in
     let within : place + 1 ≤ length old = omega (arith, frame_within c.args.narrow old c.args.frame (c.requires.whole tells), (sized c.args.narrow c.args.frame).least) in
     on_ok_weaker c.put.result (λ holds. tail_torn c.args.narrow c.args.frame old new (c.requires.whole tells) (length tail) c.requires.size
-    (holds_torn old new tail (place + 1) within (subst (λ (at : ℕ). Holds old (at + 1) tail new) c.frame_place.ensures.place holds))) (c.put.ensures.held tells)
+    (holds_torn old new tail (place + 1) within (subst (λ (at : ℕ). HoldsBytes old (at + 1) tail new) c.frame_place.ensures.place holds))) (c.put.ensures.held tells)
 
 pub returns-clause-any_moment : goal.returns-clause-any_moment
 returns-clause-any_moment g c tells =

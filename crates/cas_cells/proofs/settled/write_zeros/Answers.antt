@@ -1,6 +1,6 @@
 use Rattle.std.proofs.Common.{◌≡◌, ◌*◌, ◌∙◌, length, ap, subst, arith, ℕ}
 use Rattle.std.proofs.lemmas.Result.{on_ok_weaker}
-use Rattle.cas_disk.specs.Disk.{Holds, Torn}
+use Rattle.cas_disk.specs.Disk.{HoldsBytes, Torn}
 use Rattle.cas_disk.proofs.Moments.{weaker}
 use Rattle.cas_cells.specs.Format.{frame_place, cell_place}
 use Rattle.cas_cells.specs.Torn.{SameBelow}
@@ -24,14 +24,14 @@ returns-clause-blank g c tells =
     let old = g.D.Disk.seen c.args.disk.now in
     let new = g.D.Disk.seen c.put.new.disk in
     let place : c.frame_place.result ≡ cell_place c.args.narrow c.args.index = c.frame_place.ensures.place ∙ ap (λ (n : ℕ). frame_place c.args.narrow (2 * n)) c.from.ensures in
-    on_ok_weaker c.put.result (λ holds. blank_held c.args.narrow c.args.index old new c.args.zeros.now c.requires.size c.requires.zeros (c.requires.room tells) (subst (λ (at : ℕ). Holds old at c.args.zeros.now new) place holds)) (c.put.ensures.held tells)
+    on_ok_weaker c.put.result (λ holds. blank_held c.args.narrow c.args.index old new c.args.zeros.now c.requires.size c.requires.zeros (c.requires.room tells) (subst (λ (at : ℕ). HoldsBytes old at c.args.zeros.now new) place holds)) (c.put.ensures.held tells)
 
 pub returns-clause-below : goal.returns-clause-below
 returns-clause-below g c tells =
     let old = g.D.Disk.seen c.args.disk.now in
     let new = g.D.Disk.seen c.put.new.disk in
     let place : c.frame_place.result ≡ cell_place c.args.narrow c.args.index = c.frame_place.ensures.place ∙ ap (λ (n : ℕ). frame_place c.args.narrow (2 * n)) c.from.ensures in
-    on_ok_weaker c.put.result (λ holds. same_below c.args.narrow c.args.index (length c.args.zeros.now) old new (holds_torn old new c.args.zeros.now (cell_place c.args.narrow c.args.index) (c.requires.room tells) (subst (λ (at : ℕ). Holds old at c.args.zeros.now new) place holds))) (c.put.ensures.held tells)
+    on_ok_weaker c.put.result (λ holds. same_below c.args.narrow c.args.index (length c.args.zeros.now) old new (holds_torn old new c.args.zeros.now (cell_place c.args.narrow c.args.index) (c.requires.room tells) (subst (λ (at : ℕ). HoldsBytes old at c.args.zeros.now new) place holds))) (c.put.ensures.held tells)
 
 pub returns-clause-any_moment : goal.returns-clause-any_moment
 returns-clause-any_moment g c tells durable =

@@ -3,7 +3,7 @@ use Rattle.cas_disk.proofs.Moments.{weaker, then_on}
 use Rattle.cas_cells.specs.Format.{frame_at}
 use Rattle.cas_cells.specs.Torn.{Others, GateTorn}
 use Rattle.cas_cells.specs.declared.cell.Side.{Side}
-use Rattle.cas_cells.specs.Held.{Leaves, MayOpen, payload_held, frame_of, other}
+use Rattle.cas_cells.specs.Held.{LeavesPayload, MayOpen, payload_held, frame_of, other}
 use Rattle.cas_cells.proofs.Leaving.{whole_at, on_ok_both, leaves_opens, opens_from, still_after, may_open, held_opened}
 use Rattle.cas_cells.proofs.steps.open_spare.Goals as goal
 
@@ -28,7 +28,7 @@ returns-clause-any_moment g c tells =
     let k1 = frame_of c.args.index (other cell1.side) in
     let same : k1 ≡ k = ap (λ (s : Side). frame_of c.args.index (other s)) c.keep_staged.ensures.stays.side in
     then_on g.D.Disk.moment g.D.Disk.left_since c.args.disk.now c.keep_staged.new.disk c.write_gate.new.disk (MayOpen c.args.narrow k old c.args.index pay p)
-    (weaker g.D.Disk.moment g.D.Disk.left_since c.args.disk.now c.keep_staged.new.disk (Leaves c.args.narrow k old c.args.index pay) (MayOpen c.args.narrow k old c.args.index pay p) (λ image leaves. leaves_opens c.args.narrow k c.args.index pay p old image leaves) (c.keep_staged.ensures.any_moment tells))
+    (weaker g.D.Disk.moment g.D.Disk.left_since c.args.disk.now c.keep_staged.new.disk (LeavesPayload c.args.narrow k old c.args.index pay) (MayOpen c.args.narrow k old c.args.index pay p) (λ image leaves. leaves_opens c.args.narrow k c.args.index pay p old image leaves) (c.keep_staged.ensures.any_moment tells))
     (weaker g.D.Disk.moment g.D.Disk.left_since c.keep_staged.new.disk c.write_gate.new.disk (GateTorn c.args.narrow c.spare_frame.result mid) (MayOpen c.args.narrow k old c.args.index pay p)
     (λ image torn. opens_from c.args.narrow k c.args.index pay p old mid image (c.in_ok-keep_staged.ensures.others tells)
     (subst (λ (n : ℕ). MayOpen c.args.narrow n mid c.args.index pay p image) same (subst (λ (o : Option (List ℕ)). MayOpen c.args.narrow k1 mid c.args.index o p image) c.keep_staged.ensures.stays.held

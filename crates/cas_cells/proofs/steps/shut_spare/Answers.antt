@@ -3,7 +3,7 @@ use Rattle.std.proofs.lemmas.Grind.{common_steps}
 use Rattle.cas_disk.proofs.Moments.{started}
 use Rattle.cas_cells.specs.Format.{frame_at}
 use Rattle.cas_cells.specs.Torn.{Others}
-use Rattle.cas_cells.specs.Held.{Leaves, payload_held, frame_of, other}
+use Rattle.cas_cells.specs.Held.{LeavesPayload, payload_held, frame_of, other}
 use Rattle.cas_cells.proofs.Leaving.{whole_at, leaves_same, closing, held_closed}
 use Rattle.cas_cells.proofs.steps.shut_spare.Goals as goal
 
@@ -11,8 +11,8 @@ pub returns-then-not-cell-clause-any_moment : goal.returns-then-not-cell-clause-
 returns-then-not-cell-clause-any_moment g c tells =
     let old = g.D.Disk.seen c.args.disk.now in
     let cell = c.args.cell.now in
-    started g.D.Disk.moment g.D.Disk.left_since c.args.disk.now (Leaves c.args.narrow (frame_of c.args.index (other cell.side)) old c.args.index (payload_held cell))
-    (λ image left. subst (λ (l : List ℕ). Leaves c.args.narrow (frame_of c.args.index (other cell.side)) old c.args.index (payload_held cell) l)
+    started g.D.Disk.moment g.D.Disk.left_since c.args.disk.now (LeavesPayload c.args.narrow (frame_of c.args.index (other cell.side)) old c.args.index (payload_held cell))
+    (λ image left. subst (λ (l : List ℕ). LeavesPayload c.args.narrow (frame_of c.args.index (other cell.side)) old c.args.index (payload_held cell) l)
     (sym (c.requires.durable tells image (g.met.D.Disk.only_now c.args.disk.now image tells left))) (leaves_same c.args.narrow cell old c.args.index (c.requires.held tells)))
 
 pub returns-in_err-write_gate-clause-any_moment : goal.returns-in_err-write_gate-clause-any_moment

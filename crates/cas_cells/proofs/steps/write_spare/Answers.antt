@@ -2,7 +2,7 @@ use Rattle.std.proofs.Common.{◌≡◌, ◌≤◌, ◌+◌, ◌++◌, ⊎_elim,
 use Rattle.cas_disk.proofs.Moments.{weaker, at_rest}
 use Rattle.cas_cells.specs.Format.{frame_at, frame_size, half_size, next, IsPayload}
 use Rattle.cas_cells.specs.Torn.{TailTorn}
-use Rattle.cas_cells.specs.Held.{Leaves, payload_held, frame_of, other, tail_of}
+use Rattle.cas_cells.specs.Held.{LeavesPayload, payload_held, frame_of, other, tail_of}
 use Rattle.cas_cells.proofs.Frames.{length-tail_of}
 use Rattle.cas_cells.proofs.Places.{size_of_side}
 use Rattle.cas_cells.proofs.Leaving.{whole_at, leaves_same, leaves_tail, held_tail, spare_covered, stands_written}
@@ -20,7 +20,7 @@ pub returns-in_err-tail-clause-any_moment : goal.returns-in_err-tail-clause-any_
 returns-in_err-tail-clause-any_moment g c tells =
     let disk = c.args.disk.now in
     let cell = c.args.cell.now in
-    at_rest g.D.Disk.moment g.D.Disk.left_since disk (g.D.Disk.seen disk) (g.D.Disk.may_leave disk) (Leaves c.args.narrow (frame_of c.args.index (other cell.side)) (g.D.Disk.seen disk) c.args.index (payload_held cell))
+    at_rest g.D.Disk.moment g.D.Disk.left_since disk (g.D.Disk.seen disk) (g.D.Disk.may_leave disk) (LeavesPayload c.args.narrow (frame_of c.args.index (other cell.side)) (g.D.Disk.seen disk) c.args.index (payload_held cell))
     (λ image left. g.met.D.Disk.only_now disk image tells left) (c.requires.durable tells) (leaves_same c.args.narrow cell (g.D.Disk.seen disk) c.args.index (c.requires.held tells))
 
 pub write_tail-requires-clause-whole : goal.write_tail-requires-clause-whole
@@ -30,14 +30,14 @@ pub returns-in_err-write_tail-clause-any_moment : goal.returns-in_err-write_tail
 returns-in_err-write_tail-clause-any_moment g c tells =
     let old = g.D.Disk.seen c.args.disk.now in
     let cell = c.args.cell.now in
-    weaker g.D.Disk.moment g.D.Disk.left_since c.args.disk.now c.write_tail.new.disk (TailTorn c.args.narrow c.spare_frame.result old) (Leaves c.args.narrow (frame_of c.args.index (other cell.side)) old c.args.index (payload_held cell))
+    weaker g.D.Disk.moment g.D.Disk.left_since c.args.disk.now c.write_tail.new.disk (TailTorn c.args.narrow c.spare_frame.result old) (LeavesPayload c.args.narrow (frame_of c.args.index (other cell.side)) old c.args.index (payload_held cell))
     (λ image torn. leaves_tail c.args.narrow cell old c.args.index (c.requires.held tells) image (c.requires.shut tells) (subst (λ (k : ℕ). TailTorn c.args.narrow k old image) c.spare_frame.ensures.frame torn)) (c.write_tail.ensures.any_moment tells)
 
 pub returns-clause-any_moment : goal.returns-clause-any_moment
 returns-clause-any_moment g c tells =
     let old = g.D.Disk.seen c.args.disk.now in
     let cell = c.args.cell.now in
-    weaker g.D.Disk.moment g.D.Disk.left_since c.args.disk.now c.write_tail.new.disk (TailTorn c.args.narrow c.spare_frame.result old) (Leaves c.args.narrow (frame_of c.args.index (other cell.side)) old c.args.index (payload_held cell))
+    weaker g.D.Disk.moment g.D.Disk.left_since c.args.disk.now c.write_tail.new.disk (TailTorn c.args.narrow c.spare_frame.result old) (LeavesPayload c.args.narrow (frame_of c.args.index (other cell.side)) old c.args.index (payload_held cell))
     (λ image torn. leaves_tail c.args.narrow cell old c.args.index (c.requires.held tells) image (c.requires.shut tells) (subst (λ (k : ℕ). TailTorn c.args.narrow k old image) c.spare_frame.ensures.frame torn)) (c.write_tail.ensures.any_moment tells)
 
 pub write_tail-requires-clause-size : goal.write_tail-requires-clause-size

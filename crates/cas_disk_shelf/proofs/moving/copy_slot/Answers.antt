@@ -7,7 +7,7 @@ use Rattle.cas_cells.specs.Cells.{cells_of, disk_of}
 use Rattle.cas_cells.specs.Format.{count_in, narrow_in}
 use Rattle.cas_cells.proofs.Lengths.{then_no_longer, within_more}
 use Rattle.cas_disk_shelf.specs.Image.{cell_in, entry_held}
-use Rattle.cas_disk_shelf.specs.Memory.{alone_in, cell_of, is_free, AreCounted, Holds, IsMoving}
+use Rattle.cas_disk_shelf.specs.Memory.{alone_in, cell_of, is_free, AreCounted, CellHolds, IsMoving}
 use Rattle.cas_disk_shelf.specs.ShowLaws.{only_there}
 use Rattle.cas_disk_shelf.proofs.Counting.{one_less}
 use Rattle.cas_disk_shelf.proofs.Entries.{slot_payload_read}
@@ -44,7 +44,7 @@ returns-clause-moving g c =
     let row1 = cells_of c.unused_cell.new.cells in
     let new = c.unused_cell.new.loaded in
     let alone : alone_in old c.args.key ≡ Some c.in-Some._from = sym c.alone_in.ensures ∙ c.in-Some.is in
-    let held : Holds (cell_in row) (count_in row) c.args.narrow c.args.key r.holds.0 = record { behind = r.behind; within = omega (arith, r.within); holds = ap entry_held r.own ∙ r.holds.1 } in
+    let held : CellHolds (cell_in row) (count_in row) c.args.narrow c.args.key r.holds.0 = record { behind = r.behind; within = omega (arith, r.within); holds = ap entry_held r.own ∙ r.holds.1 } in
     let its : c.in-Some._from ≡ c.args.narrow = sym (only_there (narrow_in row) (cell_in row) (count_in row) (cell_of old.memory) (alone_in old) (is_free old.memory) r.moving.behind.known c.args.key c.in-Some._from alone c.args.narrow r.holds.0 held) in
     let alone1 : alone_in new c.args.key ≡ Some c.args.narrow = ap (λ x. alone_in (record old { alone = x }) c.args.key) c.unused_cell.ensures.alone ∙ alone ∙ ap (λ (n : ℕ). Some n) its in
     let own1 : cell_in row1 c.args.narrow ≡ Some c.args.payload.now = u.others c.args.narrow r.behind r.within ∙ r.own in
@@ -68,7 +68,7 @@ returns-clause-others g c i pos' low =
     let row1 = cells_of c.unused_cell.new.cells in
     let new = c.unused_cell.new.loaded in
     let alone : alone_in old c.args.key ≡ Some c.in-Some._from = sym c.alone_in.ensures ∙ c.in-Some.is in
-    let held : Holds (cell_in row) (count_in row) c.args.narrow c.args.key r.holds.0 = record { behind = r.behind; within = omega (arith, r.within); holds = ap entry_held r.own ∙ r.holds.1 } in
+    let held : CellHolds (cell_in row) (count_in row) c.args.narrow c.args.key r.holds.0 = record { behind = r.behind; within = omega (arith, r.within); holds = ap entry_held r.own ∙ r.holds.1 } in
     let its : c.in-Some._from ≡ c.args.narrow = sym (only_there (narrow_in row) (cell_in row) (count_in row) (cell_of old.memory) (alone_in old) (is_free old.memory) r.moving.behind.known c.args.key c.in-Some._from alone c.args.narrow r.holds.0 held) in
     let alone1 : alone_in new c.args.key ≡ Some c.args.narrow = ap (λ x. alone_in (record old { alone = x }) c.args.key) c.unused_cell.ensures.alone ∙ alone ∙ ap (λ (n : ℕ). Some n) its in
     let own1 : cell_in row1 c.args.narrow ≡ Some c.args.payload.now = u.others c.args.narrow r.behind r.within ∙ r.own in
@@ -87,7 +87,7 @@ returns-in_err-change-clause-any_moment g c tells =
     let row1 = cells_of c.unused_cell.new.cells in
     let new = c.unused_cell.new.loaded in
     let alone : alone_in old c.args.key ≡ Some c.in-Some._from = sym c.alone_in.ensures ∙ c.in-Some.is in
-    let held : Holds (cell_in row) (count_in row) c.args.narrow c.args.key r.holds.0 = record { behind = r.behind; within = omega (arith, r.within); holds = ap entry_held r.own ∙ r.holds.1 } in
+    let held : CellHolds (cell_in row) (count_in row) c.args.narrow c.args.key r.holds.0 = record { behind = r.behind; within = omega (arith, r.within); holds = ap entry_held r.own ∙ r.holds.1 } in
     let its : c.in-Some._from ≡ c.args.narrow = sym (only_there (narrow_in row) (cell_in row) (count_in row) (cell_of old.memory) (alone_in old) (is_free old.memory) r.moving.behind.known c.args.key c.in-Some._from alone c.args.narrow r.holds.0 held) in
     let alone1 : alone_in new c.args.key ≡ Some c.args.narrow = ap (λ x. alone_in (record old { alone = x }) c.args.key) c.unused_cell.ensures.alone ∙ alone ∙ ap (λ (n : ℕ). Some n) its in
     let own1 : cell_in row1 c.args.narrow ≡ Some c.args.payload.now = u.others c.args.narrow r.behind r.within ∙ r.own in
@@ -116,7 +116,7 @@ returns-in_err-settle-clause-any_moment g c tells =
     let row1 = cells_of c.unused_cell.new.cells in
     let new = c.unused_cell.new.loaded in
     let alone : alone_in old c.args.key ≡ Some c.in-Some._from = sym c.alone_in.ensures ∙ c.in-Some.is in
-    let held : Holds (cell_in row) (count_in row) c.args.narrow c.args.key r.holds.0 = record { behind = r.behind; within = omega (arith, r.within); holds = ap entry_held r.own ∙ r.holds.1 } in
+    let held : CellHolds (cell_in row) (count_in row) c.args.narrow c.args.key r.holds.0 = record { behind = r.behind; within = omega (arith, r.within); holds = ap entry_held r.own ∙ r.holds.1 } in
     let its : c.in-Some._from ≡ c.args.narrow = sym (only_there (narrow_in row) (cell_in row) (count_in row) (cell_of old.memory) (alone_in old) (is_free old.memory) r.moving.behind.known c.args.key c.in-Some._from alone c.args.narrow r.holds.0 held) in
     let alone1 : alone_in new c.args.key ≡ Some c.args.narrow = ap (λ x. alone_in (record old { alone = x }) c.args.key) c.unused_cell.ensures.alone ∙ alone ∙ ap (λ (n : ℕ). Some n) its in
     let own1 : cell_in row1 c.args.narrow ≡ Some c.args.payload.now = u.others c.args.narrow r.behind r.within ∙ r.own in
@@ -145,7 +145,7 @@ returns-clause-any_moment g c tells =
     let row1 = cells_of c.unused_cell.new.cells in
     let new = c.unused_cell.new.loaded in
     let alone : alone_in old c.args.key ≡ Some c.in-Some._from = sym c.alone_in.ensures ∙ c.in-Some.is in
-    let held : Holds (cell_in row) (count_in row) c.args.narrow c.args.key r.holds.0 = record { behind = r.behind; within = omega (arith, r.within); holds = ap entry_held r.own ∙ r.holds.1 } in
+    let held : CellHolds (cell_in row) (count_in row) c.args.narrow c.args.key r.holds.0 = record { behind = r.behind; within = omega (arith, r.within); holds = ap entry_held r.own ∙ r.holds.1 } in
     let its : c.in-Some._from ≡ c.args.narrow = sym (only_there (narrow_in row) (cell_in row) (count_in row) (cell_of old.memory) (alone_in old) (is_free old.memory) r.moving.behind.known c.args.key c.in-Some._from alone c.args.narrow r.holds.0 held) in
     let alone1 : alone_in new c.args.key ≡ Some c.args.narrow = ap (λ x. alone_in (record old { alone = x }) c.args.key) c.unused_cell.ensures.alone ∙ alone ∙ ap (λ (n : ℕ). Some n) its in
     let own1 : cell_in row1 c.args.narrow ≡ Some c.args.payload.now = u.others c.args.narrow r.behind r.within ∙ r.own in
@@ -178,7 +178,7 @@ returns-in_err-settle-clause-narrow g c =
     let row1 = cells_of c.unused_cell.new.cells in
     let new = c.unused_cell.new.loaded in
     let alone : alone_in old c.args.key ≡ Some c.in-Some._from = sym c.alone_in.ensures ∙ c.in-Some.is in
-    let held : Holds (cell_in row) (count_in row) c.args.narrow c.args.key r.holds.0 = record { behind = r.behind; within = omega (arith, r.within); holds = ap entry_held r.own ∙ r.holds.1 } in
+    let held : CellHolds (cell_in row) (count_in row) c.args.narrow c.args.key r.holds.0 = record { behind = r.behind; within = omega (arith, r.within); holds = ap entry_held r.own ∙ r.holds.1 } in
     let its : c.in-Some._from ≡ c.args.narrow = sym (only_there (narrow_in row) (cell_in row) (count_in row) (cell_of old.memory) (alone_in old) (is_free old.memory) r.moving.behind.known c.args.key c.in-Some._from alone c.args.narrow r.holds.0 held) in
     let alone1 : alone_in new c.args.key ≡ Some c.args.narrow = ap (λ x. alone_in (record old { alone = x }) c.args.key) c.unused_cell.ensures.alone ∙ alone ∙ ap (λ (n : ℕ). Some n) its in
     let own1 : cell_in row1 c.args.narrow ≡ Some c.args.payload.now = u.others c.args.narrow r.behind r.within ∙ r.own in
@@ -196,7 +196,7 @@ returns-clause-narrow g c =
     let row1 = cells_of c.unused_cell.new.cells in
     let new = c.unused_cell.new.loaded in
     let alone : alone_in old c.args.key ≡ Some c.in-Some._from = sym c.alone_in.ensures ∙ c.in-Some.is in
-    let held : Holds (cell_in row) (count_in row) c.args.narrow c.args.key r.holds.0 = record { behind = r.behind; within = omega (arith, r.within); holds = ap entry_held r.own ∙ r.holds.1 } in
+    let held : CellHolds (cell_in row) (count_in row) c.args.narrow c.args.key r.holds.0 = record { behind = r.behind; within = omega (arith, r.within); holds = ap entry_held r.own ∙ r.holds.1 } in
     let its : c.in-Some._from ≡ c.args.narrow = sym (only_there (narrow_in row) (cell_in row) (count_in row) (cell_of old.memory) (alone_in old) (is_free old.memory) r.moving.behind.known c.args.key c.in-Some._from alone c.args.narrow r.holds.0 held) in
     let alone1 : alone_in new c.args.key ≡ Some c.args.narrow = ap (λ x. alone_in (record old { alone = x }) c.args.key) c.unused_cell.ensures.alone ∙ alone ∙ ap (λ (n : ℕ). Some n) its in
     let own1 : cell_in row1 c.args.narrow ≡ Some c.args.payload.now = u.others c.args.narrow r.behind r.within ∙ r.own in

@@ -1,7 +1,7 @@
 use Rattle.std.proofs.Common.{◌≡◌, ◌+◌, ◌*◌, ◌≤◌, ℕ, List, Ok}
 use Rattle.cas_slot.specs.Slots.{slot_count}
 use Rattle.cas_disk.specs.Disk.{ContinuesOnly}
-use Rattle.cas_cells.specs.Cells.{Stands, cells_of, disk_of}
+use Rattle.cas_cells.specs.Cells.{CellsStand, cells_of, disk_of}
 use Rattle.cas_cells.specs.Format.{narrow_in}
 use Rattle.cas_cells.specs.Length.{NotLonger}
 use Rattle.cas_cells.specs.declared.cells.Cells.{Cells}
@@ -12,7 +12,7 @@ use Rattle.cas_disk_shelf.proofs.moving.move_slots.Given as goal
 
 -- so many narrow cells were cleared, and a crash would have left what was there before
 pub record Moving {D : Type 0} (tells : Type 0) (seen : D → List ℕ) (may_leave : D → List ℕ → Type 0) (moment : D → ℕ) (left_since : D → ℕ → List ℕ → Type 0) (fault_count : D → ℕ) (first now : Cells D) (before loaded : Loaded) (i : ℕ) : Type 0 where
-  pub stands : Stands tells seen may_leave now
+  pub stands : CellsStand tells seen may_leave now
   pub moving : IsMoving (cells_of now) loaded
   pub cleared : AreCleared (cells_of now) i
   pub narrow : narrow_in (cells_of now) ≡ narrow_in (cells_of first)

@@ -4,13 +4,13 @@ use Rattle.std.specs.Int.{w64}
 use Rattle.std.proofs.Math.Facts.{to_z-of_z}
 use Rattle.std.specs.Fmt.{signed_decimal}
 use Rattle.cas_session_text.specs.declared.reply.LastReply.{LastReply}
-use Rattle.cas_session_text.specs.Contents.{IsReply, reply_word, lacks}
+use Rattle.cas_session_text.specs.Contents.{IsLastReply, reply_word, lacks}
 use Rattle.cas_session_text.proofs.Texts.{lacks-decimal}
 use Rattle.cas_session_text.proofs.Reading.{Says, says}
 use Rattle.cas_session_text.proofs.session.read_reply.Goals as goal
 
 -- the parts of a word that is a reply's
-parts : (reply : LastReply) (word caller rest number value : List ℕ) → IsReply reply → reply_word reply ≡ word
+parts : (reply : LastReply) (word caller rest number value : List ℕ) → IsLastReply reply → reply_word reply ≡ word
     → ((front back : List ℕ) → lacks 58 front ≡ true → front ++ 58 ∷ back ≡ word → (caller ≡ front) × (rest ≡ back))
     → ((front back : List ℕ) → lacks 58 front ≡ true → front ++ 58 ∷ back ≡ rest → (number ≡ front) × (value ≡ back)) → Says reply caller number value
 parts reply word caller rest number value is e first second =

@@ -7,7 +7,7 @@ use Rattle.casreg_tasks.specs.declared.tasks.Task.{Task}
 use Rattle.cas_board.specs.declared.shared.Shared.{Shared}
 use Rattle.casreg_race.specs.declared.racers.Racer.{Racer}
 use Rattle.casreg_race.specs.declared.told.Told.{Told}
-use Rattle.casreg_race.specs.Runs.{HasRoomFor, HasRaced, AreRaced, ArePassesOf}
+use Rattle.casreg_race.specs.Runs.{HasRoomForAnswers, HasRaced, AreRaced, ArePassesOf}
 use Rattle.casreg_race.proofs.Lined.{count_of, new_passes, racers_idle, map_given, map_parts, ready_all, asks_at, passes_are, are_raced}
 use Rattle.casreg_race.proofs.race.run_lines.Given.{Over}
 use Rattle.casreg_race.proofs.race.run_lines.Goals as goal
@@ -54,7 +54,7 @@ told_in g racer = racer.told
 
 pub run_all-requires-clause-ready : goal.run_all-requires-clause-ready
 run_all-requires-clause-ready g c κs within =
-    let rooms = subst (λ (l : List (Vec Task Global)). (n : ℕ) (of_caller : Vec Task Global) (room : Vec Told Global) → n < length l → HasRoomFor (get_or l n of_caller).items (get_or c.in_ok-told.told.items n room).items (vec_capacity (get_or c.in_ok-told.told.items n room))) c.deref.ensures.value c.in_ok-told.ensures.rooms in
+    let rooms = subst (λ (l : List (Vec Task Global)). (n : ℕ) (of_caller : Vec Task Global) (room : Vec Told Global) → n < length l → HasRoomForAnswers (get_or l n of_caller).items (get_or c.in_ok-told.told.items n room).items (vec_capacity (get_or c.in_ok-told.told.items n room))) c.deref.ensures.value c.in_ok-told.ensures.rooms in
     ready_all (tasks_in g) (told_in g) vec_items vec_items vec_capacity c.line_up.new.racers.items c.in_ok-bad.field-0.tasks.items c.in_ok-told.told.items c.line_up.ensures.tasks c.line_up.ensures.told c.args.proposers c.in_ok-bad.ensures.parted.0 _ c.in_ok-bad.ensures.parted.2 (pass_in g) c.args.board.now c.args.passes.now.items c.line_up.ensures.passes c.requires.passes c.requires.idle rooms
 
 -- as many racers have run as were lined up

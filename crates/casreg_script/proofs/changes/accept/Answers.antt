@@ -1,6 +1,6 @@
 use Rattle.std.proofs.Common.{true, sym, subst}
 use Rattle.cas_model.specs.View.{meaning}
-use Rattle.casreg_script.specs.Calls.Changes.{IsAccepted, cut_short, counts}
+use Rattle.casreg_script.specs.Calls.Changes.{EndsAcceptPhase, cut_short, counts}
 use Rattle.casreg_script.specs.declared.halt.Halt.{Halt}
 use Rattle.casreg_script.proofs.Calls.Playing.{in_phase_of, count_over}
 use Rattle.casreg_script.proofs.changes.accept.Goals as goal
@@ -15,7 +15,7 @@ returns-in-Ok-clause-accepted g c by is =
     record {
       view = turns.view;
       is = turns.is;
-      has = subst (λ (h : Halt). IsAccepted (meaning g.S.Shelf g.V.Disk) by c.args.proposer c.args.halt.now c.args.world.now turns.view h c.count.new.self) (sym c.in-Ok.ensures.same_halt) (counts c.in-Ok.ensures.goes_on turns.has c.count.ensures.step);
+      has = subst (λ (h : Halt). EndsAcceptPhase (meaning g.S.Shelf g.V.Disk) by c.args.proposer c.args.halt.now c.args.world.now turns.view h c.count.new.self) (sym c.in-Ok.ensures.same_halt) (counts c.in-Ok.ensures.goes_on turns.has c.count.ensures.step);
     }
 
 pub returns-in-Ok-clause-over : goal.returns-in-Ok-clause-over

@@ -1,6 +1,6 @@
 use Rattle.std.proofs.Common.{Bool, subst}
 use Rattle.cas_model.specs.View.{meaning}
-use Rattle.casreg_script.specs.Calls.Changes.{by_promise, proposes, IsAccepted}
+use Rattle.casreg_script.specs.Calls.Changes.{by_promise, proposes, EndsAcceptPhase}
 use Rattle.casreg_script.specs.declared.halt.Halt.{Halt}
 use Rattle.casreg_script.specs.Calls.Playing.{IsPlaying}
 use Rattle.casreg_script.proofs.Calls.Playing.{round_plays}
@@ -41,7 +41,7 @@ returns-in-Ok-clause-round g c by is =
     record {
       view = accepted.view;
       is = accepted.is;
-      has = proposes proposed.has (subst (λ (h : Halt). IsAccepted (meaning g.S.Shelf g.V.Disk) proposed.view c.args.proposer h c.prepare.new.world accepted.view c.accept-in-Ok.new.halt c.accept-in-Ok.new.world) c.in-Ok.ensures.same_halt accepted.has);
+      has = proposes proposed.has (subst (λ (h : Halt). EndsAcceptPhase (meaning g.S.Shelf g.V.Disk) proposed.view c.args.proposer h c.prepare.new.world accepted.view c.accept-in-Ok.new.halt c.accept-in-Ok.new.world) c.in-Ok.ensures.same_halt accepted.has);
     }
 
 pub returns-in-Ok-clause-over : goal.returns-in-Ok-clause-over

@@ -1,11 +1,11 @@
 use Rattle.std.proofs.Common.{◌≡◌, Bool, None}
-use Rattle.casreg_script.specs.Calls.Playing.{Asked, IsPlaying, turns_left}
+use Rattle.casreg_script.specs.Calls.Playing.{AskedCall, IsPlaying, turns_left}
 use Rattle.test_world.specs.Play.{Leads}
 use Rattle.test_world.proofs.collection.turns.Given as goal
 
 abbrev pub invariant-loop-front : goal.invariant-loop-front
 invariant-loop-front g l = record {
-  plays : (asked : Asked) (proposed : Bool) → IsPlaying l.initial.world 0 asked proposed → IsPlaying l.world 0 asked proposed;
+  plays : (asked : AskedCall) (proposed : Bool) → IsPlaying l.initial.world 0 asked proposed → IsPlaying l.world 0 asked proposed;
   quiet : l.world.council.exchange ≡ None;
   council : l.world.council ≡ l.initial.world.council;
   leads : Leads l.initial.world l.world;

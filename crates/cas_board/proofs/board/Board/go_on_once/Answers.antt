@@ -1,6 +1,6 @@
 use Rattle.std.proofs.Common.{ℕ, ap, subst, ◌∙◌}
 use Rattle.std.specs.Prelude.{IfErr, OnOk}
-use Rattle.cas_board_steps.specs.Calls.Deeds.{GoesOnIn, EndsIn, harm_by}
+use Rattle.cas_board_steps.specs.Calls.Deeds.{GoesOnIn, EndsMarked, harm_by}
 use Rattle.cas_board_steps.specs.Mine.{wanted_by}
 use Rattle.cas_board_steps.specs.OwnParts.{own_part}
 use Rattle.cas_board_steps.proofs.Fronts.{wanted_seen}
@@ -23,7 +23,7 @@ give_back-requires-clause-makes g c =
     gives_back c.caller_of-caller.result c.hold-shared.result c.go_on-stage.new.world c.args.pass.now c.hold-shared.new.seat c.hold-shared.ensures.seat c.caller_of-caller.ensures
     (gone_makes c.caller_of-caller.result c.args.call (harm_by c.args.verdict) c.hold-shared.result c.go_on-stage.new.world c.go_on-stage.result
     (subst (λ v. OnOk c.go_on-stage.result (GoesOnIn c.caller_of-caller.result c.args.call (harm_by c.args.verdict) v c.go_on-stage.new.world)) c.shared.view_is c.go_on-stage.ensures.goes_on)
-    (subst (λ v. IfErr c.go_on-stage.result (EndsIn c.caller_of-caller.result c.args.call (harm_by c.args.verdict) v c.go_on-stage.new.world)) c.shared.view_is c.go_on-stage.ensures.ends))
+    (subst (λ v. IfErr c.go_on-stage.result (EndsMarked c.caller_of-caller.result c.args.call (harm_by c.args.verdict) v c.go_on-stage.new.world)) c.shared.view_is c.go_on-stage.ensures.ends))
 
 pub returns-clause-goes_on : goal.returns-clause-goes_on
 returns-clause-goes_on g c =
@@ -35,7 +35,7 @@ pub returns-clause-ends : goal.returns-clause-ends
 returns-clause-ends g c =
     ended_told c.caller_of-caller.result c.args.call (harm_by c.args.verdict) c.hold-shared.result c.go_on-stage.new.world c.args.pass.now c.give_back.new.pass c.go_on-stage.result
     (was_held c.caller_of-caller.result c.hold-shared.result c.go_on-stage.new.world c.args.pass.now c.hold-shared.new.seat c.give_back.new.pass c.hold-shared.ensures.seen c.hold-shared.ensures.own c.hold-shared.ensures.seat c.caller_of-caller.ensures c.give_back.ensures.pass)
-    c.hold-shared.ensures.own c.requires.alone (subst (λ v. IfErr c.go_on-stage.result (EndsIn c.caller_of-caller.result c.args.call (harm_by c.args.verdict) v c.go_on-stage.new.world)) c.shared.view_is c.go_on-stage.ensures.ends)
+    c.hold-shared.ensures.own c.requires.alone (subst (λ v. IfErr c.go_on-stage.result (EndsMarked c.caller_of-caller.result c.args.call (harm_by c.args.verdict) v c.go_on-stage.new.world)) c.shared.view_is c.go_on-stage.ensures.ends)
 
 pub returns-clause-rounds : goal.returns-clause-rounds
 returns-clause-rounds g c =

@@ -1,9 +1,9 @@
 use Rattle.std.proofs.Common.{[], length, sym, ap, subst, ◌∙◌}
 use Rattle.cas_record.specs.declared.operator.Asked.TheVariants as asked
 use Rattle.cas_world.specs.Eras.Plans.{rescanned_of}
-use Rattle.cas_board_steps.specs.Calls.Deeds.{IsRefusal}
+use Rattle.cas_board_steps.specs.Calls.Deeds.{IsRefusalBehind}
 use Rattle.cas_board_steps.specs.Kept.{Makes}
-use Rattle.cas_board_steps.specs.Calls.Open.{IsFree}
+use Rattle.cas_board_steps.specs.Calls.Open.{NothingIsOpen}
 use Rattle.cas_board_steps.specs.Exchanges.Orders.{HasOrder}
 use Rattle.cas_board_steps.specs.OwnParts.{own_part}
 use Rattle.cas_board.proofs.Sittings.{was_held, gives_back}
@@ -11,7 +11,7 @@ use Rattle.cas_board.proofs.Operating.{operator_part, operator_made, operator_ow
 use Rattle.cas_board.proofs.board.Board.order_probe_once.Goals as goal
 
 pub order_probe-ordered-requires-clause-free : goal.order_probe-ordered-requires-clause-free
-order_probe-ordered-requires-clause-free g c = subst IsFree (sym (operator_part c.args.pass.now.number c.shared.inside.world c.hold-shared.result c.args.pass.now.own c.requires.operator c.shared.view_is c.hold-shared.ensures.own)) c.requires.free
+order_probe-ordered-requires-clause-free g c = subst NothingIsOpen (sym (operator_part c.args.pass.now.number c.shared.inside.world c.hold-shared.result c.args.pass.now.own c.requires.operator c.shared.view_is c.hold-shared.ensures.own)) c.requires.free
 
 pub give_back-requires-clause-makes : goal.give_back-requires-clause-makes
 give_back-requires-clause-makes g c =
@@ -26,8 +26,8 @@ returns-clause-ordered g c = on_ok c.order_probe-ordered.result (subst (HasOrder
 
 pub returns-clause-refused : goal.returns-clause-refused
 returns-clause-refused g c =
-    if_err {P = λ why. IsRefusal (length c.order_probe-ordered.new.world.marks) why × IsFree (own_part c.order_probe-ordered.new.world 0)} c.order_probe-ordered.result
-    (λ why is. (subst (λ l. IsRefusal (length l) why) (sym (ap (λ s. s.seen) c.give_back.ensures.pass)) is.0, subst IsFree (sym (operator_own c.hold-shared.result c.order_probe-ordered.new.world c.args.pass.now c.give_back.new.pass (was_held 0 c.hold-shared.result c.order_probe-ordered.new.world c.args.pass.now c.hold-shared.new.seat c.give_back.new.pass c.hold-shared.ensures.seen c.hold-shared.ensures.own c.hold-shared.ensures.seat (sym (ap (λ s. s.number) c.hold-shared.ensures.seat ∙ c.requires.operator)) c.give_back.ensures.pass))) is.1)) c.order_probe-ordered.ensures.refused
+    if_err {P = λ why. IsRefusalBehind (length c.order_probe-ordered.new.world.marks) why × NothingIsOpen (own_part c.order_probe-ordered.new.world 0)} c.order_probe-ordered.result
+    (λ why is. (subst (λ l. IsRefusalBehind (length l) why) (sym (ap (λ s. s.seen) c.give_back.ensures.pass)) is.0, subst NothingIsOpen (sym (operator_own c.hold-shared.result c.order_probe-ordered.new.world c.args.pass.now c.give_back.new.pass (was_held 0 c.hold-shared.result c.order_probe-ordered.new.world c.args.pass.now c.hold-shared.new.seat c.give_back.new.pass c.hold-shared.ensures.seen c.hold-shared.ensures.own c.hold-shared.ensures.seat (sym (ap (λ s. s.number) c.hold-shared.ensures.seat ∙ c.requires.operator)) c.give_back.ensures.pass))) is.1)) c.order_probe-ordered.ensures.refused
 
 pub returns-clause-counted : goal.returns-clause-counted
 returns-clause-counted g c =

@@ -2,7 +2,7 @@ use Rattle.std.proofs.Common.{ℕ, List, refl, sym, ap, subst, ◌∙◌}
 use Rattle.std.specs.Prelude.{OnOk, IfOk, IfErr}
 use Rattle.cas_world.specs.Eras.Plans.{asked_to}
 use Rattle.cas_board_steps.specs.Calls.Deeds.{harm_by}
-use Rattle.cas_board_steps.specs.Eras.Membership.{HasRescan, HasRounds, IsRescannedTo, IsPlanMark, IsRescanMark}
+use Rattle.cas_board_steps.specs.Eras.Membership.{HasRescan, RoundsAreKept, IsRescannedTo, IsPlanMark, IsRescanMark}
 use Rattle.cas_board_steps.specs.Mine.{wanted_by}
 use Rattle.cas_board_steps.specs.Calls.Open.{rounds_after}
 use Rattle.cas_board_steps.specs.Exchanges.Orders.{OperatesIn, IsToldIn}
@@ -40,8 +40,8 @@ returns-clause-rescans g c =
 
 pub returns-clause-rounds : goal.returns-clause-rounds
 returns-clause-rounds g c =
-    subst (λ (o : List ℕ). IfOk c.rescan_on-rescanning.result (HasRounds c.args.may_repeat o c.give_back.new.pass.own)) (operator_part c.args.pass.now.number c.shared.inside.world c.hold-shared.result c.args.pass.now.own c.requires.operator c.shared.view_is c.hold-shared.ensures.own)
-    (subst (λ (o : List ℕ). IfOk c.rescan_on-rescanning.result (HasRounds c.args.may_repeat (own_part c.shared.inside.world 0) o)) (sym (operator_own c.hold-shared.result c.rescan_on-rescanning.new.world c.args.pass.now c.give_back.new.pass (was_held 0 c.hold-shared.result c.rescan_on-rescanning.new.world c.args.pass.now c.hold-shared.new.seat c.give_back.new.pass c.hold-shared.ensures.seen c.hold-shared.ensures.own c.hold-shared.ensures.seat (sym (ap (λ s. s.number) c.hold-shared.ensures.seat ∙ c.requires.operator)) c.give_back.ensures.pass))) c.rescan_on-rescanning.ensures.rounds)
+    subst (λ (o : List ℕ). IfOk c.rescan_on-rescanning.result (RoundsAreKept c.args.may_repeat o c.give_back.new.pass.own)) (operator_part c.args.pass.now.number c.shared.inside.world c.hold-shared.result c.args.pass.now.own c.requires.operator c.shared.view_is c.hold-shared.ensures.own)
+    (subst (λ (o : List ℕ). IfOk c.rescan_on-rescanning.result (RoundsAreKept c.args.may_repeat (own_part c.shared.inside.world 0) o)) (sym (operator_own c.hold-shared.result c.rescan_on-rescanning.new.world c.args.pass.now c.give_back.new.pass (was_held 0 c.hold-shared.result c.rescan_on-rescanning.new.world c.args.pass.now c.hold-shared.new.seat c.give_back.new.pass c.hold-shared.ensures.seen c.hold-shared.ensures.own c.hold-shared.ensures.seat (sym (ap (λ s. s.number) c.hold-shared.ensures.seat ∙ c.requires.operator)) c.give_back.ensures.pass))) c.rescan_on-rescanning.ensures.rounds)
 
 pub returns-clause-told : goal.returns-clause-told
 returns-clause-told g c tries spent =

@@ -2,7 +2,7 @@ use Rattle.std.proofs.Common.{sym, ap, subst, ◌∙◌}
 use Rattle.std.proofs.lemmas.Bool.{ltb-true, ltb-false}
 use Rattle.cas_world.specs.Eras.Plans.{asked_to}
 use Rattle.cas_board_steps.specs.Calls.Deeds.{harm_by}
-use Rattle.cas_board_steps.specs.Eras.Membership.{HasRescan, HasRounds, IsRescannedTo, IsPlanMark, IsRescanMark}
+use Rattle.cas_board_steps.specs.Eras.Membership.{HasRescan, RoundsAreKept, IsRescannedTo, IsPlanMark, IsRescanMark}
 use Rattle.cas_board_steps.specs.Calls.Stages.{tells_met}
 use Rattle.cas_board_steps.proofs.Calls.Tries.{rescan_within}
 use Rattle.cas_board.proofs.Passes.{still_pass}
@@ -58,7 +58,7 @@ returns-in-Ok-Counted-clause-planned g c =
 
 pub loop-preserved : goal.loop-preserved
 loop-preserved g c =
-    let kept = subst (HasRounds _ c.verdict_at-verdict.new.pass.own c.rescan_on_once.new.pass.own) c.in-Ok-Goes.field-0-is c.in-Ok-Goes.ensures.rounds in
+    let kept = subst (RoundsAreKept _ c.verdict_at-verdict.new.pass.own c.rescan_on_once.new.pass.own) c.in-Ok-Goes.field-0-is c.in-Ok-Goes.ensures.rounds in
     record {
       run = order_goes_on IsPlanMark _ _ c.args.pass.now c.loop.pass c.verdict_at-verdict.new.pass c.loop.invariant.run c.verdict_at-verdict.ensures.pass (harm_by c.verdict_at-verdict.result) _ c.rescan_on_once.new.pass c.verdict_at-verdict.ensures.front c.verdict_at-verdict.ensures.counted c.rescan_on_once.ensures.pass c.in-Ok-Goes.ensures.goes_on;
       rescans = subst (IsRescannedTo (asked_to c.args.aim.now.kind c.args.aim.now.id) c.args.rescan.begun.call c.args.rescan.key c.rescan_on_once.new.pass.own) c.in-Ok-Goes.field-0-is c.in-Ok-Goes.ensures.rescans;

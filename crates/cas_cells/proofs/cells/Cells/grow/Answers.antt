@@ -5,7 +5,7 @@ use Rattle.cas_disk.specs.declared.disk.DiskFault.{DiskFault}
 use Rattle.cas_cells.specs.Format.{frame_at, cell_place, half_size, IsPayload, narrow_in, wide_in, head_in, with_count, grown, IsBeforeOrAfter}
 use Rattle.cas_cells.specs.UnderWay.{change_held}
 use Rattle.cas_cells.specs.Held.{IsShut, IsRow, OnDisk, CellHeld, payload_held, frame_of, other}
-use Rattle.cas_cells.specs.Cells.{cells_of, Agrees, IsUnderWay}
+use Rattle.cas_cells.specs.Cells.{cells_of, Agrees, ChangeIsUnderWay}
 use Rattle.cas_cells.specs.declared.cell.Cell.{Cell}
 use Rattle.cas_cells.proofs.Counting.{number_behind}
 use Rattle.cas_cells.proofs.Places.{first_size}
@@ -85,7 +85,7 @@ returns-in_err-change_cell-clause-after_no_memory g c no_memory =
           subst (λ (l : List Cell). OnDisk c.args.self.now.narrow new (set l 0 m1)) items (disk_set c.args.self.now.narrow cells mid new 0 (other cell.side) m1 on_mid still.others within still.held);
       under_way = λ tells.
           let still = c.change_cell.ensures.still tells answer in
-          subst (λ (l : List Cell). IsUnderWay c.args.self.now.narrow new (set l 0 m1) c.write_over.new.change) items
+          subst (λ (l : List Cell). ChangeIsUnderWay c.args.self.now.narrow new (set l 0 m1) c.write_over.new.change) items
           (still_under_way c.args.self.now.narrow old new cells cell m1 c.args.self.now.change c.write_over.new.change (s.under_way tells) c.write_over.ensures.over c.write_over.ensures.others c.write_over.ensures.held read.first c.in_err-change_cell.ensures.shut
           (λ j side less apart. still.others (frame_of j side) (frame_of_apart 0 j (other cell.side) side apart) ∙ c.in_ok-write_blank.ensures.below tells (frame_of j side) (frame_below j (c.count-behind.result + 1) side (omega (arith, less, read.behind)))));
       durable = λ tells. (c.change_cell.ensures.still tells answer).durable;

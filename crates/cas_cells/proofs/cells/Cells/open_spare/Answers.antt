@@ -4,8 +4,8 @@ use Rattle.cas_disk.specs.declared.disk.DiskFault.{DiskFault}
 use Rattle.cas_disk.specs.declared.disk.DiskFault.TheVariants.{NoMemory as NoMemoryOfDisk}
 use Rattle.cas_cells.specs.Format.{FitsCell, TellsSame, IsPayload, half_size, narrow_in, head_in}
 use Rattle.cas_cells.specs.UnderWay.{change_held, staged_in}
-use Rattle.cas_cells.specs.Held.{HoldsTail, Opens, IsRow, payload_held, other}
-use Rattle.cas_cells.specs.Cells.{staged_of, Agrees, IsUnderWay}
+use Rattle.cas_cells.specs.Held.{HoldsTail, OpensSpare, IsRow, payload_held, other}
+use Rattle.cas_cells.specs.Cells.{staged_of, Agrees, ChangeIsUnderWay}
 use Rattle.cas_cells.specs.declared.cell.Cell.{Cell}
 use Rattle.cas_cells.specs.declared.change.Change.{Change}
 use Rattle.cas_cells.specs.declared.fault.CellFault.TheVariants.{NoMemory}
@@ -26,7 +26,7 @@ open_spare-answer-requires-clause-shut g c tells =
     let s = c.requires.stands in
     let cells = c.args.self.now.cells.items in
     let is = at_index cells c.args.cell c.index_mut-held.result.now s.row c.requires.within c.index_mut-held.ensures.value in
-    let way = subst (λ (ch : Option Change). IsUnderWay c.args.self.now.narrow (g.D.Disk.seen c.args.self.now.disk) cells ch) c.take_staged-staged.ensures.taken (s.under_way tells) in
+    let way = subst (λ (ch : Option Change). ChangeIsUnderWay c.args.self.now.narrow (g.D.Disk.seen c.args.self.now.disk) cells ch) c.take_staged-staged.ensures.taken (s.under_way tells) in
     (way c.index_mut-held.result.now is).0
 
 pub open_spare-answer-requires-clause-staged : goal.open_spare-answer-requires-clause-staged
@@ -36,7 +36,7 @@ open_spare-answer-requires-clause-staged g c tells kept =
     let old = g.D.Disk.seen c.args.self.now.disk in
     let cell = c.index_mut-held.result.now in
     let is = at_index cells c.args.cell cell s.row c.requires.within c.index_mut-held.ensures.value in
-    let way = subst (λ (ch : Option Change). IsUnderWay c.args.self.now.narrow old cells ch) c.take_staged-staged.ensures.taken (s.under_way tells) in
+    let way = subst (λ (ch : Option Change). ChangeIsUnderWay c.args.self.now.narrow old cells ch) c.take_staged-staged.ensures.taken (s.under_way tells) in
     subst (λ (l : List ℕ). HoldsTail c.args.self.now.narrow old c.args.cell cell l) (sym c.deref.ensures.value) ((way cell is).1 kept)
 
 pub returns-in-Err-clause-cells : goal.returns-in-Err-clause-cells
@@ -72,7 +72,7 @@ returns-in-Err-clause-after_no_memory g c no_memory =
       under_way = λ tells cell'' is''.
           let both : Some cell' ≡ Some cell'' = sym (get_set_same cells c.args.cell cell' within) ∙ is'' in
           let same : cell' ≡ cell'' = cc in
-          let way = subst (λ (ch : Option Change). IsUnderWay c.args.self.now.narrow old cells ch) c.take_staged-staged.ensures.taken (s.under_way tells) in
+          let way = subst (λ (ch : Option Change). ChangeIsUnderWay c.args.self.now.narrow old cells ch) c.take_staged-staged.ensures.taken (s.under_way tells) in
           let shut : cell'.spare_open ≡ false = c.open_spare-answer.ensures.stays.spare ∙ (way cell is).0 in
           let staged : (c.open_spare-answer.new.kept ≡ true) → HoldsTail c.args.self.now.narrow new c.args.cell cell' payload =
           λ (kept : c.open_spare-answer.new.kept ≡ true). subst (λ (l : List ℕ). HoldsTail c.args.self.now.narrow new c.args.cell cell' l) c.deref.ensures.value (c.open_spare-answer.ensures.staged tells answer kept) in
@@ -111,14 +111,14 @@ returns-clause-stands g c =
     let agrees = subst (λ (ch : Option Change). Agrees (change_held ch) view) c.take_staged-staged.ensures.taken s.agrees in
     let view_is : map payload_held (set cells i c.turn.new.cell) ≡ set view i (Some p) =
     map_set payload_held cells i c.turn.new.cell ∙ ap (λ (o : Option (List ℕ)). set view i o) c.turn.ensures.held in
-    let opens : Opens c.deref.result.now cell1 c.turn.new.cell = subst (λ (l : List ℕ). Opens l cell1 c.turn.new.cell) (sym c.deref.ensures.value) c.turn.ensures in
+    let opens : OpensSpare c.deref.result.now cell1 c.turn.new.cell = subst (λ (l : List ℕ). OpensSpare l cell1 c.turn.new.cell) (sym c.deref.ensures.value) c.turn.ensures in
     record {
       row = subst IsRow (sym view_is) (row_changed view i p s.row agrees.1);
       narrow = s.narrow ∙ sym (narrow_changed view i p s.row agrees.1) ∙ ap narrow_in (sym view_is);
       head = subst (λ (v : List (Option (List ℕ))). IsPayload 512 (head_in v)) (sym view_is) (head_changed c.args.self.now.narrow view i p s.row (subst (λ (n : ℕ). IsPayload (half_size n i) p) (sym s.narrow) agrees.0) s.head);
       agrees = subst (λ (ch : Option Change). Agrees (change_held ch) (map payload_held (set cells i c.turn.new.cell))) (sym c.take_staged-staged.ensures.gone) tt;
       on_disk = λ tells. disk_set c.args.self.now.narrow cells old new i (other cell.side) c.turn.new.cell (s.on_disk tells) (c.in_default.ensures.others tells) within (c.in_default.ensures.opened tells c.turn.new.cell opens);
-      under_way = λ tells. subst (λ (ch : Option Change). IsUnderWay c.args.self.now.narrow new (set cells i c.turn.new.cell) ch) (sym c.take_staged-staged.ensures.gone) tt;
+      under_way = λ tells. subst (λ (ch : Option Change). ChangeIsUnderWay c.args.self.now.narrow new (set cells i c.turn.new.cell) ch) (sym c.take_staged-staged.ensures.gone) tt;
       durable = λ tells. c.in_default.ensures.durable tells;
     }
 

@@ -2,7 +2,7 @@ use Rattle.std.proofs.Common.{◌≡◌, Some, Err, Option, false, true, refl, s
 use Rattle.std.proofs.lemmas.Grind.{common_steps}
 use Rattle.std.proofs.Math.ListN.{set}
 use Rattle.cas_disk.specs.declared.disk.DiskFault.{DiskFault}
-use Rattle.cas_cells.specs.Format.{StandsFor, FitsCell, IsPayload, TellsSame, half_size, narrow_in, head_in}
+use Rattle.cas_cells.specs.Format.{IsImageOf, FitsCell, IsPayload, TellsSame, half_size, narrow_in, head_in}
 use Rattle.cas_cells.specs.Held.{HoldsTail, other}
 use Rattle.cas_cells.specs.Cells.{cells_of}
 use Rattle.cas_cells.specs.declared.cell.Cell.{Cell}
@@ -12,7 +12,7 @@ use Rattle.cas_cells.proofs.Stepping.{rests, step_stands, step_length}
 use Rattle.cas_cells.proofs.cells.Cells.write_spare.Goals as goal
 
 pub returns-in_err-staged-clause-any_moment : goal.returns-in_err-staged-clause-any_moment
-returns-in_err-staged-clause-any_moment g c tells = rests c.requires.stands tells (StandsFor (cells_of c.args.self.now)) (λ now. now) (λ image left. g.met.D.Disk.only_now c.args.self.now.disk image tells left)
+returns-in_err-staged-clause-any_moment g c tells = rests c.requires.stands tells (IsImageOf (cells_of c.args.self.now)) (λ now. now) (λ image left. g.met.D.Disk.only_now c.args.self.now.disk image tells left)
 
 pub write_spare-requires-clause-fits : goal.write_spare-requires-clause-fits
 write_spare-requires-clause-fits g c = subst (λ (k : ℕ). IsPayload (half_size k c.args.cell) c.args.payload.now) (sym c.requires.stands.narrow) c.requires.fits

@@ -1,9 +1,9 @@
 use Rattle.std.proofs.Common.{ap, subst, ◌∙◌, refl, arith}
 use Rattle.cas_slot.specs.Ages.{raised}
-use Rattle.cas_slot.specs.Shelf.{IsOldOrNew, LeavesOnly}
+use Rattle.cas_slot.specs.Shelf.{IsOldOrNew, ShelfLeavesOnly}
 use Rattle.cas_slot.specs.declared.ages.Ages.{Ages}
 use Rattle.cas_cells.specs.Cells as cells
-use Rattle.cas_disk_shelf.specs.Shelf.{disk_of, contents_of, moment_of, LeftSince}
+use Rattle.cas_disk_shelf.specs.Shelf.{disk_of, contents_of, moment_of, ShelfLeftSince}
 use Rattle.cas_disk_shelf.proofs.Keeping.{still_up}
 use Rattle.cas_disk_shelf.proofs.Leaving.{from_there}
 use Rattle.cas_disk_shelf.proofs.Lengths.{stays_short}
@@ -17,7 +17,7 @@ set_ages-requires g c =
 pub returns-clause-any_moment : goal.returns-clause-any_moment
 returns-clause-any_moment g c tells =
     let old = c.args.self.now in
-    subst (λ (ages : Ages). LeavesOnly (moment_of g.D.Disk.moment) (LeftSince g.D.Disk.left_since) old c.set_ages.new.self (IsOldOrNew (contents_of old) (record (contents_of old) { ages = ages })))
+    subst (λ (ages : Ages). ShelfLeavesOnly (moment_of g.D.Disk.moment) (ShelfLeftSince g.D.Disk.left_since) old c.set_ages.new.self (IsOldOrNew (contents_of old) (record (contents_of old) { ages = ages })))
     (c.raise.ensures ∙ ap (λ (ages : Ages). raised ages c.args.least.now) c.ages-ages.ensures)
     (from_there g.D.Disk.moment g.D.Disk.left_since old _ _ (IsOldOrNew (contents_of old) (record (contents_of old) { ages = c.raise.new.self })) (c.forget_past.ensures.now tells) (c.set_ages.ensures.any_moment tells))
 

@@ -7,7 +7,7 @@ use Rattle.cas_cells.specs.Format.{narrow_in}
 use Rattle.cas_cells.specs.Length.{NotLonger}
 use Rattle.cas_cells.proofs.Lengths.{then_no_longer, no_longer_than_seen, within_more}
 use Rattle.cas_disk_shelf.specs.Image.{left_on}
-use Rattle.cas_disk_shelf.specs.Shelf.{disk_of, MayLeave}
+use Rattle.cas_disk_shelf.specs.Shelf.{disk_of, ShelfMayLeave}
 use Rattle.cas_disk_shelf.proofs.Leaving.{as_shelf, taken_up}
 use Rattle.cas_disk_shelf.proofs.Lengths.{stays_short, stays_within}
 use Rattle.cas_disk_shelf.proofs.Narrow.{up_memory}
@@ -16,7 +16,7 @@ use Rattle.cas_disk_shelf.proofs.shelf.DiskShelfShelf.reopen.Goals as goal
 pub returns-in_err-loaded-clause-any_moment : goal.returns-in_err-loaded-clause-any_moment
 returns-in_err-loaded-clause-any_moment g c tells =
     let old = c.args.self.now in
-    as_shelf g.D.Disk.moment g.D.Disk.left_since old c.recover.new.self (g.D.Disk.may_leave (disk_of old)) (MayLeave g.D.Disk.may_leave old) (λ image left. (image, left, refl))
+    as_shelf g.D.Disk.moment g.D.Disk.left_since old c.recover.new.self (g.D.Disk.may_leave (disk_of old)) (ShelfMayLeave g.D.Disk.may_leave old) (λ image left. (image, left, refl))
     (reread g.D.Disk.moment g.D.Disk.left_since g.D.Disk.may_leave (disk_of old) _ _ _ _ (c.forget_past.ensures.now tells) (c.forget_past.ensures.kept tells).outcomes (λ image left. g.met.D.Disk.only_now _ image tells left)
     (c.crash.ensures.time tells) (c.crash.ensures.image tells) (c.crash.ensures.settled tells) (c.recover.ensures.any_moment tells))
 
@@ -88,7 +88,7 @@ returns-in_err-move_slots-clause-length g c tells =
     let held = c.in_ok-loaded.loaded.memory.held in
     let bytes : ℕ = 1024 * (1 + narrow_in (cells.cells_of c.renew.new.cells)) + 9216 * (slot_count held.slots + 1) in
     let more = λ (a b : g.row.D.Denot) (run : NotLonger g.D.Disk.moment g.D.Disk.left_since g.D.Disk.may_leave a b 0). within_more g.D.Disk.moment g.D.Disk.left_since g.D.Disk.may_leave a b 0 bytes (omega arith) run in
-    let left : MayLeave g.D.Disk.may_leave old (Ok held) = (seen, (c.forget_past.ensures.kept tells).outcomes _ (c.crash.ensures.image tells), sym (c.in_ok-loaded.ensures.recovered tells)) in
+    let left : ShelfMayLeave g.D.Disk.may_leave old (Ok held) = (seen, (c.forget_past.ensures.kept tells).outcomes _ (c.crash.ensures.image tells), sym (c.in_ok-loaded.ensures.recovered tells)) in
     stays_within g.D.Disk.moment g.D.Disk.left_since g.D.Disk.may_leave old _ began bytes
     (c.forget_past.ensures.now tells) (c.forget_past.ensures.kept tells).outcomes (λ t image later left'. g.met.D.Disk.counts_now new t image tells later left')
     (λ narrow before low holds. let few = holds.left held left in omega (arith, few, c.move_slots.ensures.narrow))
@@ -115,7 +115,7 @@ returns-clause-length g c tells =
     let held = c.in_ok-loaded.loaded.memory.held in
     let bytes : ℕ = 1024 * (1 + narrow_in (cells.cells_of c.renew.new.cells)) + 9216 * (slot_count held.slots + 1) in
     let more = λ (a b : g.row.D.Denot) (run : NotLonger g.D.Disk.moment g.D.Disk.left_since g.D.Disk.may_leave a b 0). within_more g.D.Disk.moment g.D.Disk.left_since g.D.Disk.may_leave a b 0 bytes (omega arith) run in
-    let left : MayLeave g.D.Disk.may_leave old (Ok held) = (seen, (c.forget_past.ensures.kept tells).outcomes _ (c.crash.ensures.image tells), sym (c.in_ok-loaded.ensures.recovered tells)) in
+    let left : ShelfMayLeave g.D.Disk.may_leave old (Ok held) = (seen, (c.forget_past.ensures.kept tells).outcomes _ (c.crash.ensures.image tells), sym (c.in_ok-loaded.ensures.recovered tells)) in
     stays_within g.D.Disk.moment g.D.Disk.left_since g.D.Disk.may_leave old _ began bytes
     (c.forget_past.ensures.now tells) (c.forget_past.ensures.kept tells).outcomes (λ t image later left'. g.met.D.Disk.counts_now new t image tells later left')
     (λ narrow before low holds. let few = holds.left held left in omega (arith, few, c.move_slots.ensures.narrow))

@@ -3,7 +3,7 @@ use Rattle.cas_disk.specs.Disk.{LeavesOnly}
 use Rattle.cas_cache.specs.declared.ready.Ready.{Ready}
 use Rattle.cas_cache.specs.Cache.{promises_of}
 use Rattle.cas_cache.specs.Entries.{promise_at}
-use Rattle.cas_vault.specs.Vault.{disk_of, counter_of, kept_of, kept_to_draw, IsBeforeOrAfter, IsPast}
+use Rattle.cas_vault.specs.Vault.{disk_of, counter_of, kept_of, kept_to_draw, KeepsBeforeOrAfter, IsPast}
 use Rattle.cas_proposer.specs.Desk.{DeskView}
 use Rattle.cas_proposer.proofs.DeskLemmas.{untouched, taken_back}
 use Rattle.cas_proposer.proofs.desk.Desk.begin.Goals as goal
@@ -17,7 +17,7 @@ returns-after-matches-clause-still_past g c tells n past = c.draw.ensures.still_
 pub returns-in-Some-clause-any_moment : goal.returns-in-Some-clause-any_moment
 returns-in-Some-clause-any_moment g c tells =
     let up : c.self.inside.down ≡ false = ap (λ (d : DeskView g.row.V.Denot). d.down) c.self.view_is ∙ c.requires.up in
-    subst (λ (d : DeskView g.row.V.Denot). LeavesOnly g.V.Disk.moment g.V.Disk.left_since (disk_of d.vault) (disk_of c.self.inside.vault) (IsBeforeOrAfter (kept_of d.vault) (kept_to_draw (counter_of d.vault) (kept_of d.vault)))) c.self.view_is
+    subst (λ (d : DeskView g.row.V.Denot). LeavesOnly g.V.Disk.moment g.V.Disk.left_since (disk_of d.vault) (disk_of c.self.inside.vault) (KeepsBeforeOrAfter (kept_of d.vault) (kept_to_draw (counter_of d.vault) (kept_of d.vault)))) c.self.view_is
     (untouched g.V.Disk.tells g.V.Disk.seen g.V.Disk.may_leave g.V.Disk.moment g.V.Disk.left_since c.self.inside.vault (kept_to_draw (counter_of c.self.inside.vault) (kept_of c.self.inside.vault)) (c.self.invariant.stands up) tells
     (λ image left. g.met.V.Disk.only_now _ image tells left))
 

@@ -3,7 +3,7 @@ use Rattle.std.specs.Option.{option_copied}
 use Rattle.cas_record.specs.Book.{Book}
 use Rattle.cas_record.specs.declared.mark.Mark.{Mark}
 use Rattle.cas_record.specs.declared.row.Row.{Row}
-use Rattle.cas_record.specs.Kept.Index.{key_at, IsListed, IsAfter, KeyLess}
+use Rattle.cas_record.specs.Kept.Index.{key_at, HasEntryOrFloor, IsAfter, KeyLess}
 use Rattle.cas_record.specs.Kept.Tables.{IsTablesOf, IsFirstAfter}
 use Rattle.std.proofs.lemmas.List.{get_or_default}
 use Rattle.cas_record.proofs.Kept.Rows.{no_row}
@@ -22,7 +22,7 @@ returns-in-Some-clause-next c =
     (subst (λ (rs : List Row). IsFirstAfter after rs c.deref-2.result.now c.first_after-from.result) c.deref.ensures.value c.first_after-from.ensures) in
     let found = c.key_at.ensures ∙ ap (λ (ms : List Mark). key_at ms c.index.result.now.home) (c.deref-in-Some.ensures.value ∙ seen)
     ∙ ap (λ (r : Row). key_at marks r.home) (c.index.ensures ∙ get_or_default rows c.in-Some.at c.index.result.now no_row next.within) in
-    copied_some c.key_at.result (λ key. IsListed key (reverse marks) × IsAfter after key)
+    copied_some c.key_at.result (λ key. HasEntryOrFloor key (reverse marks) × IsAfter after key)
     (found_next rows marks tables.rows after c.first_after-from.result first_ c.in-Some.at next (option_copied c.key_at.result) found)
 
 pub returns-in-Some-clause-least : goal.returns-in-Some-clause-least

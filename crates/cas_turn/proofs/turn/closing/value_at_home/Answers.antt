@@ -2,7 +2,7 @@ use Rattle.std.proofs.Common.{ap, ◌∙◌, sym, ◌≡◌, subst, All}
 use Rattle.std.specs.Prelude.{Some, None}
 use mathlib.Core.Option.{some-injective}
 use Rattle.cas_turn.specs.declared.view.Known.{Known}
-use Rattle.cas_turn.specs.Seen.{HasSeen}
+use Rattle.cas_turn.specs.Seen.{HasSeenOwn}
 use Rattle.cas_turn.specs.Steps.{Sat, them_of}
 use Rattle.cas_turn.proofs.Parting.{closes_at}
 use Rattle.cas_turn.proofs.turn.closing.value_at_home.Goals as goal
@@ -23,5 +23,5 @@ returns g c =
     let is : v ≡ c.in-Some.value = cc in
     record {
       seats = subst (λ (x : g.row.V.Denot). g.V.Grows.seats x ≡ c.args.board.shared.key) is h.2;
-      them = subst (λ (x : g.row.V.Denot). All (λ (k : Known g.row.V-Item.Denot). HasSeen g.V.Grows.owner k.number k.seen (g.V.Grows.list x) × (g.V.Grows.part x k.number ≡ k.own)) (them_of c.args.gatherer.me.0)) is h.3;
+      them = subst (λ (x : g.row.V.Denot). All (λ (k : Known g.row.V-Item.Denot). HasSeenOwn g.V.Grows.owner k.number k.seen (g.V.Grows.list x) × (g.V.Grows.part x k.number ≡ k.own)) (them_of c.args.gatherer.me.0)) is h.3;
     }

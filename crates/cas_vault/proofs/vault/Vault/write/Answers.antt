@@ -6,7 +6,7 @@ use Rattle.cas_cells.specs.Format.{narrow_in, narrow_told, wide_in, wide_told}
 use Rattle.cas_cells.specs.UnderWay.{staged_in}
 use Rattle.cas_cells.proofs.Places.{fits_narrow}
 use Rattle.cas_cells.specs.declared.fault.CellFault.{CellFault}
-use Rattle.cas_vault.specs.Vault.{IsBeforeOrAfter}
+use Rattle.cas_vault.specs.Vault.{KeepsBeforeOrAfter}
 use Rattle.cas_vault.proofs.Keeping.{in_use, row_keeps, told_no_memory}
 use Rattle.cas_vault.proofs.vault.Vault.write.Goals as goal
 
@@ -54,9 +54,9 @@ returns-clause-any_moment g c tells =
     let row1 = c.close_spare.ensures.cells ∙ s.held in
     let row2 = c.write_spare.ensures.cells ∙ row1 in
     let staged = ap staged_in c.in_ok-write_spare.ensures.written ∙ c.spell.ensures in
-    then_on g.V.Disk.moment g.V.Disk.left_since (disk_of c.args.self.now.cells) (disk_of c.write_spare.new.self) (disk_of c.open_spare.new.self) (IsBeforeOrAfter before after)
-    (then_on g.V.Disk.moment g.V.Disk.left_since (disk_of c.args.self.now.cells) (disk_of c.close_spare.new.self) (disk_of c.write_spare.new.self) (IsBeforeOrAfter before after)
-    (weaker g.V.Disk.moment g.V.Disk.left_since _ _ _ (IsBeforeOrAfter before after) (λ image stands. inl (row_keeps _ before image s.fits row0 stands)) (c.close_spare.ensures.any_moment tells))
-    (weaker g.V.Disk.moment g.V.Disk.left_since _ _ _ (IsBeforeOrAfter before after) (λ image stands. inl (row_keeps _ before image s.fits row1 stands)) (c.write_spare.ensures.any_moment tells)))
-    (weaker g.V.Disk.moment g.V.Disk.left_since _ _ _ (IsBeforeOrAfter before after)
+    then_on g.V.Disk.moment g.V.Disk.left_since (disk_of c.args.self.now.cells) (disk_of c.write_spare.new.self) (disk_of c.open_spare.new.self) (KeepsBeforeOrAfter before after)
+    (then_on g.V.Disk.moment g.V.Disk.left_since (disk_of c.args.self.now.cells) (disk_of c.close_spare.new.self) (disk_of c.write_spare.new.self) (KeepsBeforeOrAfter before after)
+    (weaker g.V.Disk.moment g.V.Disk.left_since _ _ _ (KeepsBeforeOrAfter before after) (λ image stands. inl (row_keeps _ before image s.fits row0 stands)) (c.close_spare.ensures.any_moment tells))
+    (weaker g.V.Disk.moment g.V.Disk.left_since _ _ _ (KeepsBeforeOrAfter before after) (λ image stands. inl (row_keeps _ before image s.fits row1 stands)) (c.write_spare.ensures.any_moment tells)))
+    (weaker g.V.Disk.moment g.V.Disk.left_since _ _ _ (KeepsBeforeOrAfter before after)
     (λ image either. ⊎_elim (λ old. inl (row_keeps _ before image s.fits row2 old)) (λ new. inr (row_keeps _ after image c.requires.fits (λ t. set (row2 t) 0 (Some (staged t))) new)) either) (c.open_spare.ensures.any_moment tells))

@@ -24,7 +24,7 @@ use Rattle.cas_model.proofs.Safety.Steps.{steps_are_safe}
 use Rattle.cas_world_calls.specs.Call.{reserved_of}
 use Rattle.cas_world_calls.specs.Council.{council_view, exchange_view, question_view}
 use Rattle.cas_collect.specs.declared.collect.CollectStep.TheVariants as collect
-use Rattle.cas_vault.specs.Vault.{Stands, kept_of}
+use Rattle.cas_vault.specs.Vault.{VaultStands, kept_of}
 use Rattle.cas_vault.specs.declared.kept.Kept.{Kept}
 use Rattle.cas_vault.proofs.Keeping.{same_kept}
 use Rattle.cas_world.specs.Exchanges.Exchange.{MayAskCollected}
@@ -141,7 +141,7 @@ exchange_is g c = c.in-Ok-ask_each.ensures.exchange
 
 did : (g : Over) (c : Joined-self-2 g) → Step (meaning g.S.Shelf g.V.Disk) (view_of c.self.inside.setup.proposers c.self.inside.council c.self.inside.acceptors.items c.self.inside.desks.items c.self.inside.callers.items c.self.inside.flow c.self.inside.record) step.AskCollect (view_of c.self.inside.setup.proposers (record c.self.inside.council { exchange = Some c.in-Ok-ask_each.exchange }) c.self.inside.acceptors.items c.self.inside.desks.items c.self.inside.callers.items c.ask_each.new.flow c.reserve.new.self)
 did g c = asks_all (meaning g.S.Shelf g.V.Disk) (view_of c.self.inside.setup.proposers c.self.inside.council c.self.inside.acceptors.items c.self.inside.desks.items c.self.inside.callers.items c.self.inside.flow c.self.inside.record) (view_of c.self.inside.setup.proposers (record c.self.inside.council { exchange = Some c.in-Ok-ask_each.exchange }) c.self.inside.acceptors.items c.self.inside.desks.items c.self.inside.callers.items c.ask_each.new.flow c.reserve.new.self) c.index.result.now c.self.invariant.safe (of g c) (at_desk g c) (question_view c.in-Ok.question) c.ask_each.new.flow (is_up g c) (is_question g c) (few g c)
-    (λ told. record { kept = omega arith; left = λ bytes kept may on. omega (arith, ap (λ (k : Kept). k.age) (same_kept kept (kept_of c.index.result.now.vault) bytes on ((subst (λ (d : DeskView g.row.V.Denot). Stands g.V.Disk.tells g.V.Disk.seen g.V.Disk.may_leave d.vault) (same_desk g c) (c.age-age.ensures.stands (ap (λ (d : DeskView g.row.V.Denot). d.down) (same_desk g c) ∙ is_up g c))).images told bytes may))) })
+    (λ told. record { kept = omega arith; left = λ bytes kept may on. omega (arith, ap (λ (k : Kept). k.age) (same_kept kept (kept_of c.index.result.now.vault) bytes on ((subst (λ (d : DeskView g.row.V.Denot). VaultStands g.V.Disk.tells g.V.Disk.seen g.V.Disk.may_leave d.vault) (same_desk g c) (c.age-age.ensures.stands (ap (λ (d : DeskView g.row.V.Denot). d.down) (same_desk g c) ∙ is_up g c))).images told bytes may))) })
     (subst (λ (n : ℕ). Sends c.self.inside.flow exchange_place (questions_to n (tomb_of (of g c).may.collection.tombstone) (question_view c.in-Ok.question) (everyone (view_of c.self.inside.setup.proposers c.self.inside.council c.self.inside.acceptors.items c.self.inside.desks.items c.self.inside.callers.items c.self.inside.flow c.self.inside.record))) c.ask_each.new.flow) (c.age-age.ensures.age ∙ ap (λ (d : DeskView g.row.V.Denot). (kept_of d.vault).age) (same_desk g c))
     (subst (λ (t : Ballot). Sends c.self.inside.flow exchange_place (questions_to c.age-age.result t (question_view c.in-Ok.question) (everyone (view_of c.self.inside.setup.proposers c.self.inside.council c.self.inside.acceptors.items c.self.inside.desks.items c.self.inside.callers.items c.self.inside.flow c.self.inside.record))) c.ask_each.new.flow) (c.tomb.ensures ∙ ap (λ (x : CollectionView). tomb_of x.tombstone) (same_one g c))
     (subst (λ (l : List ℕ). Sends c.self.inside.flow exchange_place (questions_to c.age-age.result c.tomb.result (question_view c.in-Ok.question) l) c.ask_each.new.flow) (members_are g c) c.in-Ok-ask_each.ensures.sent)))

@@ -6,7 +6,7 @@ use Rattle.cas_record.specs.Logs.Orderly.{IsAboveFloors}
 use Rattle.cas_record.specs.Places.{Stands}
 use Rattle.cas_model.specs.History.{IsRemembered}
 use Rattle.cas_model.specs.View.{Meaning, View}
-use Rattle.cas_model.specs.Laws.{IsKept}
+use Rattle.cas_model.specs.Laws.{AcknowledgedIsKept}
 use Rattle.cas_model.proofs.Openings.Opens.{remembered_legal}
 use Rattle.cas_model.proofs.ViewLaws.{done_kept}
 use Rattle.cas_world.proofs.world.World.parts.Goals as goal
@@ -14,7 +14,7 @@ use Rattle.cas_world.proofs.world.World.parts.Goals as goal
 pub returns-clause-legal : goal.returns-clause-legal
 returns-clause-legal g c shelves vaults = remembered_legal _ _ (c.self.invariant.remembered shelves vaults)
 
-kept_now : {S V : Type 0} (m : Meaning S V) {inside now : View S V} → inside ≡ now → m.shelves.tells → IsRemembered m inside → (a : Acknowledgment) → Stands (Acked a) (reverse now.marks) → IsAboveFloors (reverse now.marks) a.key a.ballot → IsKept m now a
+kept_now : {S V : Type 0} (m : Meaning S V) {inside now : View S V} → inside ≡ now → m.shelves.tells → IsRemembered m inside → (a : Acknowledgment) → Stands (Acked a) (reverse now.marks) → IsAboveFloors (reverse now.marks) a.key a.ballot → AcknowledgedIsKept m now a
 kept_now {S} {V} m {inside} {now} same tells is a stands above = done_kept m tells now a (subst (λ (v : View S V). IsRemembered m v) same is) stands above
 
 pub returns-clause-kept : goal.returns-clause-kept

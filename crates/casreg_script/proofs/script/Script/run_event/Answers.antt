@@ -5,7 +5,7 @@ use Rattle.cas_lines.specs.declared.command.Command.{Command}
 use Rattle.cas_model.specs.Step as step
 use Rattle.cas_model.specs.Step.{Step}
 use Rattle.cas_model.specs.View.{View, IsAt, meaning}
-use Rattle.casreg_script.specs.Events.{CrashesAcceptor, RestartsAcceptor, RestartsProposer, StraysIn}
+use Rattle.casreg_script.specs.Events.{CrashesAcceptor, RestartsAcceptor, RestartsProposer, AnswersStray}
 use Rattle.casreg_script.specs.Script.{RunsEvent, nowhere, net, crash_acceptor, restart_acceptor, crash_proposer, restart_proposer, halt_prepared, halt_proposed, stray}
 use Rattle.casreg_script.specs.Stage.{Stage}
 use Rattle.casreg_script.specs.declared.halt.Halt.{Halt}
@@ -56,7 +56,7 @@ pub returns-in-Stray-clause-runs : goal.returns-in-Stray-clause-runs
 returns-in-Stray-clause-runs g c state at =
     in_world c.self.inside.world c.stray.new.world c.self.inside.network c.self.inside.halts c.self.inside.tries c.args.self.now state (RunsEvent (meaning g.S.Shelf g.V.Disk) state c.args.command.now c.stray.result) c.self.view_is at
     (subst (λ (x : Command). RunsEvent (meaning g.S.Shelf g.V.Disk) state x c.stray.result (record state { world = c.stray.new.world })) (sym c.in-Stray.is)
-    (stray (subst (λ (w : View _ _). StraysIn (meaning g.S.Shelf g.V.Disk) w c.in-Stray.index c.stray.result c.stray.new.world) (world_is c.self.inside.world c.self.inside.network c.self.inside.halts c.self.inside.tries c.args.self.now state c.self.view_is at) c.stray.ensures)))
+    (stray (subst (λ (w : View _ _). AnswersStray (meaning g.S.Shelf g.V.Disk) w c.in-Stray.index c.stray.result c.stray.new.world) (world_is c.self.inside.world c.self.inside.network c.self.inside.halts c.self.inside.tries c.args.self.now state c.self.view_is at) c.stray.ensures)))
 
 pub returns-in-Net-clause-runs : goal.returns-in-Net-clause-runs
 returns-in-Net-clause-runs g c state at =
