@@ -107,15 +107,20 @@ impl<S: Shelf> Acceptor<S> {
     pub fn handle(&mut self, request: &Request) -> Result<Reply, HandleFault>
         requires known { request.now.from ≤ 16 }
         requires fits { AskBallotsFit request.now.ask }
-        ensures table { IfOk result (λ reply. IsReplyByTable self.old.id (S.contents self.old.shelf) request.now reply (S.contents self.new.shelf)) }
+        ensures table { IfOk result (λ reply. IsReplyByTable self.old.id
+            (S.contents self.old.shelf) request.now reply (S.contents self.new.shelf)) }
         ensures told { IfOk result (λ reply. TellFits reply.tell) }
-        ensures kept { S.tells → self.new.down ≡ false → OnlyLeaves (S.contents self.new.shelf) (S.may_leave self.new.shelf) }
-        ensures any_moment { S.tells → self.old.down ≡ false → ShelfLeavesOnly S.moment S.left_since self.old.shelf self.new.shelf (LeavesByTable (S.contents self.old.shelf) request.now) }
+        ensures kept { S.tells → self.new.down ≡ false
+            → OnlyLeaves (S.contents self.new.shelf) (S.may_leave self.new.shelf) }
+        ensures any_moment { S.tells → self.old.down ≡ false → ShelfLeavesOnly S.moment S.left_since
+            self.old.shelf self.new.shelf (LeavesByTable (S.contents self.old.shelf) request.now) }
         ensures err { OnErr result (S.contents self.new.shelf ≡ S.contents self.old.shelf) }
-        ensures was_down { IsTrue self.old.down → (result ≡ Err HandleFault.Down) × (self.new ≡ self.old) }
+        ensures was_down { IsTrue self.old.down
+            → (result ≡ Err HandleFault.Down) × (self.new ≡ self.old) }
         ensures down { IsErrOf result HandleFault.Down ↔ IsTrue self.new.down }
         ensures up { self.new.down ≡ false → S.is_up self.new.shelf }
-        ensures cause { IsErrOf result HandleFault.Down → IsTrue self.old.down ⊎ Rose (S.fault_count self.old.shelf) (S.fault_count self.new.shelf) }
+        ensures cause { IsErrOf result HandleFault.Down → IsTrue self.old.down
+            ⊎ Rose (S.fault_count self.old.shelf) (S.fault_count self.new.shelf) }
         ensures never_falls { S.fault_count self.old.shelf ≤ S.fault_count self.new.shelf }
         ensures same { (self.new.id ≡ self.old.id) × (self.new.started ≡ self.old.started) }
     {
@@ -136,8 +141,10 @@ impl<S: Shelf> Acceptor<S> {
     /// Crashes. The acceptor is down until it is restarted, and nothing is pending on its shelf's disk.
     pub fn crash(&mut self)
         ensures down { IsTrue self.new.down }
-        ensures settled { S.tells → NothingIsPending (S.may_leave self.old.shelf) (S.may_leave self.new.shelf) }
-        ensures any_moment { S.tells → ShelfLeavesOnly S.moment S.left_since self.old.shelf self.new.shelf (S.may_leave self.old.shelf) }
+        ensures settled { S.tells
+            → NothingIsPending (S.may_leave self.old.shelf) (S.may_leave self.new.shelf) }
+        ensures any_moment { S.tells → ShelfLeavesOnly S.moment
+            S.left_since self.old.shelf self.new.shelf (S.may_leave self.old.shelf) }
         ensures never_falls { S.fault_count self.old.shelf ≤ S.fault_count self.new.shelf }
         ensures same { (self.new.id ≡ self.old.id) × (self.new.started ≡ self.old.started) }
     {
@@ -154,19 +161,26 @@ impl<S: Shelf> Acceptor<S> {
     pub fn restart(&mut self) -> Result<(), ShelfFault>
         ensures up { OnOk result (self.new.down ≡ false) }
         ensures shelf_up { self.new.down ≡ false → S.is_up self.new.shelf }
-        ensures kept { S.tells → self.new.down ≡ false → OnlyLeaves (S.contents self.new.shelf) (S.may_leave self.new.shelf) }
+        ensures kept { S.tells → self.new.down ≡ false
+            → OnlyLeaves (S.contents self.new.shelf) (S.may_leave self.new.shelf) }
         ensures still_down { OnErr result (IsTrue self.new.down) }
         ensures unchanged { self.old.down ≡ false → (result ≡ Ok tt) × (self.new ≡ self.old) }
         ensures started { OnOk result (IsTrue self.new.started) }
         ensures not_started { OnErr result (self.new.started ≡ self.old.started) }
-        ensures afresh { IsTrue self.old.down → self.old.started ≡ false → OnOk result (S.contents self.new.shelf ≡ nothing) }
-        ensures reopened { S.tells → IsTrue self.old.down → IsTrue self.old.started → OnOk result (S.may_leave self.old.shelf (Ok (S.contents self.new.shelf))) }
-        ensures any_moment { S.tells → IsTrue self.old.started → ShelfLeavesOnly S.moment S.left_since self.old.shelf self.new.shelf (S.may_leave self.old.shelf) }
+        ensures afresh { IsTrue self.old.down
+            → self.old.started ≡ false → OnOk result (S.contents self.new.shelf ≡ nothing) }
+        ensures reopened { S.tells → IsTrue self.old.down → IsTrue self.old.started
+            → OnOk result (S.may_leave self.old.shelf (Ok (S.contents self.new.shelf))) }
+        ensures any_moment { S.tells → IsTrue self.old.started → ShelfLeavesOnly S.moment
+            S.left_since self.old.shelf self.new.shelf (S.may_leave self.old.shelf) }
         ensures err { OnErr result (S.contents self.new.shelf ≡ S.contents self.old.shelf) }
-        ensures foreign { S.tells → (at : ℕ) → IsErrOf result (ShelfFault.Foreign at) → S.may_leave self.old.shelf (Err at) }
-        ensures start_not_foreign { self.old.started ≡ false → (at : ℕ) → IsErrOf result (ShelfFault.Foreign at) → ⊥ }
+        ensures foreign { S.tells → (at : ℕ)
+            → IsErrOf result (ShelfFault.Foreign at) → S.may_leave self.old.shelf (Err at) }
+        ensures start_not_foreign { self.old.started ≡ false
+            → (at : ℕ) → IsErrOf result (ShelfFault.Foreign at) → ⊥ }
         ensures not_full { IsErrOf result ShelfFault.Full → ⊥ }
-        ensures cause { HasShelfCause result (S.fault_count self.old.shelf) (S.fault_count self.new.shelf) }
+        ensures cause { HasShelfCause result
+            (S.fault_count self.old.shelf) (S.fault_count self.new.shelf) }
         ensures same { self.new.id ≡ self.old.id }
     {
         if !self.down {
@@ -188,13 +202,16 @@ fn tell<S: Shelf>(shelf: &mut S, request: &Request) -> Result<Tell, HandleFault>
     requires up { S.is_up shelf.old }
     requires known { request.now.from ≤ 16 }
     requires fits { AskBallotsFit request.now.ask }
-    ensures table { IfOk result (λ tell. Handles (S.contents shelf.old) request.now tell (S.contents shelf.new)) }
+    ensures table { IfOk result
+        (λ tell. Handles (S.contents shelf.old) request.now tell (S.contents shelf.new)) }
     ensures told { IfOk result TellFits }
-    ensures any_moment { S.tells → ShelfLeavesOnly S.moment S.left_since shelf.old shelf.new (LeavesByTable (S.contents shelf.old) request.now) }
+    ensures any_moment { S.tells → ShelfLeavesOnly S.moment S.left_since shelf.old shelf.new
+        (LeavesByTable (S.contents shelf.old) request.now) }
     ensures err { OnErr result (S.contents shelf.new ≡ S.contents shelf.old) }
     ensures up { OnOk result (S.is_up shelf.new) }
     ensures up_still { IsErrOf result HandleFault.NoMemory → S.is_up shelf.new }
-    ensures cause { IsErrOf result HandleFault.Down → Rose (S.fault_count shelf.old) (S.fault_count shelf.new) }
+    ensures cause { IsErrOf result HandleFault.Down
+        → Rose (S.fault_count shelf.old) (S.fault_count shelf.new) }
     ensures never_falls { S.fault_count shelf.old ≤ S.fault_count shelf.new }
 {
     let least = shelf.ages().least(request.from);

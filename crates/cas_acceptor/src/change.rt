@@ -25,11 +25,15 @@ pub(crate) fn carry_out<S: Shelf>(shelf: &mut S, change: Change<'_>) -> Result<(
     ensures err { OnErr result (S.contents shelf.new ≡ S.contents shelf.old) }
     ensures up { OnOk result (S.is_up shelf.new) }
     ensures up_still { IsErrOf result ShelfFault.NoMemory → S.is_up shelf.new }
-    ensures full { IsErrOf result ShelfFault.Full ↔ HasNoRoomForChange (S.contents shelf.old) change.entry }
+    ensures full { IsErrOf result ShelfFault.Full ↔ HasNoRoomForChange
+        (S.contents shelf.old) change.entry }
     ensures up_when_full { IsErrOf result ShelfFault.Full → S.is_up shelf.new }
-    ensures untouched_when_full { S.tells → IsErrOf result ShelfFault.Full → ShelfLeavesOnly S.moment S.left_since shelf.old shelf.new (λ left. left ≡ Ok (S.contents shelf.old)) }
+    ensures untouched_when_full { S.tells
+        → IsErrOf result ShelfFault.Full → ShelfLeavesOnly S.moment S.left_since shelf.old shelf.new
+        (λ left. left ≡ Ok (S.contents shelf.old)) }
     ensures not_foreign { (at : ℕ) → IsErrOf result (ShelfFault.Foreign at) → ⊥ }
-    ensures any_moment { S.tells → ShelfLeavesOnly S.moment S.left_since shelf.old shelf.new (IsOldOrNew (S.contents shelf.old) (changed (S.contents shelf.old) change.entry)) }
+    ensures any_moment { S.tells → ShelfLeavesOnly S.moment S.left_since shelf.old shelf.new
+        (IsOldOrNew (S.contents shelf.old) (changed (S.contents shelf.old) change.entry)) }
     ensures cause { HasShelfCause result (S.fault_count shelf.old) (S.fault_count shelf.new) }
 {
     match change {

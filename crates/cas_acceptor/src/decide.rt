@@ -24,7 +24,8 @@ pub(crate) fn decide<'a, S: Shelf>(
     ask: &'a Ask,
 ) -> Result<(Tell, Change<'a>), AllocError>
     ensures table { IfOk result (λ done. Decides (S.contents shelf.now) ask.now done.0 done.1) }
-    ensures fits { AllBallotsFit (S.contents shelf.now) → AskBallotsFit ask.now → IfOk result (λ done. ChangeBallotsFit done.1) }
+    ensures fits { AllBallotsFit (S.contents shelf.now)
+        → AskBallotsFit ask.now → IfOk result (λ done. ChangeBallotsFit done.1) }
 {
     match ask {
         Ask::Prepare { key, ballot } => {
@@ -81,7 +82,8 @@ fn put_of(key: &Key, put: Option<Slot>) -> Change<'_>
 /// What a prepare is told, and the slot that is put in the place of this one, if another is.
 fn prepared(slot: Option<Slot>, ballot: Ballot) -> Result<(Tell, Option<Slot>), AllocError>
     ensures tell { IfOk result (λ done. done.0 ≡ tell_by_prepare (prepare_rule slot ballot) slot) }
-    ensures put { IfOk result (λ done. done.1 ≡ put_by_prepare (prepare_rule slot ballot) slot ballot) }
+    ensures put { IfOk result
+        (λ done. done.1 ≡ put_by_prepare (prepare_rule slot ballot) slot ballot) }
 {
     let rule = on_prepare(slot.as_ref(), ballot);
     let accepted = slot.and_then(|slot| slot.accepted);

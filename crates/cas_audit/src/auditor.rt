@@ -159,7 +159,8 @@ impl Auditor {
 fn watch(tables: &mut Tables, marks: &[Mark], mark: &Mark) -> Result<Option<Broken>, AllocError>
     requires { IsAudit tables.old (reverse marks.now) }
     ensures verdict { IfOk result (λ verdict. IsVerdict verdict (mark.now ∷ reverse marks.now)) }
-    ensures tables { IfOk result (λ verdict. TellsWhileLegal verdict tables.new (mark.now ∷ reverse marks.now)) }
+    ensures tables { IfOk result
+        (λ verdict. TellsWhileLegal verdict tables.new (mark.now ∷ reverse marks.now)) }
     ensures err { OnErr result (AreTables tables.new (reverse marks.now)) }
 {
     let Ok(at) = u32::try_from(marks.len() + 1) else {

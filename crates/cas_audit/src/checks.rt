@@ -90,7 +90,8 @@ fn is_outcome(outcome: &Outcome, state: &State, took: Took) -> bool
 
 /// Whether the first set has each acceptor of the second.
 fn has_all(voters: &Members, by: &Members) -> bool
-    ensures all { IsTrue result ↔ ((acceptor : ℕ) → has_member by.now acceptor ≡ true → has_member voters.now acceptor ≡ true) }
+    ensures all { IsTrue result ↔ ((acceptor : ℕ)
+        → has_member by.now acceptor ≡ true → has_member voters.now acceptor ≡ true) }
     ensures set { IsMemberSet by.now }
 {
     by.count() == 0 || by.intersection(voters) == *by
@@ -99,7 +100,8 @@ fn has_all(voters: &Members, by: &Members) -> bool
 /// The key of the call, where it began.
 fn key_of<'a>(tables: &Tables, marks: &'a [Mark], caller: u8, call: u32) -> Option<&'a Key>
     requires { IsAudit tables.now (reverse marks.now) }
-    ensures { (key : List ℕ) → (option_copied result ≡ Some key) ↔ IsBegun caller call key (reverse marks.now) }
+    ensures { (key : List ℕ)
+        → (option_copied result ≡ Some key) ↔ IsBegun caller call key (reverse marks.now) }
 {
     key_at(marks, tables.call_of(caller, call).begun)
 }
@@ -137,7 +139,8 @@ impl Tables {
 
     /// Whether the call began, and was not answered.
     fn is_first_end(&self, caller: u8, call: u32) -> bool
-        ensures { (marks : List Mark) → IsAudit self.now marks → IsTrue result ↔ IsFirstEnd caller call marks }
+        ensures { (marks : List Mark)
+            → IsAudit self.now marks → IsTrue result ↔ IsFirstEnd caller call marks }
     {
         let told = self.call_of(caller, call);
         told.begun.is_some() && !told.ended
@@ -160,7 +163,8 @@ impl Tables {
 
     /// How many entries the history up to the key's ballot has.
     pub fn length_of(&self, key: &Key, ballot: Ballot) -> Result<usize, AllocError>
-        ensures { IfOk result (λ count. (marks : List Mark) → IsAudit self.now marks → count ≡ length (chain_of key.now ballot marks)) }
+        ensures { IfOk result (λ count. (marks : List Mark)
+            → IsAudit self.now marks → count ≡ length (chain_of key.now ballot marks)) }
     {
         match self.node_of(key, ballot)? {
             Some(node) => Ok(node.length),
@@ -170,8 +174,9 @@ impl Tables {
 
     /// The ballot from whose history that of the ballot goes on, where one with an entry left does.
     pub fn before(&self, key: &Key, ballot: Option<Ballot>) -> Result<Option<Ballot>, AllocError>
-        ensures { IfOk result (λ found. (marks : List Mark) → IsAudit self.now marks → (entries : List Entry) (count : ℕ)
-            → Reaches key.now ballot marks entries (suc count) → Reaches key.now found marks entries count) }
+        ensures { IfOk result (λ found. (marks : List Mark) → IsAudit self.now marks
+            → (entries : List Entry) (count : ℕ) → Reaches key.now ballot marks entries (suc count)
+            → Reaches key.now found marks entries count) }
     {
         let Some(ballot) = ballot else {
             return Ok(None);
@@ -191,7 +196,8 @@ impl Tables {
         count: usize,
     ) -> Result<Option<Ballot>, AllocError>
         requires { count ≤ long }
-        ensures { IfOk result (λ found. (marks : List Mark) → IsAudit self.now marks → long ≡ length (chain_of key.now ballot marks)
+        ensures { IfOk result (λ found. (marks : List Mark)
+            → IsAudit self.now marks → long ≡ length (chain_of key.now ballot marks)
             → Reaches key.now found marks (chain_of key.now ballot marks) count) }
     {
         let mut found = Some(ballot);
@@ -203,8 +209,9 @@ impl Tables {
 
     /// Whether all that is settled of the key stays so once the ballot is acknowledged or made a floor.
     fn stays_settled(&self, key: &Key, ballot: Ballot) -> Result<bool, AllocError>
-        ensures { IfOk result (λ kept. (marks : List Mark) → IsAudit self.now marks
-            → IsTrue kept ↔ IsPrefix (settled_of key.now marks) (chain_of key.now (greater_of ballot (top_of key.now marks)) marks)) }
+        ensures { IfOk result (λ kept. (marks : List Mark)
+            → IsAudit self.now marks → IsTrue kept ↔ IsPrefix (settled_of key.now marks)
+            (chain_of key.now (greater_of ballot (top_of key.now marks)) marks)) }
     {
         let row = self.row_of(key);
         if !row.top.cmp(&ballot).is_lt() {
@@ -223,7 +230,8 @@ impl Tables {
 
     /// Whether what is settled only grows.
     pub fn keeps_settled(&self, mark: &Mark) -> Result<bool, AllocError>
-        ensures { IfOk result (λ kept. (marks : List Mark) → IsAudit self.now marks → IsTrue kept ↔ KeepsSettled mark.now marks) }
+        ensures { IfOk result (λ kept. (marks : List Mark)
+            → IsAudit self.now marks → IsTrue kept ↔ KeepsSettled mark.now marks) }
     {
         match mark {
             Mark::Acked(a) => self.stays_settled(&a.key, a.ballot),
@@ -267,7 +275,8 @@ impl Tables {
         ballot: Ballot,
     ) -> Result<bool, AllocError>
         requires { IsAudit self.now (reverse marks.now) }
-        ensures { IfOk result (λ has. (place : ℕ) → ChangeAt caller call place (reverse marks.now) → IsTrue has ↔ DoesStand caller call state.now took ballot (reverse marks.now)) }
+        ensures { IfOk result (λ has. (place : ℕ) → ChangeAt caller call place (reverse marks.now)
+            → IsTrue has ↔ DoesStand caller call state.now took ballot (reverse marks.now)) }
     {
         if !is_found(self.call_of(caller, call).proposed, ballot) {
             return Ok(false);
@@ -290,7 +299,8 @@ impl Tables {
         answer: &Answer,
     ) -> Result<bool, AllocError>
         requires { IsAudit self.now (reverse marks.now) }
-        ensures { IfOk result (λ kept. IsTrue kept ↔ AnswerStands caller call answer.now (reverse marks.now)) }
+        ensures { IfOk result
+            (λ kept. IsTrue kept ↔ AnswerStands caller call answer.now (reverse marks.now)) }
     {
         let Answer::Done {
             state,
@@ -324,7 +334,8 @@ impl Tables {
 
     /// Whether the answer, where it tells that its call was proposed or that it was not, tells the truth.
     fn tells_truly(&self, caller: u8, call: u32, answer: &Answer) -> bool
-        ensures { (marks : List Mark) → IsAudit self.now marks → IsTrue result ↔ TellsTruly answer.now caller call marks }
+        ensures { (marks : List Mark)
+            → IsAudit self.now marks → IsTrue result ↔ TellsTruly answer.now caller call marks }
     {
         if self.call_of(caller, call).proposed.is_some() {
             !tells_refused(answer)
@@ -335,7 +346,8 @@ impl Tables {
 
     /// Whether an answer that tells whether its call was proposed tells the truth.
     pub fn keeps_refusals(&self, mark: &Mark) -> bool
-        ensures { (marks : List Mark) → IsAudit self.now marks → IsTrue result ↔ KeepsRefusals mark.now marks }
+        ensures { (marks : List Mark)
+            → IsAudit self.now marks → IsTrue result ↔ KeepsRefusals mark.now marks }
     {
         match mark {
             Mark::Ended {
@@ -368,7 +380,8 @@ impl Tables {
         answer: &Answer,
     ) -> Result<bool, AllocError>
         requires { IsAudit self.now (reverse marks.now) }
-        ensures { IfOk result (λ kept. IsTrue kept ↔ AnswerIsLate caller call answer.now (reverse marks.now)) }
+        ensures { IfOk result
+            (λ kept. IsTrue kept ↔ AnswerIsLate caller call answer.now (reverse marks.now)) }
     {
         match answer {
             Answer::Done { .. } => self.stands_late(marks, caller, call),
@@ -394,7 +407,8 @@ impl Tables {
 
     /// Whether the acknowledgment has its proposal, of the same era, and the vote of each of its acceptors.
     fn has_votes(&self, a: &Acknowledgment) -> Result<bool, AllocError>
-        ensures { IfOk result (λ has. (marks : List Mark) → IsAudit self.now marks → IsTrue has ↔ HasVotes a.now marks) }
+        ensures { IfOk result (λ has. (marks : List Mark)
+            → IsAudit self.now marks → IsTrue has ↔ HasVotes a.now marks) }
     {
         let Some(node) = self.node_of(&a.key, a.ballot)? else {
             return Ok(false);
@@ -407,7 +421,8 @@ impl Tables {
 
     /// Whether an acknowledgment has its votes.
     pub fn keeps_votes(&self, mark: &Mark) -> Result<bool, AllocError>
-        ensures { IfOk result (λ kept. (marks : List Mark) → IsAudit self.now marks → IsTrue kept ↔ KeepsVotes mark.now marks) }
+        ensures { IfOk result (λ kept. (marks : List Mark)
+            → IsAudit self.now marks → IsTrue kept ↔ KeepsVotes mark.now marks) }
     {
         match mark {
             Mark::Acked(a) => self.has_votes(a),
@@ -417,14 +432,16 @@ impl Tables {
 
     /// Whether a floor that is made next opens the key's history.
     fn may_open(&self, key: &Key) -> bool
-        ensures { (marks : List Mark) → IsAudit self.now marks → IsTrue result ↔ IsOpeningFloor key.now marks }
+        ensures { (marks : List Mark)
+            → IsAudit self.now marks → IsTrue result ↔ IsOpeningFloor key.now marks }
     {
         !self.has_calls && self.row_of(key).floor.is_none()
     }
 
     /// Whether the floor opens the key's history, or is a tombstone.
     fn is_floor(&self, key: &Key, ballot: Ballot, state: &State) -> Result<bool, AllocError>
-        ensures { IfOk result (λ is. (marks : List Mark) → IsAudit self.now marks → IsTrue is ↔ IsFloor key.now ballot state.now marks) }
+        ensures { IfOk result (λ is. (marks : List Mark)
+            → IsAudit self.now marks → IsTrue is ↔ IsFloor key.now ballot state.now marks) }
     {
         if self.may_open(key) {
             return Ok(true);
@@ -437,7 +454,8 @@ impl Tables {
 
     /// Whether a floor opens its key's history, or is a tombstone.
     pub fn keeps_floors(&self, mark: &Mark) -> Result<bool, AllocError>
-        ensures { IfOk result (λ kept. (marks : List Mark) → IsAudit self.now marks → IsTrue kept ↔ KeepsFloors mark.now marks) }
+        ensures { IfOk result (λ kept. (marks : List Mark)
+            → IsAudit self.now marks → IsTrue kept ↔ KeepsFloors mark.now marks) }
     {
         match mark {
             Mark::Floor { key, ballot, state } => self.is_floor(key, *ballot, state),
@@ -447,7 +465,8 @@ impl Tables {
 
     /// Whether an answer that tells a shortfall has its harms.
     pub fn keeps_harms(&self, mark: &Mark) -> bool
-        ensures { (marks : List Mark) → IsAudit self.now marks → IsTrue result ↔ KeepsHarms mark.now marks }
+        ensures { (marks : List Mark)
+            → IsAudit self.now marks → IsTrue result ↔ KeepsHarms mark.now marks }
     {
         match mark {
             Mark::Ended {

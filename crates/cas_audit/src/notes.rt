@@ -31,7 +31,8 @@ impl Tables {
     /// Notes that a call began, by the mark at this place.
     fn note_begun(&mut self, place: usize, caller: u8, call: u32, key: &Key)
         requires { HasRoomInTables self.old }
-        ensures { (marks : List Mark) (program : List Clause) → AreTables self.old marks → place ≡ length marks → IsLegal (Begun caller call key.now program ∷ marks)
+        ensures { (marks : List Mark) (program : List Clause) → AreTables self.old marks
+            → place ≡ length marks → IsLegal (Begun caller call key.now program ∷ marks)
             → AreTables self.new (Begun caller call key.now program ∷ marks) }
     {
         let told = self.call_of(caller, call);
@@ -54,7 +55,8 @@ impl Tables {
     /// Notes that a call was answered.
     fn note_ended(&mut self, caller: u8, call: u32)
         requires { HasRoomInTables self.old }
-        ensures { (marks : List Mark) (rounds : ℕ) (answer : Answer) → AreTables self.old marks → IsLegal (Ended caller call rounds answer ∷ marks)
+        ensures { (marks : List Mark) (rounds : ℕ) (answer : Answer)
+            → AreTables self.old marks → IsLegal (Ended caller call rounds answer ∷ marks)
             → AreTables self.new (Ended caller call rounds answer ∷ marks) }
     {
         let told = self.call_of(caller, call);
@@ -76,7 +78,8 @@ impl Tables {
         requires room { HasRoomInTables self.old }
         requires tables { AreTables self.old (reverse marks.now) }
         requires few { length marks.now < 2 ^ 32 }
-        ensures { (down : Bool) → IsLegal (Harmed caller call down ∷ reverse marks.now) → AreTables self.new (Harmed caller call down ∷ reverse marks.now) }
+        ensures { (down : Bool) → IsLegal (Harmed caller call down ∷ reverse marks.now)
+            → AreTables self.new (Harmed caller call down ∷ reverse marks.now) }
     {
         let told = self.call_of(caller, call);
         put(
@@ -100,7 +103,8 @@ impl Tables {
         ballot: Ballot,
     ) -> Result<(), AllocError>
         requires { HasRoomInTables self.old }
-        ensures ok { OnOk result ((marks : List Mark) → AreTables self.old marks → IsLegal (Voted acceptor key.now ballot ∷ marks)
+        ensures ok { OnOk result ((marks : List Mark)
+            → AreTables self.old marks → IsLegal (Voted acceptor key.now ballot ∷ marks)
             → AreTables self.new (Voted acceptor key.now ballot ∷ marks)) }
         ensures err { OnErr result (self.new ≡ self.old) }
     {
@@ -121,7 +125,8 @@ impl Tables {
 
     /// The state with which the key's history starts.
     fn start_of(&self, key: &Key) -> Result<State, AllocError>
-        ensures { IfOk result (λ state. (marks : List Mark) → IsAudit self.now marks → state ≡ start_of (opening_of key.now marks)) }
+        ensures { IfOk result (λ state. (marks : List Mark)
+            → IsAudit self.now marks → state ≡ start_of (opening_of key.now marks)) }
     {
         match self.opening_of(key) {
             Some(opening) => opening.state.copy(),
@@ -131,7 +136,8 @@ impl Tables {
 
     /// The state of the key's register after the history up to the ballot.
     fn state_at(&self, key: &Key, ballot: Ballot) -> Result<State, AllocError>
-        ensures { IfOk result (λ state. (marks : List Mark) → IsAudit self.now marks → state ≡ replay_from (opening_state key.now marks) (chain_of key.now ballot marks)) }
+        ensures { IfOk result (λ state. (marks : List Mark) → IsAudit self.now marks
+            → state ≡ replay_from (opening_state key.now marks) (chain_of key.now ballot marks)) }
     {
         match self.node_of(key, ballot)? {
             Some(node) => {
@@ -147,7 +153,8 @@ impl Tables {
 
     /// Whether the key's history opens at the ballot.
     fn opens_with(&self, key: &Key, ballot: Ballot) -> bool
-        ensures { (marks : List Mark) → IsAudit self.now marks → result ≡ has_opening key.now ballot marks }
+        ensures { (marks : List Mark)
+            → IsAudit self.now marks → result ≡ has_opening key.now ballot marks }
     {
         match self.opening_of(key) {
             Some(opening) => opening.ballot.cmp(&ballot).is_eq(),
@@ -157,7 +164,8 @@ impl Tables {
 
     /// The greatest floor of the key below the ballot, or zero.
     fn floor_below(&self, key: &Key, ballot: Ballot) -> Ballot
-        ensures { (marks : List Mark) → IsAudit self.now marks → result ≡ floor_below key.now ballot marks }
+        ensures { (marks : List Mark)
+            → IsAudit self.now marks → result ≡ floor_below key.now ballot marks }
     {
         match self.floors.get(key) {
             Some(floors) => most_below(floors, ballot),
@@ -169,7 +177,8 @@ impl Tables {
     fn outcome_by(&self, marks: &[Mark], p: &Proposal, state: &State) -> Result<Outcome, AllocError>
         requires audit { IsAudit self.now (reverse marks.now) }
         requires begun { IsBegun p.now.caller p.now.call p.now.key (reverse marks.now) }
-        ensures { IfOk result (λ outcome. outcome ≡ outcome_of (program_of p.now.caller p.now.call (reverse marks.now)) state.now) }
+        ensures { IfOk result (λ outcome. outcome ≡ outcome_of (program_of p.now.caller p.now.call
+            (reverse marks.now)) state.now) }
     {
         match program_at(marks, self.call_of(p.caller, p.call).begun) {
             Some(program) => apply(program, state),
@@ -180,7 +189,8 @@ impl Tables {
     /// How many entries the history up to the proposal has, where that from which it goes on has so many.
     fn length_by(&self, p: &Proposal, before: usize) -> usize
         requires { before < 2 ^ 32 }
-        ensures { (marks : List Mark) → IsAudit self.now marks → IsLegal (Proposed p.now ∷ marks) → before ≡ length (chain_of p.now.key (link_of marks p.now) marks)
+        ensures { (marks : List Mark) → IsAudit self.now marks → IsLegal (Proposed p.now ∷ marks)
+            → before ≡ length (chain_of p.now.key (link_of marks p.now) marks)
             → result ≡ length (chain_of p.now.key p.now.ballot (Proposed p.now ∷ marks)) }
     {
         if p.ballot.cmp(&Ballot::ZERO).is_eq() {
@@ -240,9 +250,12 @@ impl Tables {
 
     /// Keeps the ballot of the change that is settled at the place.
     fn keep_settled(&mut self, key: &Key, place: usize, ballot: Ballot) -> Result<(), AllocError>
-        ensures tables { (marks : List Mark) → AreTables self.old marks → length (settled_of key.now marks) ≤ place → AreTables self.new marks }
+        ensures tables { (marks : List Mark) → AreTables self.old marks
+            → length (settled_of key.now marks) ≤ place → AreTables self.new marks }
         ensures room { HasRoomInTables self.old → HasRoomInTables self.new }
-        ensures put { OnOk result ((q : List ℕ × ℕ) → get same_place self.new.settled q ≡ (if same_place (key.now, place) q then Some ballot else get same_place self.old.settled q)) }
+        ensures put { OnOk result ((q : List ℕ × ℕ)
+            → get same_place self.new.settled q ≡ (if same_place
+            (key.now, place) q then Some ballot else get same_place self.old.settled q)) }
     {
         keep(&mut self.settled, key, place, ballot)?;
         Ok(())
@@ -255,13 +268,17 @@ impl Tables {
         place: usize,
         found: Option<Ballot>,
     ) -> Result<Option<Ballot>, AllocError>
-        ensures tables { (marks : List Mark) → AreTables self.old marks → length (settled_of key.now marks) ≤ place → AreTables self.new marks }
+        ensures tables { (marks : List Mark) → AreTables self.old marks
+            → length (settled_of key.now marks) ≤ place → AreTables self.new marks }
         ensures room { HasRoomInTables self.old → HasRoomInTables self.new }
-        ensures next { IfOk result (λ next. (marks : List Mark) → IsAudit self.old marks → (entries : List Entry) (count : ℕ)
-            → Reaches key.now found marks entries (suc count) → Reaches key.now next marks entries count) }
-        ensures here { OnOk result ((marks : List Mark) (entries : List Entry) → Reaches key.now found marks entries (suc place)
-            → IsFoundIn key.now marks entries place (get same_place self.new.settled (key.now, place))) }
-        ensures others { OnOk result ((p : ℕ) → place < p → get same_place self.new.settled (key.now, p) ≡ get same_place self.old.settled (key.now, p)) }
+        ensures next { IfOk result (λ next. (marks : List Mark) → IsAudit self.old marks
+            → (entries : List Entry) (count : ℕ) → Reaches key.now found marks entries (suc count)
+            → Reaches key.now next marks entries count) }
+        ensures here { OnOk result ((marks : List Mark) (entries : List Entry)
+            → Reaches key.now found marks entries (suc place) → IsFoundIn key.now
+            marks entries place (get same_place self.new.settled (key.now, place))) }
+        ensures others { OnOk result ((p : ℕ) → place < p → get same_place self.new.settled
+            (key.now, p) ≡ get same_place self.old.settled (key.now, p)) }
     {
         let next = self.before(key, found)?;
         let Some(own) = found else {
@@ -274,11 +291,15 @@ impl Tables {
     /// Keeps the ballots of the changes up to this ballot from this place on, the last first: those before are settled. Answers how
     /// many there are in all.
     fn settle(&mut self, key: &Key, ballot: Ballot, settled: usize) -> Result<usize, AllocError>
-        ensures tables { (marks : List Mark) → IsAudit self.old marks → settled ≡ length (settled_of key.now marks) → AreTables self.new marks }
+        ensures tables { (marks : List Mark) → IsAudit self.old marks
+            → settled ≡ length (settled_of key.now marks) → AreTables self.new marks }
         ensures room { HasRoomInTables self.old → HasRoomInTables self.new }
-        ensures long { IfOk result (λ long. (marks : List Mark) → IsAudit self.old marks → long ≡ length (chain_of key.now ballot marks)) }
-        ensures found { IfOk result (λ long. (marks : List Mark) → IsAudit self.old marks → settled ≡ length (settled_of key.now marks) → (place : ℕ) → settled ≤ place → place < long
-            → IsFoundIn key.now marks (chain_of key.now ballot marks) place (get same_place self.new.settled (key.now, place))) }
+        ensures long { IfOk result (λ long. (marks : List Mark)
+            → IsAudit self.old marks → long ≡ length (chain_of key.now ballot marks)) }
+        ensures found { IfOk result (λ long. (marks : List Mark) → IsAudit self.old marks
+            → settled ≡ length (settled_of key.now marks) → (place : ℕ) → settled ≤ place
+            → place < long → IsFoundIn key.now marks (chain_of key.now ballot marks) place
+            (get same_place self.new.settled (key.now, place))) }
     {
         let long = self.length_of(key, ballot)?;
         let mut found = Some(ballot);
@@ -292,9 +313,13 @@ impl Tables {
     fn raise(&mut self, key: &Key, ballot: Ballot) -> Result<Row, AllocError>
         ensures tables { (marks : List Mark) → IsAudit self.old marks → AreTables self.new marks }
         ensures room { HasRoomInTables self.old → HasRoomInTables self.new }
-        ensures row { IfOk result (λ row. (marks : List Mark) → IsAudit self.old marks → row ≡ raised_row key.now ballot marks) }
-        ensures found { IfOk result (λ row. (marks : List Mark) → IsAudit self.old marks → IsPrefix (settled_of key.now marks) (chain_of key.now (greater_of ballot (top_of key.now marks)) marks)
-            → (place : ℕ) → place < row.settled → IsFoundIn key.now marks (chain_of key.now (greater_of ballot (top_of key.now marks)) marks) place (get same_place self.new.settled (key.now, place))) }
+        ensures row { IfOk result (λ row. (marks : List Mark)
+            → IsAudit self.old marks → row ≡ raised_row key.now ballot marks) }
+        ensures found { IfOk result (λ row. (marks : List Mark)
+            → IsAudit self.old marks → IsPrefix (settled_of key.now marks) (chain_of key.now
+            (greater_of ballot (top_of key.now marks)) marks) → (place : ℕ) → place < row.settled
+            → IsFoundIn key.now marks (chain_of key.now (greater_of ballot (top_of key.now marks))
+            marks) place (get same_place self.new.settled (key.now, place))) }
     {
         let row = self.row_of(key);
         if !row.top.cmp(&ballot).is_lt() {
@@ -351,8 +376,10 @@ impl Tables {
     /// Notes an acknowledgment.
     fn note_acked(&mut self, a: &Acknowledgment) -> Result<(), AllocError>
         requires { HasRoomInTables self.old }
-        ensures ok { OnOk result ((marks : List Mark) → IsAudit self.old marks → IsLegal (Acked a.now ∷ marks) → AreTables self.new (Acked a.now ∷ marks)) }
-        ensures err { OnErr result ((marks : List Mark) → IsAudit self.old marks → AreTables self.new marks) }
+        ensures ok { OnOk result ((marks : List Mark) → IsAudit self.old marks
+            → IsLegal (Acked a.now ∷ marks) → AreTables self.new (Acked a.now ∷ marks)) }
+        ensures err { OnErr result ((marks : List Mark)
+            → IsAudit self.old marks → AreTables self.new marks) }
     {
         let spot = self.spot_of(&a.key, a.ballot)?;
         let at = (a.key.copy()?, a.ballot);
@@ -373,8 +400,11 @@ impl Tables {
     /// Notes a floor.
     fn note_floor(&mut self, key: &Key, ballot: Ballot, state: &State) -> Result<(), AllocError>
         requires { HasRoomInTables self.old }
-        ensures ok { OnOk result ((marks : List Mark) → IsAudit self.old marks → IsLegal (Floor key.now ballot state.now ∷ marks) → AreTables self.new (Floor key.now ballot state.now ∷ marks)) }
-        ensures err { OnErr result ((marks : List Mark) → IsAudit self.old marks → AreTables self.new marks) }
+        ensures ok { OnOk result ((marks : List Mark)
+            → IsAudit self.old marks → IsLegal (Floor key.now ballot state.now ∷ marks)
+            → AreTables self.new (Floor key.now ballot state.now ∷ marks)) }
+        ensures err { OnErr result ((marks : List Mark)
+            → IsAudit self.old marks → AreTables self.new marks) }
     {
         let at = key.copy()?;
         let own = key.copy()?;
@@ -406,8 +436,10 @@ fn keep(
     place: usize,
     ballot: Ballot,
 ) -> Result<(), AllocError>
-    ensures ok { OnOk result ((q : List ℕ × ℕ) → get same_place table.new q ≡ (if same_place (key.now, place) q then Some ballot else get same_place table.old q)) }
-    ensures err { OnErr result ((q : List ℕ × ℕ) → get same_place table.new q ≡ get same_place table.old q) }
+    ensures ok { OnOk result ((q : List ℕ × ℕ) → get same_place table.new q
+        ≡ (if same_place (key.now, place) q then Some ballot else get same_place table.old q)) }
+    ensures err { OnErr result ((q : List ℕ × ℕ)
+        → get same_place table.new q ≡ get same_place table.old q) }
 {
     table.reserve(1)?;
     let at = (key.copy()?, place);
@@ -422,8 +454,11 @@ fn add_floor(
     ballot: Ballot,
 ) -> Result<(), AllocError>
     requires { 0 < spare table.old }
-    ensures ok { OnOk result ((k : List ℕ) → ballots_in (get is_key table.new k) ≡ (if is_key key.now k then insert_key ballot_cmp (ballots_in (get is_key table.old k)) ballot else ballots_in (get is_key table.old k))) }
-    ensures err { OnErr result ((k : List ℕ) → ballots_in (get is_key table.new k) ≡ ballots_in (get is_key table.old k)) }
+    ensures ok { OnOk result ((k : List ℕ)
+        → ballots_in (get is_key table.new k) ≡ (if is_key key.now k then insert_key ballot_cmp
+        (ballots_in (get is_key table.old k)) ballot else ballots_in (get is_key table.old k))) }
+    ensures err { OnErr result ((k : List ℕ)
+        → ballots_in (get is_key table.new k) ≡ ballots_in (get is_key table.old k)) }
 {
     if let Some(floors) = table.get_mut(key) {
         floors.insert(ballot)?;

@@ -93,7 +93,8 @@ fn print_begun(
     key: &Key,
     program: &Program,
 ) -> Result<Vec<u8>, AllocError>
-    ensures text { IfOk result (λ line. line.items ≡ mark_text (Mark.Begun caller call key.now program.now)) }
+    ensures text { IfOk result
+        (λ line. line.items ≡ mark_text (Mark.Begun caller call key.now program.now)) }
     ensures fits { IfOk result (λ _. MarkFits (Mark.Begun caller call key.now program.now)) }
 {
     let mut head = String::new(alloc);
@@ -109,7 +110,8 @@ fn print_voted(
     key: &Key,
     ballot: Ballot,
 ) -> Result<Vec<u8>, AllocError>
-    ensures text { IfOk result (λ line. line.items ≡ mark_text (Mark.Voted acceptor key.now ballot)) }
+    ensures text { IfOk result
+        (λ line. line.items ≡ mark_text (Mark.Voted acceptor key.now ballot)) }
     ensures fits { IfOk result (λ _. MarkFits (Mark.Voted acceptor key.now ballot)) }
 {
     let acceptor = acceptor.number();
@@ -125,7 +127,8 @@ fn print_floor(
     ballot: Ballot,
     state: &State,
 ) -> Result<Vec<u8>, AllocError>
-    ensures text { IfOk result (λ line. line.items ≡ mark_text (Mark.Floor key.now ballot state.now)) }
+    ensures text { IfOk result
+        (λ line. line.items ≡ mark_text (Mark.Floor key.now ballot state.now)) }
     ensures fits { IfOk result (λ _. MarkFits (Mark.Floor key.now ballot state.now)) }
 {
     let head = String::from_str(alloc, "floor ")?;
@@ -153,7 +156,8 @@ fn print_ended(
     rounds: u32,
     answer: &Answer,
 ) -> Result<Vec<u8>, AllocError>
-    ensures text { IfOk result (λ line. line.items ≡ mark_text (Mark.Ended caller call rounds answer.now)) }
+    ensures text { IfOk result
+        (λ line. line.items ≡ mark_text (Mark.Ended caller call rounds answer.now)) }
     ensures fits { IfOk result (λ _. MarkFits (Mark.Ended caller call rounds answer.now)) }
 {
     let mut line = String::new(alloc);
@@ -182,7 +186,8 @@ fn harm_note(down: bool) -> &'static str
 
 /// A line with a key between its head and what follows.
 fn around_key(head: String, key: &Key, blank: &str, tail: &[u8]) -> Result<Vec<u8>, AllocError>
-    ensures text { IfOk result (λ line. line.items ≡ string_bytes head ++ key.now ++ blank.now ++ tail.now) }
+    ensures text { IfOk result
+        (λ line. line.items ≡ string_bytes head ++ key.now ++ blank.now ++ tail.now) }
     ensures key { IfOk result (λ _. IsKey key.now) }
 {
     let mut line = head.into_bytes();
@@ -221,7 +226,8 @@ fn ballots_of(alloc: Global, proposal: &Proposal) -> Result<String, AllocError>
 
 /// Writes a ballot.
 fn push_ballot(text: &mut String, ballot: Ballot) -> Result<(), AllocError>
-    ensures text { OnOk result (string_bytes text.new ≡ string_bytes text.old ++ ballot_text ballot) }
+    ensures text { OnOk result
+        (string_bytes text.new ≡ string_bytes text.old ++ ballot_text ballot) }
     ensures fits { BallotFits ballot }
 {
     write!(text, "{ballot}")
@@ -245,7 +251,8 @@ fn push_long_number(text: &mut String, number: u64) -> Result<(), AllocError>
 
 /// Writes how few acceptors confirmed, and how many were needed.
 fn push_short(text: &mut String, got: u32, need: u32) -> Result<(), AllocError>
-    ensures text { OnOk result (string_bytes text.new ≡ string_bytes text.old ++ codes "short " ++ decimal got ++ codes " " ++ decimal need) }
+    ensures text { OnOk result (string_bytes text.new
+        ≡ string_bytes text.old ++ codes "short " ++ decimal got ++ codes " " ++ decimal need) }
     ensures got { got < 2 ^ 32 }
     ensures need { need < 2 ^ 32 }
 {
@@ -254,7 +261,8 @@ fn push_short(text: &mut String, got: u32, need: u32) -> Result<(), AllocError>
 
 /// Writes an era, and the acceptors of a quorum in it.
 fn push_quorum(text: &mut String, era: u32, by: &Members) -> Result<(), AllocError>
-    ensures text { OnOk result (string_bytes text.new ≡ string_bytes text.old ++ codes " era " ++ decimal era ++ codes " by " ++ numbers_text by.now) }
+    ensures text { OnOk result (string_bytes text.new ≡ string_bytes text.old ++ codes
+        " era " ++ decimal era ++ codes " by " ++ numbers_text by.now) }
     ensures era { era < 2 ^ 32 }
     ensures set { OnOk result (IsMemberSet by.now) }
 {
@@ -287,8 +295,11 @@ fn print_quorum(
     era: u32,
     by: &Members,
 ) -> Result<Vec<u8>, AllocError>
-    ensures text { IfOk result (λ line. line.items ≡ codes "acked " ++ key.now ++ codes " " ++ ballot_text ballot ++ codes " era " ++ decimal era ++ codes " by " ++ numbers_text by.now) }
-    ensures fits { IfOk result (λ _. IsKey key.now × BallotFits ballot × (era < 2 ^ 32) × IsMemberSet by.now) }
+    ensures text { IfOk result
+        (λ line. line.items ≡ codes "acked " ++ key.now ++ codes " " ++ ballot_text
+        ballot ++ codes " era " ++ decimal era ++ codes " by " ++ numbers_text by.now) }
+    ensures fits { IfOk result (λ _. IsKey key.now
+        × BallotFits ballot × (era < 2 ^ 32) × IsMemberSet by.now) }
 {
     let head = String::from_str(alloc, "acked ")?;
     let mut tail = String::new(alloc);
@@ -313,7 +324,8 @@ fn numbers_of(alloc: Global, members: &Members) -> Result<Vec<u8>, AllocError>
 /// Adds the number at the end where the acceptor of that number is a member.
 fn push_if_member(numbers: &mut Vec<u8>, members: &Members, number: u8) -> Result<(), AllocError>
     requires { number < 64 }
-    ensures { OnOk result (numbers.new.items ≡ numbers.old.items ++ cond (has_member members.now number) (number ∷ []) []) }
+    ensures { OnOk result (numbers.new.items ≡ numbers.old.items ++ cond
+        (has_member members.now number) (number ∷ []) []) }
 {
     match AcceptorId::new(number) {
         Some(id) if members.has(id) => Ok(numbers.push(number)?),
@@ -323,7 +335,8 @@ fn push_if_member(numbers: &mut Vec<u8>, members: &Members, number: u8) -> Resul
 
 /// Writes the numbers of the acceptors, in rising order and with commas, and a dash where there is none.
 fn push_members(text: &mut String, members: &Members) -> Result<(), AllocError>
-    ensures text { OnOk result (string_bytes text.new ≡ string_bytes text.old ++ numbers_text members.now) }
+    ensures text { OnOk result
+        (string_bytes text.new ≡ string_bytes text.old ++ numbers_text members.now) }
     ensures set { OnOk result (IsMemberSet members.now) }
 {
     let numbers = numbers_of(*text.allocator(), members)?;
@@ -332,7 +345,8 @@ fn push_members(text: &mut String, members: &Members) -> Result<(), AllocError>
 
 /// Writes the numbers with commas, and a dash where there is none.
 fn push_numbers(text: &mut String, numbers: &[u8]) -> Result<(), AllocError>
-    ensures { OnOk result (string_bytes text.new ≡ string_bytes text.old ++ numbers_text numbers.now) }
+    ensures { OnOk result
+        (string_bytes text.new ≡ string_bytes text.old ++ numbers_text numbers.now) }
 {
     match numbers {
         [] => text.push('-'),
@@ -345,7 +359,8 @@ fn push_numbers(text: &mut String, numbers: &[u8]) -> Result<(), AllocError>
 
 /// Writes each number behind a comma.
 fn push_next_numbers(text: &mut String, numbers: &[u8]) -> Result<(), AllocError>
-    ensures { OnOk result (string_bytes text.new ≡ string_bytes text.old ++ flat_map next_number_text numbers.now) }
+    ensures { OnOk result
+        (string_bytes text.new ≡ string_bytes text.old ++ flat_map next_number_text numbers.now) }
 {
     for number in numbers {
         write!(text, ",{number}")?;
@@ -355,7 +370,8 @@ fn push_next_numbers(text: &mut String, numbers: &[u8]) -> Result<(), AllocError
 
 /// Writes what a call was answered, with the number of the clause that acted.
 fn push_answer(line: &mut String, answer: &Answer) -> Result<(), AllocError>
-    ensures text { OnOk result (string_bytes line.new ≡ string_bytes line.old ++ full_answer_text answer.now) }
+    ensures text { OnOk result
+        (string_bytes line.new ≡ string_bytes line.old ++ full_answer_text answer.now) }
     ensures fits { OnOk result (AnswerFits answer.now) }
 {
     match answer {
@@ -407,7 +423,8 @@ fn memory_note(proposed: bool) -> &'static str
 
 /// Writes that a change is done, with the number of the clause that acted.
 fn push_done(line: &mut String, state: &State, took: Took, ballot: Ballot) -> Result<(), AllocError>
-    ensures text { OnOk result (string_bytes line.new ≡ string_bytes line.old ++ full_answer_text (Answer.Done state.now took ballot)) }
+    ensures text { OnOk result (string_bytes line.new
+        ≡ string_bytes line.old ++ full_answer_text (Answer.Done state.now took ballot)) }
     ensures fits { OnOk result (AnswerFits (Answer.Done state.now took ballot)) }
 {
     line.push_str("done ")?;
@@ -430,7 +447,8 @@ fn push_clause_note(line: &mut String, took: Took) -> Result<(), AllocError>
 
 /// Writes why a proposed change is not known to stand.
 fn push_cause(line: &mut String, why: &Cause) -> Result<(), AllocError>
-    ensures text { OnOk result (string_bytes line.new ≡ string_bytes line.old ++ cause_text why.now) }
+    ensures text { OnOk result
+        (string_bytes line.new ≡ string_bytes line.old ++ cause_text why.now) }
     ensures fits { OnOk result (CauseFits why.now) }
 {
     match why {
@@ -539,7 +557,8 @@ fn print_finished(
     era: u32,
     rescanned: u32,
 ) -> Result<Vec<u8>, AllocError>
-    ensures text { IfOk result (λ text. text.items ≡ name.now ++ decimal id ++ codes " era " ++ decimal era ++ codes " rescanned " ++ decimal rescanned) }
+    ensures text { IfOk result (λ text. text.items ≡ name.now ++ decimal
+        id ++ codes " era " ++ decimal era ++ codes " rescanned " ++ decimal rescanned) }
     ensures fits { IfOk result (λ _. FinishFits id era rescanned) }
 {
     let number = id.number();
@@ -565,7 +584,8 @@ fn print_collected(
     removed: u32,
     kept: u32,
 ) -> Result<Vec<u8>, AllocError>
-    ensures text { IfOk result (λ text. text.items ≡ told_text (OpAnswer.Collected key.now ballot removed kept)) }
+    ensures text { IfOk result
+        (λ text. text.items ≡ told_text (OpAnswer.Collected key.now ballot removed kept)) }
     ensures fits { IfOk result (λ _. ToldFits (OpAnswer.Collected key.now ballot removed kept)) }
 {
     let head = String::from_str(alloc, "collected ")?;

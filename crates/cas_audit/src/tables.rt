@@ -41,7 +41,8 @@ pub struct Tables {
 /// Gives the key this value, in place of one that it had, in the room that was reserved.
 pub fn put<K: Eq + Hash + Drop, V: Drop>(table: &mut IndexMap<K, V>, key: K, value: V)
     requires { 0 < spare table.old }
-    ensures { (q : K) → get K.eq table.new q ≡ (if K.eq key q then Some value else get K.eq table.old q) }
+    ensures { (q : K)
+        → get K.eq table.new q ≡ (if K.eq key q then Some value else get K.eq table.old q) }
 {
     drop(table.insert(key, value));
 }
@@ -87,7 +88,8 @@ impl Tables {
 
     /// What the marks tell of a call.
     pub fn call_of(&self, caller: u8, call: u32) -> Call
-        ensures { (marks : List Mark) → AreTables self.now marks → result ≡ call_of caller call marks }
+        ensures { (marks : List Mark)
+            → AreTables self.now marks → result ≡ call_of caller call marks }
     {
         self.calls.get(&(caller, call)).copied().unwrap_or(Call {
             begun: None,
@@ -111,14 +113,16 @@ impl Tables {
 
     /// The floor with which the key opens.
     pub fn opening_of(&self, key: &Key) -> Option<&Opening>
-        ensures { (marks : List Mark) → AreTables self.now marks → option_copied result ≡ opening_of key.now marks }
+        ensures { (marks : List Mark)
+            → AreTables self.now marks → option_copied result ≡ opening_of key.now marks }
     {
         self.openings.get(key)
     }
 
     /// What the marks tell of the key's proposal at the ballot.
     pub fn node_of(&self, key: &Key, ballot: Ballot) -> Result<Option<&Node>, AllocError>
-        ensures { IfOk result (λ node. (marks : List Mark) → AreTables self.now marks → option_copied node ≡ node_of key.now ballot marks) }
+        ensures { IfOk result (λ node. (marks : List Mark)
+            → AreTables self.now marks → option_copied node ≡ node_of key.now ballot marks) }
     {
         let spot = (key.copy()?, ballot);
         Ok(self.nodes.get(&spot))
@@ -126,7 +130,8 @@ impl Tables {
 
     /// What the marks tell of the votes for the key's ballot.
     pub fn spot_of(&self, key: &Key, ballot: Ballot) -> Result<Spot, AllocError>
-        ensures { IfOk result (λ spot. (marks : List Mark) → AreTables self.now marks → spot ≡ spot_of key.now ballot marks) }
+        ensures { IfOk result (λ spot. (marks : List Mark)
+            → AreTables self.now marks → spot ≡ spot_of key.now ballot marks) }
     {
         let spot = (key.copy()?, ballot);
         Ok(
@@ -139,7 +144,8 @@ impl Tables {
 
     /// The ballot of the change that is settled at the place.
     pub fn settled_at(&self, key: &Key, place: usize) -> Result<Option<Ballot>, AllocError>
-        ensures { IfOk result (λ found. (marks : List Mark) → AreTables self.now marks → place < length (settled_of key.now marks) → IsFoundAt key.now marks place found) }
+        ensures { IfOk result (λ found. (marks : List Mark) → AreTables self.now marks
+            → place < length (settled_of key.now marks) → IsFoundAt key.now marks place found) }
     {
         let spot = (key.copy()?, place);
         Ok(self.settled.get(&spot).copied())

@@ -117,7 +117,9 @@ fn next_progress(
     line: &Line,
 ) -> Result<Progress, AllocError>
     requires { 0 < left }
-    ensures { (lines : List (List ℕ)) → length lines + 1 ≡ line.now.number → IsProgress lines auditor.old (Progress.Marks left) → IfOk result (λ progress. IsProgress (lines ++ line.now.bytes ∷ []) auditor.new progress) }
+    ensures { (lines : List (List ℕ))
+        → length lines + 1 ≡ line.now.number → IsProgress lines auditor.old (Progress.Marks left)
+        → IfOk result (λ progress. IsProgress (lines ++ line.now.bytes ∷ []) auditor.new progress) }
 {
     match read_mark(alloc, line.bytes()) {
         Ok(mark) => {
@@ -162,7 +164,9 @@ impl TextAudit {
         requires next { line.now.number ≡ self.old.lines + 1 }
         requires fits { line.now.number ≤ MOST_LINES }
         ensures lines { OnOk result (self.new.lines ≡ line.now.number) }
-        ensures progress { (lines : List (List ℕ)) → length lines ≡ self.old.lines → IsProgress lines self.old.auditor self.old.progress → OnOk result (IsProgress (lines ++ line.now.bytes ∷ []) self.new.auditor self.new.progress) }
+        ensures progress { (lines : List (List ℕ)) → length lines ≡ self.old.lines
+            → IsProgress lines self.old.auditor self.old.progress → OnOk result
+            (IsProgress (lines ++ line.now.bytes ∷ []) self.new.auditor self.new.progress) }
     {
         self.progress = match self.progress {
             Progress::Empty => first_progress(line.bytes()),
@@ -181,7 +185,8 @@ impl TextAudit {
 
     /// What is found, where no line follows.
     fn finding(&self) -> Finding
-        ensures { (lines : List (List ℕ)) → length lines ≡ self.now.lines → IsProgress lines self.now.auditor self.now.progress → IsFound lines result }
+        ensures { (lines : List (List ℕ)) → length lines ≡ self.now.lines
+            → IsProgress lines self.now.auditor self.now.progress → IsFound lines result }
     {
         match self.progress {
             Progress::Empty => Finding::Bad {
@@ -203,12 +208,17 @@ impl TextAudit {
 
 /// What is found in the whole text.
 fn find<S: Source>(alloc: Global, source: &mut S) -> Result<Finding, AuditFault>
-    ensures found { IfOk result (λ finding. IsFoundInInput S.take_gives source.old source.new (S.remaining source.old) finding) }
+    ensures found { IfOk result (λ finding. IsFoundInInput S.take_gives source.old source.new
+        (S.remaining source.old) finding) }
     ensures read { OnOk result (IsAtEnd (S.remaining source.new)) }
-    ensures whole { OnOk result (IfSome (S.remaining source.old) (λ input. ending_of input ≡ Whole)) }
-    ensures too_many { IsErrOf result AuditFault.TooManyLines → IfSome (S.remaining source.old) (λ input. ending_of input ≡ TooMany) }
-    ensures endless { (line : ℕ) → IsErrOf result (AuditFault.Endless line) → IfSome (S.remaining source.old) (λ input. ending_of input ≡ TooLong line) }
-    ensures read_fault { IsErrOf result AuditFault.ReadFault → Rose (S.faults_of source.old) (S.faults_of source.new) }
+    ensures whole { OnOk result
+        (IfSome (S.remaining source.old) (λ input. ending_of input ≡ Whole)) }
+    ensures too_many { IsErrOf result AuditFault.TooManyLines
+        → IfSome (S.remaining source.old) (λ input. ending_of input ≡ TooMany) }
+    ensures endless { (line : ℕ) → IsErrOf result (AuditFault.Endless line)
+        → IfSome (S.remaining source.old) (λ input. ending_of input ≡ TooLong line) }
+    ensures read_fault { IsErrOf result AuditFault.ReadFault
+        → Rose (S.faults_of source.old) (S.faults_of source.new) }
     ensures no_write { result ≢ Err AuditFault.WriteFault }
 {
     let mut lines = Lines::new(alloc);
@@ -233,20 +243,29 @@ pub fn audit_text<S: Source, K: Sink>(
     source: &mut S,
     sink: &mut K,
 ) -> Result<Finding, AuditFault>
-    ensures found { IfOk result (λ finding. IsFoundInInput S.take_gives source.old source.new (S.remaining source.old) finding) }
-    ensures written { IfOk result (λ finding. Appends (K.contents sink.old) (K.contents sink.new) (finding_line finding)) }
+    ensures found { IfOk result (λ finding. IsFoundInInput S.take_gives source.old source.new
+        (S.remaining source.old) finding) }
+    ensures written { IfOk result
+        (λ finding. Appends (K.contents sink.old) (K.contents sink.new) (finding_line finding)) }
     ensures read { OnOk result (IsAtEnd (S.remaining source.new)) }
 
     // Where the sink failed it has a front of that line and not all of it. Else nothing was written.
-    ensures front { IsErrOf result AuditFault.WriteFault → WroteFront S.take_gives source.old source.new (S.remaining source.old) (K.contents sink.old) (K.contents sink.new) }
-    ensures unwritten { IfErr result (λ fault. fault ≢ AuditFault.WriteFault → sink.new ≡ sink.old) }
+    ensures front { IsErrOf result AuditFault.WriteFault → WroteFront S.take_gives
+        source.old source.new (S.remaining source.old) (K.contents sink.old) (K.contents sink.new) }
+    ensures unwritten { IfErr result (λ fault. fault ≢ AuditFault.WriteFault
+        → sink.new ≡ sink.old) }
 
     // Each error but want of memory comes by its cause alone.
-    ensures whole { OnOk result (IfSome (S.remaining source.old) (λ input. ending_of input ≡ Whole)) }
-    ensures too_many { IsErrOf result AuditFault.TooManyLines → IfSome (S.remaining source.old) (λ input. ending_of input ≡ TooMany) }
-    ensures endless { (line : ℕ) → IsErrOf result (AuditFault.Endless line) → IfSome (S.remaining source.old) (λ input. ending_of input ≡ TooLong line) }
-    ensures read_fault { IsErrOf result AuditFault.ReadFault → Rose (S.faults_of source.old) (S.faults_of source.new) }
-    ensures write_fault { IsErrOf result AuditFault.WriteFault → Rose (K.faults_of sink.old) (K.faults_of sink.new) }
+    ensures whole { OnOk result
+        (IfSome (S.remaining source.old) (λ input. ending_of input ≡ Whole)) }
+    ensures too_many { IsErrOf result AuditFault.TooManyLines
+        → IfSome (S.remaining source.old) (λ input. ending_of input ≡ TooMany) }
+    ensures endless { (line : ℕ) → IsErrOf result (AuditFault.Endless line)
+        → IfSome (S.remaining source.old) (λ input. ending_of input ≡ TooLong line) }
+    ensures read_fault { IsErrOf result AuditFault.ReadFault
+        → Rose (S.faults_of source.old) (S.faults_of source.new) }
+    ensures write_fault { IsErrOf result AuditFault.WriteFault
+        → Rose (K.faults_of sink.old) (K.faults_of sink.new) }
 {
     let finding = find(alloc, source)?;
     let line = print_finding(alloc, finding)?;

@@ -71,7 +71,8 @@ fn ballot_of(word: &[u8]) -> Option<Ballot>
 
 /// What stands before the first comma, and what behind it, where there is one.
 fn first_part(list: &[u8]) -> (&[u8], Option<&[u8]>)
-    ensures split { slice_split is_comma list.now ≡ result.0.now ∷ option_map_or (λ rest. slice_split is_comma rest.now) result.1 [] }
+    ensures split { slice_split is_comma list.now
+        ≡ result.0.now ∷ option_map_or (λ rest. slice_split is_comma rest.now) result.1 [] }
     ensures shorter { IfSome result.1 (λ rest. length rest.now < length list.now) }
 {
     let (part, from) = list.split_at(count_before(list, b','));
@@ -183,7 +184,8 @@ pub fn read_members(words: &mut Words<'_>) -> Result<Members, TextRefusal>
 /// Takes the next word, which must be this one.
 #[tactic(auto, unfolding(crate::specs::Spelling::Reading::behind_name))]
 pub fn take_name(words: &mut Words<'_>, name: &str) -> Result<(), TextRefusal>
-    ensures { MatchResult result (λ _. behind_name name.now words.old ≡ Ok words.new) (λ refusal. behind_name name.now words.old ≡ Err refusal) }
+    ensures { MatchResult result (λ _. behind_name name.now words.old ≡ Ok words.new)
+        (λ refusal. behind_name name.now words.old ≡ Err refusal) }
 {
     let at = words.taken();
     if says(next_word(words)?, name) {

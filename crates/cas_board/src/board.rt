@@ -71,11 +71,17 @@ impl<D: Disk> Board<D> {
         requires acceptors { vec_len rack.acceptors ≡ 64 }
         requires vaults { vec_len rack.vaults ≡ 17 }
         ensures callers { IfOk result (λ opened. opened.0.seats ≡ config.proposers + 1) }
-        ensures passes { IfOk result (λ opened. opened.1.items ≡ fresh_seats opened.0.id (config.proposers + 1)) }
-        ensures count { IfOk result (λ opened. (vec_len opened.1 ≡ config.proposers + 1) × (vec_capacity opened.1 ≡ config.proposers + 1)) }
-        ensures idle { IfOk result (λ opened. All (λ p. IsPassOf opened.0 p × NothingIsOpen p.own) opened.1.items) }
-        ensures fault { IfErr result (λ back. (back.0 ≡ OpenFault.NoMemory) ⊎ StaysClosed D.fault_count config.acceptors config.proposers rack.acceptors.items rack.vaults.items back.0 back.1.acceptors.items back.1.vaults.items) }
-        ensures back { IfErr result (λ back. (vec_len back.1.acceptors ≡ 64) × (vec_len back.1.vaults ≡ 17)) }
+        ensures passes { IfOk result
+            (λ opened. opened.1.items ≡ fresh_seats opened.0.id (config.proposers + 1)) }
+        ensures count { IfOk result (λ opened. (vec_len opened.1 ≡ config.proposers + 1)
+            × (vec_capacity opened.1 ≡ config.proposers + 1)) }
+        ensures idle { IfOk result (λ opened. All (λ p. IsPassOf opened.0 p
+            × NothingIsOpen p.own) opened.1.items) }
+        ensures fault { IfErr result (λ back. (back.0 ≡ OpenFault.NoMemory)
+            ⊎ StaysClosed D.fault_count config.acceptors config.proposers rack.acceptors.items
+            rack.vaults.items back.0 back.1.acceptors.items back.1.vaults.items) }
+        ensures back { IfErr result (λ back. (vec_len back.1.acceptors ≡ 64)
+            × (vec_len back.1.vaults ≡ 17)) }
     {
         let store = Store::open(alloc, config, rack)?;
         let Store { world, room } = store;
@@ -97,7 +103,11 @@ impl<D: Disk> Board<D> {
         requires seats { pass.old.seats ≡ self.now.seats }
         requires holds { IsSome pass.old.holds }
         requires makes { ForSome pass.old.holds (λ before. IsHeldBy pass.old.number before shared) }
-        ensures pass { pass.new ≡ record pass.old { holds = None; seen = shared.marks; own = own_part shared pass.old.number } }
+        ensures pass { pass.new ≡ record pass.old {
+          holds = None;
+          seen = shared.marks;
+          own = own_part shared pass.old.number;
+        } }
         ensures legal { D.tells → IsLegal (reverse pass.new.seen) }
         ensures tellings { D.tells → AreTellingsSo self.now.seats (reverse pass.new.seen) }
     {
@@ -137,9 +147,12 @@ impl<D: Disk> Board<D> {
         ensures legal { D.tells → IsLegal (reverse result.book.marks) }
         ensures tellings { D.tells → AreTellingsSo self.seats (reverse result.book.marks) }
         ensures fronts { All (λ p. Begins p.seen result.book.marks) passes.items }
-        ensures mine { All (λ p. mine p.number result.book.marks ≡ mine p.number p.seen) passes.items }
-        ensures kept { D.tells → AreKept D.may_leave (reverse result.book.marks) result.rack.acceptors.items }
-        ensures deserved { AreDeserved D.fault_count result.rack.acceptors.items result.rack.vaults.items result.book.marks }
+        ensures mine { All (λ p. mine p.number result.book.marks
+            ≡ mine p.number p.seen) passes.items }
+        ensures kept { D.tells
+            → AreKept D.may_leave (reverse result.book.marks) result.rack.acceptors.items }
+        ensures deserved { AreDeserved D.fault_count
+            result.rack.acceptors.items result.rack.vaults.items result.book.marks }
         ensures all_acceptors { vec_len result.rack.acceptors ≡ 64 }
         ensures all_vaults { vec_len result.rack.vaults ≡ 17 }
     {
@@ -153,9 +166,12 @@ impl<D: Disk> Shared<D> {
     fn into_closed(self) -> Closed<D>
         ensures marks { result.book.marks ≡ self.marks }
         ensures legal { D.tells → IsLegal (reverse result.book.marks) }
-        ensures tellings { D.tells → AreTellingsSo (suc self.last_proposer) (reverse result.book.marks) }
-        ensures kept { D.tells → AreKept D.may_leave (reverse result.book.marks) result.rack.acceptors.items }
-        ensures deserved { AreDeserved D.fault_count result.rack.acceptors.items result.rack.vaults.items result.book.marks }
+        ensures tellings { D.tells
+            → AreTellingsSo (suc self.last_proposer) (reverse result.book.marks) }
+        ensures kept { D.tells
+            → AreKept D.may_leave (reverse result.book.marks) result.rack.acceptors.items }
+        ensures deserved { AreDeserved D.fault_count
+            result.rack.acceptors.items result.rack.vaults.items result.book.marks }
         ensures all_acceptors { vec_len result.rack.acceptors ≡ 64 }
         ensures all_vaults { vec_len result.rack.vaults ≡ 17 }
     {

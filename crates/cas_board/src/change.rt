@@ -42,7 +42,8 @@ impl<D: Disk> Board<D> {
         ensures pass { pass.new ≡ record pass.old { seen = pass.new.seen; own = pass.new.own } }
         ensures own { pass.new.own ≡ pass.old.own }
         ensures free { NothingIsOpen pass.new.own }
-        ensures answers { Answers key.now program.now tries (F.harm_count fate.old) (F.harm_count fate.new) pass.old pass.new result }
+        ensures answers { Answers key.now program.now tries
+            (F.harm_count fate.old) (F.harm_count fate.new) pass.old pass.new result }
         ensures legal { D.tells → IsLegal (reverse pass.new.seen) }
     {
         let mut holds = Holds::new();
@@ -68,13 +69,16 @@ impl<D: Disk> Board<D> {
         requires pass { IsPassOf self.now pass.old }
         requires called { HasOpen begun.call pass.old.own }
         requires alone { NothingIsOpen (beside_in pass.old.own) }
-        requires wanted { wanted_by pass.old.number pass.old.seen ≡ Some (wants begun.call key.now program.now) }
+        requires wanted { wanted_by pass.old.number pass.old.seen
+            ≡ Some (wants begun.call key.now program.now) }
         requires some { 1 ≤ tries }
         requires first { rounds_in pass.old.own ≡ 1 }
         requires unmet { is_met_in pass.old.own ≡ false }
         requires fresh { tells_met begun.stage ≡ false }
         ensures pass { pass.new ≡ record pass.old { seen = pass.new.seen; own = pass.new.own } }
-        ensures ended { (lost rounds : ℕ) × IsCounted lost (F.harm_count fate.old) (F.harm_count fate.new) × HasEnded begun.call rounds lost pass.old pass.new result × (is_conflict result ≡ true → rounds ≡ tries) }
+        ensures ended { (lost rounds : ℕ) × IsCounted lost (F.harm_count fate.old)
+            (F.harm_count fate.new) × HasEnded begun.call rounds lost pass.old pass.new result
+            × (is_conflict result ≡ true → rounds ≡ tries) }
         ensures legal { D.tells → IsLegal (reverse pass.new.seen) }
     {
         let Begun { call, mut stage } = begun;
@@ -106,8 +110,10 @@ impl<D: Disk> Board<D> {
         requires pass { IsPassOf self.now pass.old }
         ensures pass { pass.new ≡ record pass.old { seen = pass.new.seen } }
         ensures front { FrontGoesOn pass.old.number pass.old.seen pass.new.seen [] }
-        ensures wanted { wanted_by pass.old.number pass.new.seen ≡ wanted_by pass.old.number pass.old.seen }
-        ensures counted { IsCounted (harm_by result) (F.harm_count fate.old) (F.harm_count fate.new) }
+        ensures wanted { wanted_by pass.old.number pass.new.seen
+            ≡ wanted_by pass.old.number pass.old.seen }
+        ensures counted { IsCounted (harm_by result)
+            (F.harm_count fate.old) (F.harm_count fate.new) }
     {
         match stage {
             Stage::Waits(frame) => self.verdict_on(rt, pass, fate, holds, frame, again),
@@ -126,7 +132,8 @@ impl<D: Disk> Board<D> {
         requires pass { IsPassOf self.now pass.old }
         requires free { NothingIsOpen pass.old.own }
         ensures pass { pass.new ≡ record pass.old { seen = pass.new.seen; own = pass.new.own } }
-        ensures begun { IfOk result (λ begun. HasBegun begun.call key.now program.now pass.old pass.new) }
+        ensures begun { IfOk result
+            (λ begun. HasBegun begun.call key.now program.now pass.old pass.new) }
         ensures fresh { IfOk result (λ begun. tells_met begun.stage ≡ false) }
         ensures not_begun { IfErr result (HasNotBegun key.now program.now pass.old pass.new) }
         ensures legal { D.tells → IsLegal (reverse pass.new.seen) }
@@ -151,13 +158,15 @@ impl<D: Disk> Board<D> {
         requires pass { IsPassOf self.now pass.old }
         requires called { HasOpen call pass.old.own }
         requires alone { NothingIsOpen (beside_in pass.old.own) }
-        requires wanted { wanted_by pass.old.number pass.old.seen ≡ Some (wants call key.now program.now) }
+        requires wanted { wanted_by pass.old.number pass.old.seen
+            ≡ Some (wants call key.now program.now) }
         ensures pass { pass.new ≡ record pass.old { seen = pass.new.seen; own = pass.new.own } }
         ensures goes_on { OnOk result (HasGoneOn call (harm_by verdict) pass.old pass.new) }
         ensures rounds { OnOk result (rounds_in pass.new.own ≡ rounds_after pass.old.own) }
         ensures met { IfOk result (λ stage. is_met_in pass.new.own ≡ tells_met stage) }
         ensures repeats { OnOk result (is_met_in pass.new.own ≡ true → may_repeat ≡ true) }
-        ensures ends { IfErr result (HasEnded call (rounds_after pass.old.own) (harm_by verdict) pass.old pass.new) }
+        ensures ends { IfErr result
+            (HasEnded call (rounds_after pass.old.own) (harm_by verdict) pass.old pass.new) }
         ensures last { IfErr result (λ told. is_conflict told ≡ true → may_repeat ≡ false) }
         ensures legal { D.tells → IsLegal (reverse pass.new.seen) }
     {

@@ -45,7 +45,8 @@ impl<D: Disk> Board<D> {
         requires some { 1 ≤ tries }
         ensures pass { pass.new ≡ record pass.old { seen = pass.new.seen; own = pass.new.own } }
         ensures free { NothingIsOpen pass.new.own }
-        ensures operates { Operates (Asked.Collect key.now) (IsCollectingMark key.now tries) (F.harm_count fate.old) (F.harm_count fate.new) pass.old pass.new result }
+        ensures operates { Operates (Asked.Collect key.now) (IsCollectingMark key.now tries)
+            (F.harm_count fate.old) (F.harm_count fate.new) pass.old pass.new result }
         ensures answer { IsCollectAnswer key.now result }
         ensures counted { rescanned_in pass.new.own ≡ rescanned_in pass.old.own }
         ensures legal { D.tells → IsLegal (reverse pass.new.seen) }
@@ -68,9 +69,12 @@ impl<D: Disk> Board<D> {
         requires pass { IsPassOf self.now pass.old }
         requires operator { pass.old.number ≡ 0 }
         requires keeps { first.program ≡ keep_always }
-        requires at { HasCourse first.key (most_rounds first.tries) first.course pass.old.own pass.old.seen }
+        requires at { HasCourse first.key
+            (most_rounds first.tries) first.course pass.old.own pass.old.seen }
         ensures pass { pass.new ≡ record pass.old { seen = pass.new.seen; own = pass.new.own } }
-        ensures told { (lost : ℕ) × IsCounted lost (F.harm_count fate.old) (F.harm_count fate.new) × WasToldLast (Asked.Collect first.key) (IsCollectingMark first.key (most_rounds first.tries)) lost pass.old pass.new result }
+        ensures told { (lost : ℕ) × IsCounted lost (F.harm_count fate.old) (F.harm_count fate.new)
+            × WasToldLast (Asked.Collect first.key)
+            (IsCollectingMark first.key (most_rounds first.tries)) lost pass.old pass.new result }
         ensures answer { IsCollectAnswer first.key result }
         ensures legal { D.tells → IsLegal (reverse pass.new.seen) }
         ensures tellings { D.tells → AreTellingsSo self.now.seats (reverse pass.new.seen) }
@@ -106,8 +110,10 @@ impl<D: Disk> Board<D> {
         ensures key { IfOk result (λ collecting. collecting.key ≡ key.now) }
         ensures keeps { IfOk result (λ collecting. collecting.program ≡ keep_always) }
         ensures tries { IfOk result (λ collecting. collecting.tries ≡ tries) }
-        ensures ordered { IfOk result (λ collecting. HasCourse key.now (most_rounds tries) collecting.course pass.new.own pass.new.seen) }
-        ensures refused { IfErr result (λ why. IsRefusalBehind (length pass.new.seen) why × NothingIsOpen pass.new.own) }
+        ensures ordered { IfOk result (λ collecting. HasCourse key.now
+            (most_rounds tries) collecting.course pass.new.own pass.new.seen) }
+        ensures refused { IfErr result (λ why. IsRefusalBehind (length pass.new.seen) why
+            × NothingIsOpen pass.new.own) }
         ensures legal { D.tells → IsLegal (reverse pass.new.seen) }
         ensures tellings { D.tells → AreTellingsSo self.now.seats (reverse pass.new.seen) }
     {
@@ -128,14 +134,18 @@ impl<D: Disk> Board<D> {
         requires pass { IsPassOf self.now pass.old }
         requires operator { pass.old.number ≡ 0 }
         requires keeps { collecting.program ≡ keep_always }
-        requires at { HasCourse collecting.key (most_rounds collecting.tries) collecting.course pass.old.own pass.old.seen }
+        requires at { HasCourse collecting.key
+            (most_rounds collecting.tries) collecting.course pass.old.own pass.old.seen }
         ensures pass { pass.new ≡ record pass.old { seen = pass.new.seen; own = pass.new.own } }
-        ensures goes_on { OnOk result (HasOperated (IsBurialMark collecting.key) (harm_by verdict) pass.old pass.new) }
+        ensures goes_on { OnOk result
+            (HasOperated (IsBurialMark collecting.key) (harm_by verdict) pass.old pass.new) }
         ensures key { IfOk result (λ next. next.key ≡ collecting.key) }
         ensures tries { IfOk result (λ next. next.tries ≡ collecting.tries) }
         ensures keeps { IfOk result (λ next. next.program ≡ keep_always) }
-        ensures at { IfOk result (λ next. HasCourse collecting.key (most_rounds collecting.tries) next.course pass.new.own pass.new.seen) }
-        ensures told { IfErr result (WasToldLast (Asked.Collect collecting.key) (IsCollectingMark collecting.key (most_rounds collecting.tries)) (harm_by verdict) pass.old pass.new) }
+        ensures at { IfOk result (λ next. HasCourse collecting.key
+            (most_rounds collecting.tries) next.course pass.new.own pass.new.seen) }
+        ensures told { IfErr result (WasToldLast (Asked.Collect collecting.key) (IsCollectingMark
+            collecting.key (most_rounds collecting.tries)) (harm_by verdict) pass.old pass.new) }
         ensures answer { IfErr result (IsCollectAnswer collecting.key) }
         ensures legal { D.tells → IsLegal (reverse pass.new.seen) }
         ensures tellings { D.tells → AreTellingsSo self.now.seats (reverse pass.new.seen) }

@@ -51,7 +51,8 @@ impl<D: Disk> Board<D> {
         requires some { 1 ≤ tries }
         ensures pass { pass.new ≡ record pass.old { seen = pass.new.seen; own = pass.new.own } }
         ensures free { NothingIsOpen pass.new.own }
-        ensures operates { Operates (Asked.Join id) (IsRescanMark tries) (F.harm_count fate.old) (F.harm_count fate.new) pass.old pass.new result }
+        ensures operates { Operates (Asked.Join id) (IsRescanMark tries)
+            (F.harm_count fate.old) (F.harm_count fate.new) pass.old pass.new result }
         ensures answer { IsMembersAnswer (Asked.Join id) result }
         ensures legal { D.tells → IsLegal (reverse pass.new.seen) }
         ensures tellings { D.tells → AreTellingsSo self.now.seats (reverse pass.new.seen) }
@@ -79,7 +80,8 @@ impl<D: Disk> Board<D> {
         requires some { 1 ≤ tries }
         ensures pass { pass.new ≡ record pass.old { seen = pass.new.seen; own = pass.new.own } }
         ensures free { NothingIsOpen pass.new.own }
-        ensures operates { Operates (Asked.Leave id) (IsRescanMark tries) (F.harm_count fate.old) (F.harm_count fate.new) pass.old pass.new result }
+        ensures operates { Operates (Asked.Leave id) (IsRescanMark tries)
+            (F.harm_count fate.old) (F.harm_count fate.new) pass.old pass.new result }
         ensures answer { IsMembersAnswer (Asked.Leave id) result }
         ensures legal { D.tells → IsLegal (reverse pass.new.seen) }
         ensures tellings { D.tells → AreTellingsSo self.now.seats (reverse pass.new.seen) }
@@ -106,7 +108,8 @@ impl<D: Disk> Board<D> {
         requires some { 1 ≤ tries }
         ensures pass { pass.new ≡ record pass.old { seen = pass.new.seen; own = pass.new.own } }
         ensures free { NothingIsOpen pass.new.own }
-        ensures operates { Operates (asked_to aim.now.kind aim.now.id) (IsRescanMark tries) (F.harm_count fate.old) (F.harm_count fate.new) pass.old pass.new result }
+        ensures operates { Operates (asked_to aim.now.kind aim.now.id) (IsRescanMark tries)
+            (F.harm_count fate.old) (F.harm_count fate.new) pass.old pass.new result }
         ensures answer { IsMembersAnswer (asked_to aim.now.kind aim.now.id) result }
         ensures legal { D.tells → IsLegal (reverse pass.new.seen) }
         ensures tellings { D.tells → AreTellingsSo self.now.seats (reverse pass.new.seen) }
@@ -133,7 +136,9 @@ impl<D: Disk> Board<D> {
         requires program { program.now ≡ keep_always }
         requires some { 1 ≤ tries }
         ensures pass { pass.new ≡ record pass.old { seen = pass.new.seen; own = pass.new.own } }
-        ensures told { (lost : ℕ) × IsCounted lost (F.harm_count fate.old) (F.harm_count fate.new) × WasToldLast (asked_to aim.now.kind aim.now.id) (IsRescanMark tries) lost pass.old pass.new result }
+        ensures told { (lost : ℕ) × IsCounted lost (F.harm_count fate.old) (F.harm_count fate.new)
+            × WasToldLast (asked_to aim.now.kind aim.now.id)
+            (IsRescanMark tries) lost pass.old pass.new result }
         ensures answer { IsMembersAnswer (asked_to aim.now.kind aim.now.id) result }
         ensures legal { D.tells → IsLegal (reverse pass.new.seen) }
         ensures tellings { D.tells → AreTellingsSo self.now.seats (reverse pass.new.seen) }
@@ -160,7 +165,9 @@ impl<D: Disk> Board<D> {
         requires program { program.now ≡ keep_always }
         requires some { 1 ≤ tries }
         ensures pass { pass.new ≡ record pass.old { seen = pass.new.seen; own = pass.new.own } }
-        ensures told { (lost : ℕ) × IsCounted lost (F.harm_count fate.old) (F.harm_count fate.new) × WasToldLast (asked_to aim.now.kind aim.now.id) (IsRescanMark tries) lost pass.old pass.new result }
+        ensures told { (lost : ℕ) × IsCounted lost (F.harm_count fate.old) (F.harm_count fate.new)
+            × WasToldLast (asked_to aim.now.kind aim.now.id)
+            (IsRescanMark tries) lost pass.old pass.new result }
         ensures answer { IsMembersAnswer (asked_to aim.now.kind aim.now.id) result }
         ensures legal { D.tells → IsLegal (reverse pass.new.seen) }
         ensures tellings { D.tells → AreTellingsSo self.now.seats (reverse pass.new.seen) }
@@ -192,9 +199,12 @@ impl<D: Disk> Board<D> {
         requires program { program.now ≡ keep_always }
         requires some { 1 ≤ tries }
         ensures pass { pass.new ≡ record pass.old { seen = pass.new.seen; own = pass.new.own } }
-        ensures goes_on { OnOk result ((lost : ℕ) × IsCounted lost (F.harm_count fate.old) (F.harm_count fate.new) × HasOperated IsPlanMark lost pass.old pass.new) }
+        ensures goes_on { OnOk result ((lost : ℕ) × IsCounted lost (F.harm_count fate.old)
+            (F.harm_count fate.new) × HasOperated IsPlanMark lost pass.old pass.new) }
         ensures planned { OnOk result (HasPlan (asked_to aim.now.kind aim.now.id) pass.new.own) }
-        ensures told { IfErr result (λ told. (lost : ℕ) × IsCounted lost (F.harm_count fate.old) (F.harm_count fate.new) × WasToldLast (asked_to aim.now.kind aim.now.id) (IsRescanMark tries) lost pass.old pass.new told) }
+        ensures told { IfErr result (λ told. (lost : ℕ) × IsCounted lost (F.harm_count fate.old)
+            (F.harm_count fate.new) × WasToldLast (asked_to aim.now.kind aim.now.id)
+            (IsRescanMark tries) lost pass.old pass.new told) }
         ensures answer { IfErr result (IsMembersAnswer (asked_to aim.now.kind aim.now.id)) }
         ensures legal { D.tells → IsLegal (reverse pass.new.seen) }
         ensures tellings { D.tells → AreTellingsSo self.now.seats (reverse pass.new.seen) }
@@ -219,15 +229,19 @@ impl<D: Disk> Board<D> {
     ) -> Result<(), OpAnswer>
         requires pass { IsPassOf self.now pass.old }
         requires operator { pass.old.number ≡ 0 }
-        requires stands { StandsAt (asked_to aim.now.kind aim.now.id) pass.old.own (wanted_by 0 pass.old.seen) step }
+        requires stands { StandsAt (asked_to aim.now.kind aim.now.id) pass.old.own
+            (wanted_by 0 pass.old.seen) step }
         requires legal { D.tells → IsLegal (reverse pass.old.seen) }
         requires tellings { D.tells → AreTellingsSo self.now.seats (reverse pass.old.seen) }
         requires program { program.now ≡ keep_always }
         requires some { 1 ≤ tries }
         ensures pass { pass.new ≡ record pass.old { seen = pass.new.seen; own = pass.new.own } }
-        ensures goes_on { OnOk result ((lost : ℕ) × IsCounted lost (F.harm_count fate.old) (F.harm_count fate.new) × HasOperated IsPlanMark lost pass.old pass.new) }
+        ensures goes_on { OnOk result ((lost : ℕ) × IsCounted lost (F.harm_count fate.old)
+            (F.harm_count fate.new) × HasOperated IsPlanMark lost pass.old pass.new) }
         ensures planned { OnOk result (HasPlan (asked_to aim.now.kind aim.now.id) pass.new.own) }
-        ensures told { IfErr result (λ told. (lost : ℕ) × IsCounted lost (F.harm_count fate.old) (F.harm_count fate.new) × WasToldLast (asked_to aim.now.kind aim.now.id) (IsRescanMark tries) lost pass.old pass.new told) }
+        ensures told { IfErr result (λ told. (lost : ℕ) × IsCounted lost (F.harm_count fate.old)
+            (F.harm_count fate.new) × WasToldLast (asked_to aim.now.kind aim.now.id)
+            (IsRescanMark tries) lost pass.old pass.new told) }
         ensures answer { IfErr result (IsMembersAnswer (asked_to aim.now.kind aim.now.id)) }
         ensures legal { D.tells → IsLegal (reverse pass.new.seen) }
         ensures tellings { D.tells → AreTellingsSo self.now.seats (reverse pass.new.seen) }
@@ -256,9 +270,12 @@ impl<D: Disk> Board<D> {
         requires operator { pass.old.number ≡ 0 }
         requires lists { HasListing (asked_to aim.now.kind aim.now.id) pass.old.own }
         ensures pass { pass.new ≡ record pass.old { seen = pass.new.seen; own = pass.new.own } }
-        ensures goes_on { OnOk result ((lost : ℕ) × IsCounted lost (F.harm_count fate.old) (F.harm_count fate.new) × HasOperated IsPlanMark lost pass.old pass.new) }
+        ensures goes_on { OnOk result ((lost : ℕ) × IsCounted lost (F.harm_count fate.old)
+            (F.harm_count fate.new) × HasOperated IsPlanMark lost pass.old pass.new) }
         ensures planned { OnOk result (HasPlan (asked_to aim.now.kind aim.now.id) pass.new.own) }
-        ensures told { IfErr result (λ told. (lost : ℕ) × IsCounted lost (F.harm_count fate.old) (F.harm_count fate.new) × WasToldLast (asked_to aim.now.kind aim.now.id) IsPlanMark lost pass.old pass.new told) }
+        ensures told { IfErr result (λ told. (lost : ℕ)
+            × IsCounted lost (F.harm_count fate.old) (F.harm_count fate.new) × WasToldLast
+            (asked_to aim.now.kind aim.now.id) IsPlanMark lost pass.old pass.new told) }
         ensures answer { IfErr result (IsMembersAnswer (asked_to aim.now.kind aim.now.id)) }
         ensures legal { D.tells → IsLegal (reverse pass.new.seen) }
         ensures tellings { D.tells → AreTellingsSo self.now.seats (reverse pass.new.seen) }
@@ -292,14 +309,19 @@ impl<D: Disk> Board<D> {
     ) -> Result<(), OpAnswer>
         requires pass { IsPassOf self.now pass.old }
         requires operator { pass.old.number ≡ 0 }
-        requires rescans { HasRescan (asked_to aim.now.kind aim.now.id) rescan.begun.call rescan.key pass.old.own }
-        requires wanted { wanted_by 0 pass.old.seen ≡ Some (wants rescan.begun.call rescan.key program.now) }
+        requires rescans { HasRescan (asked_to aim.now.kind aim.now.id)
+            rescan.begun.call rescan.key pass.old.own }
+        requires wanted { wanted_by 0 pass.old.seen
+            ≡ Some (wants rescan.begun.call rescan.key program.now) }
         requires some { 1 ≤ tries }
         requires first { IsFirstRound rescan.begun.stage pass.old.own }
         ensures pass { pass.new ≡ record pass.old { seen = pass.new.seen; own = pass.new.own } }
-        ensures goes_on { OnOk result ((lost : ℕ) × IsCounted lost (F.harm_count fate.old) (F.harm_count fate.new) × HasOperated IsPlanMark lost pass.old pass.new) }
+        ensures goes_on { OnOk result ((lost : ℕ) × IsCounted lost (F.harm_count fate.old)
+            (F.harm_count fate.new) × HasOperated IsPlanMark lost pass.old pass.new) }
         ensures planned { OnOk result (HasPlan (asked_to aim.now.kind aim.now.id) pass.new.own) }
-        ensures told { IfErr result (λ told. (lost : ℕ) × IsCounted lost (F.harm_count fate.old) (F.harm_count fate.new) × WasToldLast (asked_to aim.now.kind aim.now.id) (IsRescanMark tries) lost pass.old pass.new told) }
+        ensures told { IfErr result (λ told. (lost : ℕ) × IsCounted lost (F.harm_count fate.old)
+            (F.harm_count fate.new) × WasToldLast (asked_to aim.now.kind aim.now.id)
+            (IsRescanMark tries) lost pass.old pass.new told) }
         ensures answer { IfErr result (IsMembersAnswer (asked_to aim.now.kind aim.now.id)) }
         ensures legal { D.tells → IsLegal (reverse pass.new.seen) }
         ensures tellings { D.tells → AreTellingsSo self.now.seats (reverse pass.new.seen) }
@@ -337,7 +359,8 @@ impl<D: Disk> Board<D> {
         ensures counted { rescanned_in pass.new.own ≡ rescanned_in pass.old.own }
         ensures program { IfOk result (λ program. program ≡ keep_always) }
         ensures ordered { OnOk result (HasOrder (asked_to aim.now.kind aim.now.id) pass.new.own) }
-        ensures refused { IfErr result (λ why. IsRefusalBehind (length pass.new.seen) why × NothingIsOpen pass.new.own) }
+        ensures refused { IfErr result (λ why. IsRefusalBehind (length pass.new.seen) why
+            × NothingIsOpen pass.new.own) }
         ensures legal { D.tells → IsLegal (reverse pass.new.seen) }
         ensures tellings { D.tells → AreTellingsSo self.now.seats (reverse pass.new.seen) }
     {
@@ -356,7 +379,8 @@ impl<D: Disk> Board<D> {
         ensures front { OnOk result (FrontGoesOn pass.old.number pass.old.seen pass.new.seen []) }
         ensures counted { OnOk result (rescanned_in pass.new.own ≡ rescanned_in pass.old.own) }
         ensures planned { OnOk result (HasPlan (asked_to aim.now.kind aim.now.id) pass.new.own) }
-        ensures told { IfErr result (WasToldLast (asked_to aim.now.kind aim.now.id) IsPlanMark 0 pass.old pass.new) }
+        ensures told { IfErr result
+            (WasToldLast (asked_to aim.now.kind aim.now.id) IsPlanMark 0 pass.old pass.new) }
         ensures answer { IfErr result (IsMembersAnswer (asked_to aim.now.kind aim.now.id)) }
         ensures legal { D.tells → IsLegal (reverse pass.new.seen) }
         ensures tellings { D.tells → AreTellingsSo self.now.seats (reverse pass.new.seen) }
@@ -381,8 +405,10 @@ impl<D: Disk> Board<D> {
         requires program { program.now ≡ keep_always }
         ensures pass { pass.new ≡ record pass.old { seen = pass.new.seen; own = pass.new.own } }
         ensures goes_on { OnOk result (HasOperated IsPlanMark 0 pass.old pass.new) }
-        ensures step { IfOk result (StandsAt (asked_to aim.now.kind aim.now.id) pass.new.own (wanted_by 0 pass.new.seen)) }
-        ensures told { IfErr result (WasToldLast (asked_to aim.now.kind aim.now.id) IsPlanMark 0 pass.old pass.new) }
+        ensures step { IfOk result
+            (StandsAt (asked_to aim.now.kind aim.now.id) pass.new.own (wanted_by 0 pass.new.seen)) }
+        ensures told { IfErr result
+            (WasToldLast (asked_to aim.now.kind aim.now.id) IsPlanMark 0 pass.old pass.new) }
         ensures answer { IfErr result (IsMembersAnswer (asked_to aim.now.kind aim.now.id)) }
         ensures legal { D.tells → IsLegal (reverse pass.new.seen) }
         ensures tellings { D.tells → AreTellingsSo self.now.seats (reverse pass.new.seen) }
@@ -407,7 +433,8 @@ impl<D: Disk> Board<D> {
         ensures pass { pass.new ≡ record pass.old { seen = pass.new.seen; own = pass.new.own } }
         ensures goes_on { OnOk result (HasOperated IsPlanMark (harm_by verdict) pass.old pass.new) }
         ensures listed { IfOk result (IsListedTo (asked_to aim.now.kind aim.now.id) pass.new.own) }
-        ensures told { IfErr result (WasToldLast (asked_to aim.now.kind aim.now.id) IsPlanMark (harm_by verdict) pass.old pass.new) }
+        ensures told { IfErr result (WasToldLast (asked_to aim.now.kind aim.now.id) IsPlanMark
+            (harm_by verdict) pass.old pass.new) }
         ensures answer { IfErr result (IsMembersAnswer (asked_to aim.now.kind aim.now.id)) }
         ensures legal { D.tells → IsLegal (reverse pass.new.seen) }
         ensures tellings { D.tells → AreTellingsSo self.now.seats (reverse pass.new.seen) }
@@ -436,10 +463,14 @@ impl<D: Disk> Board<D> {
         requires wanted { wanted_by 0 pass.old.seen ≡ Some (wants call key.now program.now) }
         ensures pass { pass.new ≡ record pass.old { seen = pass.new.seen; own = pass.new.own } }
         ensures goes_on { OnOk result (HasOperated IsPlanMark (harm_by verdict) pass.old pass.new) }
-        ensures wanted { IfOk result (λ now. now ≢ Rescanning.Counted → wanted_by 0 pass.new.seen ≡ wanted_by 0 pass.old.seen) }
-        ensures rescans { IfOk result (IsRescannedTo (asked_to aim.now.kind aim.now.id) call key.now pass.new.own) }
+        ensures wanted { IfOk result (λ now. now ≢ Rescanning.Counted
+            → wanted_by 0 pass.new.seen ≡ wanted_by 0 pass.old.seen) }
+        ensures rescans { IfOk result
+            (IsRescannedTo (asked_to aim.now.kind aim.now.id) call key.now pass.new.own) }
         ensures rounds { IfOk result (RoundsAreKept may_repeat pass.old.own pass.new.own) }
-        ensures told { (tries : ℕ) → (may_repeat ≡ false → rounds_after pass.old.own ≡ tries) → IfErr result (WasToldLast (asked_to aim.now.kind aim.now.id) (IsRescanMark tries) (harm_by verdict) pass.old pass.new) }
+        ensures told { (tries : ℕ) → (may_repeat ≡ false → rounds_after pass.old.own ≡ tries)
+            → IfErr result (WasToldLast (asked_to aim.now.kind aim.now.id)
+            (IsRescanMark tries) (harm_by verdict) pass.old pass.new) }
         ensures answer { IfErr result (IsMembersAnswer (asked_to aim.now.kind aim.now.id)) }
         ensures legal { D.tells → IsLegal (reverse pass.new.seen) }
         ensures tellings { D.tells → AreTellingsSo self.now.seats (reverse pass.new.seen) }

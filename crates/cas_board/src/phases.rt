@@ -28,8 +28,10 @@ impl<D: Disk> Board<D> {
         requires pass { IsPassOf self.now pass.old }
         ensures pass { pass.new ≡ record pass.old { seen = pass.new.seen } }
         ensures front { FrontGoesOn pass.old.number pass.old.seen pass.new.seen [] }
-        ensures wanted { wanted_by pass.old.number pass.new.seen ≡ wanted_by pass.old.number pass.old.seen }
-        ensures counted { IsCounted (harm_by result) (F.harm_count fate.old) (F.harm_count fate.new) }
+        ensures wanted { wanted_by pass.old.number pass.new.seen
+            ≡ wanted_by pass.old.number pass.old.seen }
+        ensures counted { IsCounted (harm_by result)
+            (F.harm_count fate.old) (F.harm_count fate.new) }
     {
         self.let_in_once(rt, pass, fate, frame.late);
         if again {
@@ -51,8 +53,10 @@ impl<D: Disk> Board<D> {
         requires pass { IsPassOf self.now pass.old }
         ensures pass { pass.new ≡ record pass.old { seen = pass.new.seen } }
         ensures front { FrontGoesOn pass.old.number pass.old.seen pass.new.seen [] }
-        ensures wanted { wanted_by pass.old.number pass.new.seen ≡ wanted_by pass.old.number pass.old.seen }
-        ensures counted { IsCounted (harm_by result) (F.harm_count fate.old) (F.harm_count fate.new) }
+        ensures wanted { wanted_by pass.old.number pass.new.seen
+            ≡ wanted_by pass.old.number pass.old.seen }
+        ensures counted { IsCounted (harm_by result)
+            (F.harm_count fate.old) (F.harm_count fate.new) }
     {
         match waits {
             Some(frame) => self.verdict_on(rt, pass, fate, holds, frame, again),
@@ -65,7 +69,8 @@ impl<D: Disk> Board<D> {
         requires pass { IsPassOf self.now pass.old }
         ensures pass { pass.new ≡ record pass.old { seen = pass.new.seen } }
         ensures front { FrontGoesOn pass.old.number pass.old.seen pass.new.seen [] }
-        ensures wanted { wanted_by pass.old.number pass.new.seen ≡ wanted_by pass.old.number pass.old.seen }
+        ensures wanted { wanted_by pass.old.number pass.new.seen
+            ≡ wanted_by pass.old.number pass.old.seen }
         ensures harms { F.harm_count fate.new ≡ F.harm_count fate.old }
     {
         let Some(index) = fate.stray(late) else {

@@ -47,8 +47,10 @@ impl<D: Disk> Board<D> {
         requires free { NothingIsOpen pass.old.own }
         ensures pass { pass.new ≡ record pass.old { seen = pass.new.seen; own = pass.new.own } }
         ensures free { NothingIsOpen pass.new.own }
-        ensures operates { Operates (Asked.Probe key.now) IsAskingHarm (F.harm_count fate.old) (F.harm_count fate.new) pass.old pass.new result }
-        ensures answer { (members : List ℕ) × IsMemberSet members × IsProbeAnswer key.now members result }
+        ensures operates { Operates (Asked.Probe key.now) IsAskingHarm
+            (F.harm_count fate.old) (F.harm_count fate.new) pass.old pass.new result }
+        ensures answer { (members : List ℕ)
+            × IsMemberSet members × IsProbeAnswer key.now members result }
         ensures counted { rescanned_in pass.new.own ≡ rescanned_in pass.old.own }
         ensures silent { IsSilentSince 0 pass.old pass.new result }
         ensures truly { D.tells → IsTrueProbe pass.old.seen pass.new.seen result }
@@ -73,8 +75,10 @@ impl<D: Disk> Board<D> {
         requires question { order.question ≡ Exchange.Probe order.key }
         requires ordered { HasOrder (Asked.Probe order.key) pass.old.own }
         ensures pass { pass.new ≡ record pass.old { seen = pass.new.seen; own = pass.new.own } }
-        ensures told { (lost : ℕ) × IsCounted lost (F.harm_count fate.old) (F.harm_count fate.new) × WasToldLast (Asked.Probe order.key) IsAskingHarm lost pass.old pass.new result }
-        ensures answer { (members : List ℕ) × IsMemberSet members × IsProbeAnswer order.key members result }
+        ensures told { (lost : ℕ) × IsCounted lost (F.harm_count fate.old) (F.harm_count fate.new)
+            × WasToldLast (Asked.Probe order.key) IsAskingHarm lost pass.old pass.new result }
+        ensures answer { (members : List ℕ)
+            × IsMemberSet members × IsProbeAnswer order.key members result }
         ensures silent { IsSilentSince 0 pass.old pass.new result }
         ensures truly { D.tells → IsTrueProbe pass.old.seen pass.new.seen result }
         ensures legal { D.tells → IsLegal (reverse pass.new.seen) }
@@ -97,10 +101,14 @@ impl<D: Disk> Board<D> {
         requires operator { pass.old.number ≡ 0 }
         requires asks { (members : List ℕ) × HasProbe first.key members pass.old.own }
         ensures pass { pass.new ≡ record pass.old { seen = pass.new.seen; own = pass.new.own } }
-        ensures told { (lost : ℕ) × IsCounted lost (F.harm_count fate.old) (F.harm_count fate.new) × WasToldLast (Asked.Probe first.key) IsAskingHarm lost pass.old pass.new result }
-        ensures answer { (members : List ℕ) → HasProbe first.key members pass.old.own → IsProbeAnswer first.key members result }
-        ensures silent { (harms : ℕ) → HasHarms harms pass.old.own → IsSilentSince harms pass.old pass.new result }
-        ensures truly { D.tells → (many : ℕ) → WasAskedBehind many pass.old.own → IsTrueProbe (take many pass.new.seen) pass.new.seen result }
+        ensures told { (lost : ℕ) × IsCounted lost (F.harm_count fate.old) (F.harm_count fate.new)
+            × WasToldLast (Asked.Probe first.key) IsAskingHarm lost pass.old pass.new result }
+        ensures answer { (members : List ℕ)
+            → HasProbe first.key members pass.old.own → IsProbeAnswer first.key members result }
+        ensures silent { (harms : ℕ)
+            → HasHarms harms pass.old.own → IsSilentSince harms pass.old pass.new result }
+        ensures truly { D.tells → (many : ℕ) → WasAskedBehind many pass.old.own
+            → IsTrueProbe (take many pass.new.seen) pass.new.seen result }
         ensures legal { D.tells → IsLegal (reverse pass.new.seen) }
     {
         let mut holds = Holds::new();
@@ -133,7 +141,8 @@ impl<D: Disk> Board<D> {
         ensures ordered { OnOk result (HasOrder (Asked.Probe key.now) pass.new.own) }
         ensures question { IfOk result (λ order. order.question ≡ Exchange.Probe key.now) }
         ensures key { IfOk result (λ order. order.key ≡ key.now) }
-        ensures refused { IfErr result (λ why. IsRefusalBehind (length pass.new.seen) why × NothingIsOpen pass.new.own) }
+        ensures refused { IfErr result (λ why. IsRefusalBehind (length pass.new.seen) why
+            × NothingIsOpen pass.new.own) }
         ensures legal { D.tells → IsLegal (reverse pass.new.seen) }
     {
         let mut shared = self.turn.hold(rt, pass);
@@ -156,14 +165,18 @@ impl<D: Disk> Board<D> {
         ensures pass { pass.new ≡ record pass.old { seen = pass.new.seen; own = pass.new.own } }
         ensures front { OnOk result (FrontGoesOn pass.old.number pass.old.seen pass.new.seen []) }
         ensures counted { OnOk result (rescanned_in pass.new.own ≡ rescanned_in pass.old.own) }
-        ensures asks { OnOk result ((members : List ℕ) × IsMemberSet members × HasProbe order.key members pass.new.own) }
+        ensures asks { OnOk result ((members : List ℕ)
+            × IsMemberSet members × HasProbe order.key members pass.new.own) }
         ensures key { IfOk result (λ probing. probing.key ≡ order.key) }
-        ensures told { IfErr result (WasToldLast (Asked.Probe order.key) IsAskingHarm 0 pass.old pass.new) }
-        ensures answer { IfErr result (λ told. (members : List ℕ) → IsProbeAnswer order.key members told) }
+        ensures told { IfErr result
+            (WasToldLast (Asked.Probe order.key) IsAskingHarm 0 pass.old pass.new) }
+        ensures answer { IfErr result (λ told. (members : List ℕ)
+            → IsProbeAnswer order.key members told) }
         ensures harms { OnOk result (HasHarms 0 pass.new.own) }
         ensures behind { OnOk result (WasAskedBehind (length pass.old.seen) pass.new.own) }
         ensures silent { IfErr result (IsSilentAtMost 0) }
-        ensures truly { D.tells → IfErr result (λ told. (before : List Mark) → IsTrueProbe before pass.new.seen told) }
+        ensures truly { D.tells
+            → IfErr result (λ told. (before : List Mark) → IsTrueProbe before pass.new.seen told) }
         ensures legal { D.tells → IsLegal (reverse pass.new.seen) }
     {
         let mut shared = self.turn.hold(rt, pass);
@@ -184,15 +197,23 @@ impl<D: Disk> Board<D> {
         requires operator { pass.old.number ≡ 0 }
         requires asks { (members : List ℕ) × HasProbe probing.key members pass.old.own }
         ensures pass { pass.new ≡ record pass.old { seen = pass.new.seen; own = pass.new.own } }
-        ensures goes_on { OnOk result (HasOperated IsAskingHarm (harm_by verdict) pass.old pass.new) }
-        ensures still { OnOk result ((members : List ℕ) → HasProbe probing.key members pass.old.own → HasProbe probing.key members pass.new.own) }
+        ensures goes_on { OnOk result
+            (HasOperated IsAskingHarm (harm_by verdict) pass.old pass.new) }
+        ensures still { OnOk result ((members : List ℕ) → HasProbe probing.key members pass.old.own
+            → HasProbe probing.key members pass.new.own) }
         ensures harms { OnOk result (HasMarkedHarms pass.old pass.new) }
-        ensures behind { OnOk result ((many : ℕ) → WasAskedBehind many pass.old.own → WasAskedBehind many pass.new.own) }
+        ensures behind { OnOk result ((many : ℕ)
+            → WasAskedBehind many pass.old.own → WasAskedBehind many pass.new.own) }
         ensures key { IfOk result (λ next. next.key ≡ probing.key) }
-        ensures told { IfErr result (WasToldLast (Asked.Probe probing.key) IsAskingHarm (harm_by verdict) pass.old pass.new) }
-        ensures answer { IfErr result (λ told. (members : List ℕ) → HasProbe probing.key members pass.old.own → IsProbeAnswer probing.key members told) }
-        ensures silent { IfErr result (λ told. (harms : ℕ) → HasHarms harms pass.old.own → IsSilentAtMost harms told) }
-        ensures truly { D.tells → IfErr result (λ told. (many : ℕ) → WasAskedBehind many pass.old.own → IsTrueProbe (take many pass.new.seen) pass.new.seen told) }
+        ensures told { IfErr result (WasToldLast (Asked.Probe probing.key) IsAskingHarm
+            (harm_by verdict) pass.old pass.new) }
+        ensures answer { IfErr result (λ told. (members : List ℕ)
+            → HasProbe probing.key members pass.old.own → IsProbeAnswer probing.key members told) }
+        ensures silent { IfErr result (λ told. (harms : ℕ)
+            → HasHarms harms pass.old.own → IsSilentAtMost harms told) }
+        ensures truly { D.tells
+            → IfErr result (λ told. (many : ℕ) → WasAskedBehind many pass.old.own
+            → IsTrueProbe (take many pass.new.seen) pass.new.seen told) }
         ensures legal { D.tells → IsLegal (reverse pass.new.seen) }
     {
         let mut shared = self.turn.hold(rt, pass);

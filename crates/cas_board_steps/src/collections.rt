@@ -85,8 +85,10 @@ pub fn order_collection<S: Shelf, V: Disk>(
     ensures key { IfOk result (λ collecting. collecting.key ≡ key.now) }
     ensures keeps { IfOk result (λ collecting. collecting.program ≡ keep_always) }
     ensures tries { IfOk result (λ collecting. collecting.tries ≡ tries) }
-    ensures ordered { IfOk result (λ collecting. HasCourse key.now (most_rounds tries) collecting.course (own_part world.new 0) world.new.marks) }
-    ensures refused { IfErr result (λ why. IsRefusalBehind (length world.new.marks) why × NothingIsOpen (own_part world.new 0)) }
+    ensures ordered { IfOk result (λ collecting. HasCourse key.now
+        (most_rounds tries) collecting.course (own_part world.new 0) world.new.marks) }
+    ensures refused { IfErr result (λ why. IsRefusalBehind (length world.new.marks) why
+        × NothingIsOpen (own_part world.new 0)) }
 {
     match prepare(alloc, key, tries) {
         Ok((asked, collecting)) => match open_order(world, &asked) {
@@ -128,15 +130,19 @@ pub fn go_on_collecting<S: Shelf, V: Disk>(
 ) -> Result<KeyCollection, OpAnswer>
     requires kept { IsKept world.old }
     requires keeps { collecting.program ≡ keep_always }
-    requires at { HasCourse collecting.key (most_rounds collecting.tries) collecting.course (own_part world.old 0) world.old.marks }
+    requires at { HasCourse collecting.key
+        (most_rounds collecting.tries) collecting.course (own_part world.old 0) world.old.marks }
     ensures kept { IsKept world.new }
     ensures last_proposer { world.new.last_proposer ≡ world.old.last_proposer }
     ensures key { IfOk result (λ next. next.key ≡ collecting.key) }
     ensures keeps { IfOk result (λ next. next.program ≡ keep_always) }
     ensures tries { IfOk result (λ next. next.tries ≡ collecting.tries) }
-    ensures goes_on { OnOk result (OperatesIn (IsBurialMark collecting.key) (harm_by verdict) world.old world.new) }
-    ensures at { IfOk result (λ next. HasCourse collecting.key (most_rounds collecting.tries) next.course (own_part world.new 0) world.new.marks) }
-    ensures told { IfErr result (IsToldIn (asked.Collect collecting.key) (IsCollectingMark collecting.key (most_rounds collecting.tries)) (harm_by verdict) world.old world.new) }
+    ensures goes_on { OnOk result
+        (OperatesIn (IsBurialMark collecting.key) (harm_by verdict) world.old world.new) }
+    ensures at { IfOk result (λ next. HasCourse collecting.key
+        (most_rounds collecting.tries) next.course (own_part world.new 0) world.new.marks) }
+    ensures told { IfErr result (IsToldIn (asked.Collect collecting.key) (IsCollectingMark
+        collecting.key (most_rounds collecting.tries)) (harm_by verdict) world.old world.new) }
     ensures answer { IfErr result (IsCollectAnswer collecting.key) }
 {
     let KeyCollection {
@@ -182,11 +188,14 @@ fn take_step<S: Shelf, V: Disk>(
 ) -> Result<Course, OpAnswer>
     requires kept { IsKept world.old }
     requires keeps { program.now ≡ keep_always }
-    requires at { HasCourse key.now (most_rounds tries) course (own_part world.old 0) world.old.marks }
-    requires waits { course ≡ Course.HearsRemovals → (queue_at world.old.flow exchange_place).messages ≢ [] }
+    requires at { HasCourse key.now
+        (most_rounds tries) course (own_part world.old 0) world.old.marks }
+    requires waits { course ≡ Course.HearsRemovals
+        → (queue_at world.old.flow exchange_place).messages ≢ [] }
     ensures kept { IsKept world.new }
     ensures last_proposer { world.new.last_proposer ≡ world.old.last_proposer }
-    ensures collects { CollectsIn key.now (most_rounds tries) (harm_by verdict) world.old world.new result }
+    ensures collects { CollectsIn key.now
+        (most_rounds tries) (harm_by verdict) world.old world.new result }
 {
     match course {
         Course::Ordered => begin_burial(world, key, program),
@@ -213,7 +222,8 @@ fn begin_burial<S: Shelf, V: Disk>(
     requires at { HasOrder (asked.Collect key.now) (own_part world.old 0) }
     ensures kept { IsKept world.new }
     ensures last_proposer { world.new.last_proposer ≡ world.old.last_proposer }
-    ensures collects { (tries most : ℕ) → 1 ≤ tries → CollectsIn key.now tries most world.old world.new result }
+    ensures collects { (tries most : ℕ)
+        → 1 ≤ tries → CollectsIn key.now tries most world.old world.new result }
 {
     let call = world.next_call(0);
     match world.begin_collect(call, key, program) {
@@ -260,7 +270,8 @@ fn go_on_burying<S: Shelf, V: Disk>(
     requires within { HasRoundsWithin (most_rounds tries) rounds (own_part world.old 0) }
     ensures kept { IsKept world.new }
     ensures last_proposer { world.new.last_proposer ≡ world.old.last_proposer }
-    ensures collects { CollectsIn key.now (most_rounds tries) (harm_by verdict) world.old world.new result }
+    ensures collects { CollectsIn key.now
+        (most_rounds tries) (harm_by verdict) world.old world.new result }
 {
     if let Some(told) = world.closed(0) {
         return Err(stop(world, call, told));
@@ -289,10 +300,12 @@ fn bury_again<S: Shelf, V: Disk>(
     requires keeps { program.now ≡ keep_always }
     requires at { HasBurial key.now call (own_part world.old 0) world.old.marks }
     requires idle { (desk : DeskView V) → IsAt world.old.desks 0 desk → desk.round ≡ None }
-    requires unclosed { (seen : CallerView) → IsAt world.old.callers 0 seen → closed_in seen.call ≡ None }
+    requires unclosed { (seen : CallerView)
+        → IsAt world.old.callers 0 seen → closed_in seen.call ≡ None }
     ensures kept { IsKept world.new }
     ensures last_proposer { world.new.last_proposer ≡ world.old.last_proposer }
-    ensures collects { (tries most : ℕ) → HasRoundsWithin tries rounds (own_part world.old 0) → CollectsIn key.now tries most world.old world.new result }
+    ensures collects { (tries most : ℕ) → HasRoundsWithin tries rounds (own_part world.old 0)
+        → CollectsIn key.now tries most world.old world.new result }
 {
     match world.begin_collect(call, key, program) {
         Ok(()) => Ok(Course::Buries {
@@ -318,7 +331,8 @@ fn take_burial_turn<S: Shelf, V: Disk>(
     requires waits { (queue_at world.old.flow 0).messages ≢ [] }
     ensures kept { IsKept world.new }
     ensures last_proposer { world.new.last_proposer ≡ world.old.last_proposer }
-    ensures collects { (tries : ℕ) → HasRoundsWithin tries rounds (own_part world.old 0) → CollectsIn key.now tries (harm_by verdict) world.old world.new result }
+    ensures collects { (tries : ℕ) → HasRoundsWithin tries rounds (own_part world.old 0)
+        → CollectsIn key.now tries (harm_by verdict) world.old world.new result }
 {
     match world.turn(0, verdict) {
         Ok(()) => Ok(Course::Buries { call, rounds }),
@@ -342,10 +356,12 @@ fn propose_tombstone<S: Shelf, V: Disk>(
     requires at { HasBurial key.now call (own_part world.old 0) world.old.marks }
     requires within { HasRoundsWithin (most_rounds tries) rounds (own_part world.old 0) }
     requires preparing { IsInPhase world.old 0 true }
-    requires unproposed { (seen : CallerView) → IsAt world.old.callers 0 seen → IfSome seen.call (λ open_call. open_call.proposed ≡ None) }
+    requires unproposed { (seen : CallerView) → IsAt world.old.callers 0 seen
+        → IfSome seen.call (λ open_call. open_call.proposed ≡ None) }
     ensures kept { IsKept world.new }
     ensures last_proposer { world.new.last_proposer ≡ world.old.last_proposer }
-    ensures collects { (most : ℕ) → CollectsIn key.now (most_rounds tries) most world.old world.new result }
+    ensures collects { (most : ℕ)
+        → CollectsIn key.now (most_rounds tries) most world.old world.new result }
 {
     match world.propose_tombstone() {
         Ok(Reading::Empty) => Ok(Course::Buries { call, rounds }),
@@ -412,7 +428,8 @@ fn gather_round<S: Shelf, V: Disk>(
 /// The next proposer is renewed; or, where none is left, all members are told the new ages. An `Err` is what the operator was told.
 fn renew<S: Shelf, V: Disk>(world: &mut SteadyWorld<S, V>, key: &Key) -> Result<Course, OpAnswer>
     requires kept { IsKept world.old }
-    requires at { HasStep key.now step.Ages (own_part world.old 0) ⊎ ((proposer : ℕ) × HasStep key.now (step.Renew proposer) (own_part world.old 0)) }
+    requires at { HasStep key.now step.Ages (own_part world.old 0)
+        ⊎ ((proposer : ℕ) × HasStep key.now (step.Renew proposer) (own_part world.old 0)) }
     ensures kept { IsKept world.new }
     ensures last_proposer { world.new.last_proposer ≡ world.old.last_proposer }
     ensures collects { (tries most : ℕ) → CollectsIn key.now tries most world.old world.new result }
@@ -484,7 +501,8 @@ fn hear_ages<S: Shelf, V: Disk>(
     requires at { HasQuestion key.now step.Ages (own_part world.old 0) }
     ensures kept { IsKept world.new }
     ensures last_proposer { world.new.last_proposer ≡ world.old.last_proposer }
-    ensures collects { (tries : ℕ) → CollectsIn key.now tries (harm_by verdict) world.old world.new result }
+    ensures collects { (tries : ℕ)
+        → CollectsIn key.now tries (harm_by verdict) world.old world.new result }
 {
     if world.front(0).is_none() {
         return gather_ages(world, key);
@@ -519,7 +537,8 @@ fn floor<S: Shelf, V: Disk>(world: &mut SteadyWorld<S, V>, key: &Key) -> Course
     requires at { HasStep key.now step.Floor (own_part world.old 0) }
     ensures kept { IsKept world.new }
     ensures last_proposer { world.new.last_proposer ≡ world.old.last_proposer }
-    ensures collects { (tries most : ℕ) → CollectsIn key.now tries most world.old world.new (Ok result) }
+    ensures collects { (tries most : ℕ)
+        → CollectsIn key.now tries most world.old world.new (Ok result) }
 {
     world.floor();
     Course::Removes
@@ -536,7 +555,8 @@ fn hear_removals<S: Shelf, V: Disk>(
     requires waits { (queue_at world.old.flow exchange_place).messages ≢ [] }
     ensures kept { IsKept world.new }
     ensures last_proposer { world.new.last_proposer ≡ world.old.last_proposer }
-    ensures collects { (tries : ℕ) → CollectsIn key.now tries (harm_by verdict) world.old world.new result }
+    ensures collects { (tries : ℕ)
+        → CollectsIn key.now tries (harm_by verdict) world.old world.new result }
 {
     match world.turn(0, verdict) {
         Ok(()) => Ok(Course::HearsRemovals),
@@ -551,7 +571,8 @@ fn gather_removals<S: Shelf, V: Disk>(world: &mut SteadyWorld<S, V>, key: Key) -
     requires through { (queue_at world.old.flow exchange_place).messages ≡ [] }
     ensures kept { IsKept world.new }
     ensures last_proposer { world.new.last_proposer ≡ world.old.last_proposer }
-    ensures collects { (tries most : ℕ) → CollectsIn key tries most world.old world.new (Err result) }
+    ensures collects { (tries most : ℕ)
+        → CollectsIn key tries most world.old world.new (Err result) }
 {
     match world.gather() {
         Ok(_) => {

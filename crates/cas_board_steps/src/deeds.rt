@@ -109,7 +109,8 @@ pub fn begin<S: Shelf, V: Disk>(
     requires idle { IsIdle (own_part world.old caller) }
     ensures kept { IsKept world.new }
     ensures last_proposer { world.new.last_proposer ≡ world.old.last_proposer }
-    ensures begun { IfOk result (λ begun. BeginsIn caller begun.call key.now program.now world.old world.new) }
+    ensures begun { IfOk result
+        (λ begun. BeginsIn caller begun.call key.now program.now world.old world.new) }
     ensures stage { IfOk result (λ begun. IsStageOf world.new caller begun.stage) }
     ensures fresh { IfOk result (λ begun. tells_met begun.stage ≡ false) }
     ensures not_begun { IfErr result (BeginsNot caller key.now program.now world.old world.new) }
@@ -147,7 +148,8 @@ pub fn go_on<S: Shelf, V: Disk>(
     ensures goes_on { OnOk result (GoesOnIn caller call (harm_by verdict) world.old world.new) }
     ensures stage { IfOk result (IsStageOf world.new caller) }
     ensures met { IfOk result (λ stage. is_met_in (own_part world.new caller) ≡ tells_met stage) }
-    ensures repeats { OnOk result (is_met_in (own_part world.new caller) ≡ true → may_repeat ≡ true) }
+    ensures repeats { OnOk result (is_met_in (own_part world.new caller) ≡ true
+        → may_repeat ≡ true) }
     ensures last { IfErr result (λ told. is_conflict told ≡ true → may_repeat ≡ false) }
     ensures ends { IfErr result (EndsMarked caller call (harm_by verdict) world.old world.new) }
 {
@@ -180,7 +182,8 @@ fn begin_again<S: Shelf, V: Disk>(
     requires called { HasOpen call (own_part world.old caller) }
     requires wanted { wanted_by caller world.old.marks ≡ Some (wants call key.now program.now) }
     requires idle { (desk : DeskView V) → IsAt world.old.desks caller desk → desk.round ≡ None }
-    requires unclosed { (seen : CallerView) → IsAt world.old.callers caller seen → closed_in seen.call ≡ None }
+    requires unclosed { (seen : CallerView)
+        → IsAt world.old.callers caller seen → closed_in seen.call ≡ None }
     ensures kept { IsKept world.new }
     ensures last_proposer { world.new.last_proposer ≡ world.old.last_proposer }
     ensures goes_on { (most : ℕ) → OnOk result (GoesOnIn caller call most world.old world.new) }
@@ -239,13 +242,15 @@ fn propose<S: Shelf, V: Disk>(
     requires kept { IsKept world.old }
     requires called { HasOpen call (own_part world.old caller) }
     requires preparing { IsInPhase world.old caller true }
-    requires unproposed { (seen : CallerView) → IsAt world.old.callers caller seen → IfSome seen.call (λ open_call. open_call.proposed ≡ None) }
+    requires unproposed { (seen : CallerView) → IsAt world.old.callers caller seen
+        → IfSome seen.call (λ open_call. open_call.proposed ≡ None) }
     ensures kept { IsKept world.new }
     ensures last_proposer { world.new.last_proposer ≡ world.old.last_proposer }
     ensures goes_on { (most : ℕ) → OnOk result (GoesOnIn caller call most world.old world.new) }
     ensures stage { IfOk result (IsStageOf world.new caller) }
     ensures met { IfOk result (λ stage. is_met_in (own_part world.new caller) ≡ tells_met stage) }
-    ensures repeats { OnOk result (is_met_in (own_part world.new caller) ≡ true → may_repeat ≡ true) }
+    ensures repeats { OnOk result (is_met_in (own_part world.new caller) ≡ true
+        → may_repeat ≡ true) }
     ensures last { IfErr result (λ told. is_conflict told ≡ true → may_repeat ≡ false) }
     ensures ends { (most : ℕ) → IfErr result (EndsMarked caller call most world.old world.new) }
 {

@@ -77,8 +77,10 @@ pub fn order_members<S: Shelf, V: Disk>(
     ensures makes { Makes 0 world.old world.new [] }
     ensures counted { rescanned_of world.new.council.plan ≡ rescanned_of world.old.council.plan }
     ensures program { IfOk result (λ program. program ≡ keep_always) }
-    ensures ordered { OnOk result (HasOrder (asked_to aim.now.kind aim.now.id) (own_part world.new 0)) }
-    ensures refused { IfErr result (λ why. IsRefusalBehind (length world.new.marks) why × NothingIsOpen (own_part world.new 0)) }
+    ensures ordered { OnOk result
+        (HasOrder (asked_to aim.now.kind aim.now.id) (own_part world.new 0)) }
+    ensures refused { IfErr result (λ why. IsRefusalBehind (length world.new.marks) why
+        × NothingIsOpen (own_part world.new 0)) }
 {
     match keep_always(alloc) {
         Ok(program) => match open_order(world, &aim.kind.asked(aim.id)) {
@@ -96,9 +98,12 @@ pub fn take_up<S: Shelf, V: Disk>(world: &mut SteadyWorld<S, V>, aim: &Aim) -> R
     ensures kept { IsKept world.new }
     ensures last_proposer { world.new.last_proposer ≡ world.old.last_proposer }
     ensures makes { OnOk result (Makes 0 world.old world.new []) }
-    ensures counted { OnOk result (rescanned_of world.new.council.plan ≡ rescanned_of world.old.council.plan) }
-    ensures planned { OnOk result (HasPlan (asked_to aim.now.kind aim.now.id) (own_part world.new 0)) }
-    ensures told { IfErr result (IsToldIn (asked_to aim.now.kind aim.now.id) IsPlanMark 0 world.old world.new) }
+    ensures counted { OnOk result
+        (rescanned_of world.new.council.plan ≡ rescanned_of world.old.council.plan) }
+    ensures planned { OnOk result
+        (HasPlan (asked_to aim.now.kind aim.now.id) (own_part world.new 0)) }
+    ensures told { IfErr result
+        (IsToldIn (asked_to aim.now.kind aim.now.id) IsPlanMark 0 world.old world.new) }
     ensures answer { IfErr result (IsMembersAnswer (asked_to aim.now.kind aim.now.id)) }
 {
     if is_under_way(world, aim) {
@@ -117,8 +122,10 @@ fn enter<S: Shelf, V: Disk>(world: &mut SteadyWorld<S, V>, aim: &Aim) -> Result<
     ensures kept { IsKept world.new }
     ensures last_proposer { world.new.last_proposer ≡ world.old.last_proposer }
     ensures goes_on { OnOk result (OperatesIn IsPlanMark 0 world.old world.new) }
-    ensures planned { OnOk result (HasPlan (asked_to aim.now.kind aim.now.id) (own_part world.new 0)) }
-    ensures told { IfErr result (IsToldIn (asked_to aim.now.kind aim.now.id) IsPlanMark 0 world.old world.new) }
+    ensures planned { OnOk result
+        (HasPlan (asked_to aim.now.kind aim.now.id) (own_part world.new 0)) }
+    ensures told { IfErr result
+        (IsToldIn (asked_to aim.now.kind aim.now.id) IsPlanMark 0 world.old world.new) }
     ensures answer { IfErr result (IsMembersAnswer (asked_to aim.now.kind aim.now.id)) }
 {
     let Some(proposer) = world.enter_next() else {
@@ -142,9 +149,12 @@ fn list<S: Shelf, V: Disk>(
     ensures kept { IsKept world.new }
     ensures last_proposer { world.new.last_proposer ≡ world.old.last_proposer }
     ensures makes { OnOk result (Makes 0 world.old world.new []) }
-    ensures counted { OnOk result (rescanned_of world.new.council.plan ≡ rescanned_of world.old.council.plan) }
-    ensures lists { OnOk result (HasListing (asked_to aim.now.kind aim.now.id) (own_part world.new 0)) }
-    ensures told { IfErr result (IsToldIn (asked_to aim.now.kind aim.now.id) IsPlanMark 0 world.old world.new) }
+    ensures counted { OnOk result
+        (rescanned_of world.new.council.plan ≡ rescanned_of world.old.council.plan) }
+    ensures lists { OnOk result
+        (HasListing (asked_to aim.now.kind aim.now.id) (own_part world.new 0)) }
+    ensures told { IfErr result
+        (IsToldIn (asked_to aim.now.kind aim.now.id) IsPlanMark 0 world.old world.new) }
     ensures answer { IfErr result (IsMembersAnswer (asked_to aim.now.kind aim.now.id)) }
 {
     match world.ask_all(Exchange::List) {
@@ -160,7 +170,8 @@ fn finish<S: Shelf, V: Disk>(world: &mut SteadyWorld<S, V>, aim: &Aim) -> OpAnsw
     requires end { IsAtEnd world.old }
     ensures kept { IsKept world.new }
     ensures last_proposer { world.new.last_proposer ≡ world.old.last_proposer }
-    ensures told { IsToldIn (asked_to aim.now.kind aim.now.id) IsPlanMark 0 world.old world.new result }
+    ensures told { IsToldIn (asked_to aim.now.kind aim.now.id)
+        IsPlanMark 0 world.old world.new result }
     ensures answer { IsMembersAnswer (asked_to aim.now.kind aim.now.id) result }
 {
     let answer = finished(world, aim);
@@ -197,8 +208,10 @@ fn begin_rescan<S: Shelf, V: Disk>(
     ensures kept { IsKept world.new }
     ensures last_proposer { world.new.last_proposer ≡ world.old.last_proposer }
     ensures goes_on { OnOk result (OperatesIn IsPlanMark 0 world.old world.new) }
-    ensures step { IfOk result (StandsAt (asked_to aim.now.kind aim.now.id) (own_part world.new 0) (wanted_by 0 world.new.marks)) }
-    ensures told { IfErr result (IsToldIn (asked_to aim.now.kind aim.now.id) IsPlanMark 0 world.old world.new) }
+    ensures step { IfOk result (StandsAt (asked_to aim.now.kind aim.now.id)
+        (own_part world.new 0) (wanted_by 0 world.new.marks)) }
+    ensures told { IfErr result
+        (IsToldIn (asked_to aim.now.kind aim.now.id) IsPlanMark 0 world.old world.new) }
     ensures answer { IfErr result (IsMembersAnswer (asked_to aim.now.kind aim.now.id)) }
 {
     match begin(world, 0, &key, program) {
@@ -226,8 +239,10 @@ fn begin_due<S: Shelf, V: Disk>(
     ensures kept { IsKept world.new }
     ensures last_proposer { world.new.last_proposer ≡ world.old.last_proposer }
     ensures goes_on { OnOk result (OperatesIn IsPlanMark 0 world.old world.new) }
-    ensures step { IfOk result (StandsAt (asked_to aim.now.kind aim.now.id) (own_part world.new 0) (wanted_by 0 world.new.marks)) }
-    ensures told { IfErr result (IsToldIn (asked_to aim.now.kind aim.now.id) IsPlanMark 0 world.old world.new) }
+    ensures step { IfOk result (StandsAt (asked_to aim.now.kind aim.now.id)
+        (own_part world.new 0) (wanted_by 0 world.new.marks)) }
+    ensures told { IfErr result
+        (IsToldIn (asked_to aim.now.kind aim.now.id) IsPlanMark 0 world.old world.new) }
     ensures answer { IfErr result (IsMembersAnswer (asked_to aim.now.kind aim.now.id)) }
 {
     match due {
@@ -248,8 +263,10 @@ fn take_key<S: Shelf, V: Disk>(
     ensures kept { IsKept world.new }
     ensures last_proposer { world.new.last_proposer ≡ world.old.last_proposer }
     ensures goes_on { OnOk result (OperatesIn IsPlanMark 0 world.old world.new) }
-    ensures step { IfOk result (StandsAt (asked_to aim.now.kind aim.now.id) (own_part world.new 0) (wanted_by 0 world.new.marks)) }
-    ensures told { IfErr result (IsToldIn (asked_to aim.now.kind aim.now.id) IsPlanMark 0 world.old world.new) }
+    ensures step { IfOk result (StandsAt (asked_to aim.now.kind aim.now.id)
+        (own_part world.new 0) (wanted_by 0 world.new.marks)) }
+    ensures told { IfErr result
+        (IsToldIn (asked_to aim.now.kind aim.now.id) IsPlanMark 0 world.old world.new) }
     ensures answer { IfErr result (IsMembersAnswer (asked_to aim.now.kind aim.now.id)) }
 {
     match world.due_key() {
@@ -272,8 +289,10 @@ fn settle<S: Shelf, V: Disk>(
     ensures kept { IsKept world.new }
     ensures last_proposer { world.new.last_proposer ≡ world.old.last_proposer }
     ensures goes_on { OnOk result (OperatesIn IsPlanMark 0 world.old world.new) }
-    ensures step { IfOk result (StandsAt (asked_to aim.now.kind aim.now.id) (own_part world.new 0) (wanted_by 0 world.new.marks)) }
-    ensures told { IfErr result (IsToldIn (asked_to aim.now.kind aim.now.id) IsPlanMark 0 world.old world.new) }
+    ensures step { IfOk result (StandsAt (asked_to aim.now.kind aim.now.id)
+        (own_part world.new 0) (wanted_by 0 world.new.marks)) }
+    ensures told { IfErr result
+        (IsToldIn (asked_to aim.now.kind aim.now.id) IsPlanMark 0 world.old world.new) }
     ensures answer { IfErr result (IsMembersAnswer (asked_to aim.now.kind aim.now.id)) }
 {
     if world.settle_key().is_some() {
@@ -298,8 +317,10 @@ pub fn advance<S: Shelf, V: Disk>(
     ensures kept { IsKept world.new }
     ensures last_proposer { world.new.last_proposer ≡ world.old.last_proposer }
     ensures goes_on { OnOk result (OperatesIn IsPlanMark 0 world.old world.new) }
-    ensures step { IfOk result (StandsAt (asked_to aim.now.kind aim.now.id) (own_part world.new 0) (wanted_by 0 world.new.marks)) }
-    ensures told { IfErr result (IsToldIn (asked_to aim.now.kind aim.now.id) IsPlanMark 0 world.old world.new) }
+    ensures step { IfOk result (StandsAt (asked_to aim.now.kind aim.now.id)
+        (own_part world.new 0) (wanted_by 0 world.new.marks)) }
+    ensures told { IfErr result
+        (IsToldIn (asked_to aim.now.kind aim.now.id) IsPlanMark 0 world.old world.new) }
     ensures answer { IfErr result (IsMembersAnswer (asked_to aim.now.kind aim.now.id)) }
 {
     match world.plan_step() {
@@ -333,8 +354,10 @@ pub fn list_on<S: Shelf, V: Disk>(
     ensures kept { IsKept world.new }
     ensures last_proposer { world.new.last_proposer ≡ world.old.last_proposer }
     ensures goes_on { OnOk result (OperatesIn IsPlanMark (harm_by verdict) world.old world.new) }
-    ensures listed { IfOk result (IsListedTo (asked_to aim.now.kind aim.now.id) (own_part world.new 0)) }
-    ensures told { IfErr result (IsToldIn (asked_to aim.now.kind aim.now.id) IsPlanMark (harm_by verdict) world.old world.new) }
+    ensures listed { IfOk result
+        (IsListedTo (asked_to aim.now.kind aim.now.id) (own_part world.new 0)) }
+    ensures told { IfErr result (IsToldIn (asked_to aim.now.kind aim.now.id) IsPlanMark
+        (harm_by verdict) world.old world.new) }
     ensures answer { IfErr result (IsMembersAnswer (asked_to aim.now.kind aim.now.id)) }
 {
     if world.front(0).is_none() {
@@ -357,8 +380,10 @@ fn gather_list<S: Shelf, V: Disk>(world: &mut SteadyWorld<S, V>, aim: &Aim) -> R
     ensures kept { IsKept world.new }
     ensures last_proposer { world.new.last_proposer ≡ world.old.last_proposer }
     ensures goes_on { (most : ℕ) → OnOk result (OperatesIn IsPlanMark most world.old world.new) }
-    ensures planned { OnOk result (HasPlan (asked_to aim.now.kind aim.now.id) (own_part world.new 0)) }
-    ensures told { (most : ℕ) → IfErr result (IsToldIn (asked_to aim.now.kind aim.now.id) IsPlanMark most world.old world.new) }
+    ensures planned { OnOk result
+        (HasPlan (asked_to aim.now.kind aim.now.id) (own_part world.new 0)) }
+    ensures told { (most : ℕ) → IfErr result
+        (IsToldIn (asked_to aim.now.kind aim.now.id) IsPlanMark most world.old world.new) }
     ensures answer { IfErr result (IsMembersAnswer (asked_to aim.now.kind aim.now.id)) }
 {
     match world.gather() {
@@ -380,8 +405,10 @@ fn turn_list<S: Shelf, V: Disk>(
     ensures kept { IsKept world.new }
     ensures last_proposer { world.new.last_proposer ≡ world.old.last_proposer }
     ensures goes_on { OnOk result (OperatesIn IsPlanMark (harm_by verdict) world.old world.new) }
-    ensures lists { OnOk result (HasListing (asked_to aim.now.kind aim.now.id) (own_part world.new 0)) }
-    ensures told { IfErr result (IsToldIn (asked_to aim.now.kind aim.now.id) IsPlanMark (harm_by verdict) world.old world.new) }
+    ensures lists { OnOk result
+        (HasListing (asked_to aim.now.kind aim.now.id) (own_part world.new 0)) }
+    ensures told { IfErr result (IsToldIn (asked_to aim.now.kind aim.now.id) IsPlanMark
+        (harm_by verdict) world.old world.new) }
     ensures answer { IfErr result (IsMembersAnswer (asked_to aim.now.kind aim.now.id)) }
 {
     match world.turn(0, verdict) {
@@ -410,15 +437,21 @@ pub fn rescan_on<S: Shelf, V: Disk>(
     may_repeat: bool,
 ) -> Result<Rescanning, OpAnswer>
     requires kept { IsKept world.old }
-    requires rescans { HasRescan (asked_to aim.now.kind aim.now.id) call key.now (own_part world.old 0) }
+    requires rescans { HasRescan (asked_to aim.now.kind aim.now.id) call key.now
+        (own_part world.old 0) }
     requires wanted { wanted_by 0 world.old.marks ≡ Some (wants call key.now program.now) }
     ensures kept { IsKept world.new }
     ensures last_proposer { world.new.last_proposer ≡ world.old.last_proposer }
     ensures goes_on { OnOk result (OperatesIn IsPlanMark (harm_by verdict) world.old world.new) }
-    ensures wanted { IfOk result (λ now. now ≢ Rescanning.Counted → wanted_by 0 world.new.marks ≡ wanted_by 0 world.old.marks) }
-    ensures rescans { IfOk result (IsRescannedTo (asked_to aim.now.kind aim.now.id) call key.now (own_part world.new 0)) }
-    ensures rounds { IfOk result (RoundsAreKept may_repeat (own_part world.old 0) (own_part world.new 0)) }
-    ensures told { (tries : ℕ) → (may_repeat ≡ false → rounds_after (own_part world.old 0) ≡ tries) → IfErr result (IsToldIn (asked_to aim.now.kind aim.now.id) (IsRescanMark tries) (harm_by verdict) world.old world.new) }
+    ensures wanted { IfOk result (λ now. now ≢ Rescanning.Counted
+        → wanted_by 0 world.new.marks ≡ wanted_by 0 world.old.marks) }
+    ensures rescans { IfOk result
+        (IsRescannedTo (asked_to aim.now.kind aim.now.id) call key.now (own_part world.new 0)) }
+    ensures rounds { IfOk result
+        (RoundsAreKept may_repeat (own_part world.old 0) (own_part world.new 0)) }
+    ensures told { (tries : ℕ) → (may_repeat ≡ false → rounds_after (own_part world.old 0) ≡ tries)
+        → IfErr result (IsToldIn (asked_to aim.now.kind aim.now.id)
+        (IsRescanMark tries) (harm_by verdict) world.old world.new) }
     ensures answer { IfErr result (IsMembersAnswer (asked_to aim.now.kind aim.now.id)) }
 {
     match go_on(world, 0, call, key, program, verdict, may_repeat) {

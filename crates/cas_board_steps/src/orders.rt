@@ -53,7 +53,8 @@ pub(crate) fn open_order<S: Shelf, V: Disk>(
     ensures makes { Makes 0 world.old world.new [] }
     ensures counted { rescanned_of world.new.council.plan ≡ rescanned_of world.old.council.plan }
     ensures ordered { OnOk result (HasOrder asked.now (own_part world.new 0)) }
-    ensures refused { IfErr result (λ why. IsRefusalBehind (length world.new.marks) why × NothingIsOpen (own_part world.new 0)) }
+    ensures refused { IfErr result (λ why. IsRefusalBehind (length world.new.marks) why
+        × NothingIsOpen (own_part world.new 0)) }
 {
     match world.order(asked) {
         Ok(()) => Ok(()),
@@ -76,7 +77,8 @@ pub fn order_probe<S: Shelf, V: Disk>(
     ensures ordered { OnOk result (HasOrder (Asked.Probe key.now) (own_part world.new 0)) }
     ensures question { IfOk result (λ order. order.question ≡ Exchange.Probe key.now) }
     ensures key { IfOk result (λ order. order.key ≡ key.now) }
-    ensures refused { IfErr result (λ why. IsRefusalBehind (length world.new.marks) why × NothingIsOpen (own_part world.new 0)) }
+    ensures refused { IfErr result (λ why. IsRefusalBehind (length world.new.marks) why
+        × NothingIsOpen (own_part world.new 0)) }
 {
     match copies_for(key) {
         Ok((asked, order)) => match open_order(world, &asked) {
@@ -110,16 +112,20 @@ pub fn ask_probe<S: Shelf, V: Disk>(
     ensures kept { IsKept world.new }
     ensures last_proposer { world.new.last_proposer ≡ world.old.last_proposer }
     ensures makes { OnOk result (Makes 0 world.old world.new []) }
-    ensures counted { OnOk result (rescanned_of world.new.council.plan ≡ rescanned_of world.old.council.plan) }
+    ensures counted { OnOk result
+        (rescanned_of world.new.council.plan ≡ rescanned_of world.old.council.plan) }
     ensures asks { OnOk result (HasProbe order.key (everyone world.old) (own_part world.new 0)) }
     ensures harms { OnOk result (HasHarms 0 (own_part world.new 0)) }
     ensures behind { OnOk result (WasAskedBehind (length world.old.marks) (own_part world.new 0)) }
     ensures key { IfOk result (λ probing. probing.key ≡ order.key) }
     ensures waits { IfOk result (λ probing. HasFirst world.new 0 probing.waits) }
-    ensures told { IfErr result (IsToldIn (Asked.Probe order.key) IsAskingHarm 0 world.old world.new) }
-    ensures answer { IfErr result (λ told. (members : List ℕ) → IsProbeAnswer order.key members told) }
+    ensures told { IfErr result
+        (IsToldIn (Asked.Probe order.key) IsAskingHarm 0 world.old world.new) }
+    ensures answer { IfErr result (λ told. (members : List ℕ)
+        → IsProbeAnswer order.key members told) }
     ensures silent { IfErr result (IsSilentAtMost 0) }
-    ensures truly { IfErr result (λ told. (before : List Mark) → IsTrueProbe before world.new.marks told) }
+    ensures truly { IfErr result (λ told. (before : List Mark)
+        → IsTrueProbe before world.new.marks told) }
 {
     let ProbeOrder { question, key } = order;
     match world.ask_all(question) {
@@ -143,15 +149,21 @@ pub fn go_on_probing<S: Shelf, V: Disk>(
     ensures kept { IsKept world.new }
     ensures last_proposer { world.new.last_proposer ≡ world.old.last_proposer }
     ensures goes_on { OnOk result (OperatesIn IsAskingHarm (harm_by verdict) world.old world.new) }
-    ensures still { OnOk result ((members : List ℕ) → HasProbe probing.key members (own_part world.old 0) → HasProbe probing.key members (own_part world.new 0)) }
+    ensures still { OnOk result ((members : List ℕ) → HasProbe probing.key members
+        (own_part world.old 0) → HasProbe probing.key members (own_part world.new 0)) }
     ensures harms { OnOk result (MarksHarms world.old world.new) }
-    ensures behind { OnOk result ((many : ℕ) → WasAskedBehind many (own_part world.old 0) → WasAskedBehind many (own_part world.new 0)) }
+    ensures behind { OnOk result ((many : ℕ)
+        → WasAskedBehind many (own_part world.old 0) → WasAskedBehind many (own_part world.new 0)) }
     ensures key { IfOk result (λ next. next.key ≡ probing.key) }
     ensures waits { IfOk result (λ next. HasFirst world.new 0 next.waits) }
-    ensures told { IfErr result (IsToldIn (Asked.Probe probing.key) IsAskingHarm (harm_by verdict) world.old world.new) }
-    ensures answer { IfErr result (λ told. (members : List ℕ) → HasProbe probing.key members (own_part world.old 0) → IsProbeAnswer probing.key members told) }
-    ensures silent { IfErr result (λ told. (harms : ℕ) → HasHarms harms (own_part world.old 0) → IsSilentAtMost harms told) }
-    ensures truly { S.tells → V.tells → IfErr result (λ told. (many : ℕ) → WasAskedBehind many (own_part world.old 0) → IsTrueProbe (take many world.new.marks) world.new.marks told) }
+    ensures told { IfErr result
+        (IsToldIn (Asked.Probe probing.key) IsAskingHarm (harm_by verdict) world.old world.new) }
+    ensures answer { IfErr result (λ told. (members : List ℕ) → HasProbe probing.key members
+        (own_part world.old 0) → IsProbeAnswer probing.key members told) }
+    ensures silent { IfErr result (λ told. (harms : ℕ)
+        → HasHarms harms (own_part world.old 0) → IsSilentAtMost harms told) }
+    ensures truly { S.tells → V.tells → IfErr result (λ told. (many : ℕ) → WasAskedBehind many
+        (own_part world.old 0) → IsTrueProbe (take many world.new.marks) world.new.marks told) }
 {
     let Probing { key, waits: _ } = probing;
     if world.front(0).is_none() {
@@ -176,14 +188,19 @@ fn take_probe_turn<S: Shelf, V: Disk>(
     ensures kept { IsKept world.new }
     ensures last_proposer { world.new.last_proposer ≡ world.old.last_proposer }
     ensures goes_on { OnOk result (OperatesIn IsAskingHarm (harm_by verdict) world.old world.new) }
-    ensures still { OnOk result ((members : List ℕ) → HasProbe key.now members (own_part world.old 0) → HasProbe key.now members (own_part world.new 0)) }
+    ensures still { OnOk result ((members : List ℕ) → HasProbe key.now members
+        (own_part world.old 0) → HasProbe key.now members (own_part world.new 0)) }
     ensures harms { OnOk result (MarksHarms world.old world.new) }
-    ensures behind { OnOk result ((many : ℕ) → WasAskedBehind many (own_part world.old 0) → WasAskedBehind many (own_part world.new 0)) }
+    ensures behind { OnOk result ((many : ℕ)
+        → WasAskedBehind many (own_part world.old 0) → WasAskedBehind many (own_part world.new 0)) }
     ensures first { IfOk result (HasFirst world.new 0) }
-    ensures told { IfErr result (IsToldIn (Asked.Probe key.now) IsAskingHarm (harm_by verdict) world.old world.new) }
-    ensures answer { IfErr result (λ told. (members : List ℕ) → IsProbeAnswer key.now members told) }
+    ensures told { IfErr result
+        (IsToldIn (Asked.Probe key.now) IsAskingHarm (harm_by verdict) world.old world.new) }
+    ensures answer { IfErr result (λ told. (members : List ℕ)
+        → IsProbeAnswer key.now members told) }
     ensures silent { IfErr result (λ told. (harms : ℕ) → IsSilentAtMost harms told) }
-    ensures truly { IfErr result (λ told. (before : List Mark) → IsTrueProbe before world.new.marks told) }
+    ensures truly { IfErr result (λ told. (before : List Mark)
+        → IsTrueProbe before world.new.marks told) }
 {
     match world.turn(0, verdict) {
         Ok(()) => Ok(first_frame(world, 0)),
@@ -198,10 +215,14 @@ fn gather_probe<S: Shelf, V: Disk>(world: &mut SteadyWorld<S, V>, key: Key) -> O
     requires through { (queue_at world.old.flow exchange_place).messages ≡ [] }
     ensures kept { IsKept world.new }
     ensures last_proposer { world.new.last_proposer ≡ world.old.last_proposer }
-    ensures told { (most : ℕ) → IsToldIn (Asked.Probe key) IsAskingHarm most world.old world.new result }
-    ensures answer { (members : List ℕ) → HasProbe key members (own_part world.old 0) → IsProbeAnswer key members result }
-    ensures silent { (harms : ℕ) → HasHarms harms (own_part world.old 0) → IsSilentAtMost harms result }
-    ensures truly { S.tells → V.tells → (many : ℕ) → WasAskedBehind many (own_part world.old 0) → IsTrueProbe (take many world.new.marks) world.new.marks result }
+    ensures told { (most : ℕ)
+        → IsToldIn (Asked.Probe key) IsAskingHarm most world.old world.new result }
+    ensures answer { (members : List ℕ)
+        → HasProbe key members (own_part world.old 0) → IsProbeAnswer key members result }
+    ensures silent { (harms : ℕ)
+        → HasHarms harms (own_part world.old 0) → IsSilentAtMost harms result }
+    ensures truly { S.tells → V.tells → (many : ℕ) → WasAskedBehind many (own_part world.old 0)
+        → IsTrueProbe (take many world.new.marks) world.new.marks result }
 {
     match world.gather() {
         Ok(gathered) => {

@@ -41,8 +41,10 @@ impl<S: Shelf, V: Disk> SteadyWorld<S, V> {
         requires may { MayBegin self.old caller call key.now program.now }
         ensures full { IsErrOf result Answer.RecordFull ↔ IsFull self.old caller }
         ensures long { IsErrOf result Answer.RecordFull → 999000 < length self.old.marks }
-        ensures cause { IfErr result (λ told. BeginsBy (meaning S.Shelf V.Disk) self.old caller key.now told self.new) }
-        ensures step { BeginsOrNot (meaning S.Shelf V.Disk) self.old caller call key.now program.now result self.new }
+        ensures cause { IfErr result
+            (λ told. BeginsBy (meaning S.Shelf V.Disk) self.old caller key.now told self.new) }
+        ensures step { BeginsOrNot (meaning S.Shelf V.Disk)
+            self.old caller call key.now program.now result self.new }
     {
         self.world.begin(caller, call, key, program)
     }
@@ -51,8 +53,10 @@ impl<S: Shelf, V: Disk> SteadyWorld<S, V> {
     pub fn turn(&mut self, proposer: u8, verdict: Verdict) -> Result<(), AllocError>
         requires proposer { proposer ≤ self.old.last_proposer }
         requires waits { (queue_at self.old.flow (place_of self.old proposer)).messages ≢ [] }
-        ensures ok { OnOk result (Step (meaning S.Shelf V.Disk) self.old (turn_of self.old proposer verdict) self.new) }
-        ensures err { OnErr result (Step (meaning S.Shelf V.Disk) self.old (refusal_of self.old proposer) self.new) }
+        ensures ok { OnOk result
+            (Step (meaning S.Shelf V.Disk) self.old (turn_of self.old proposer verdict) self.new) }
+        ensures err { OnErr result
+            (Step (meaning S.Shelf V.Disk) self.old (refusal_of self.old proposer) self.new) }
     {
         self.world.turn(proposer, verdict)
     }
@@ -63,8 +67,10 @@ impl<S: Shelf, V: Disk> SteadyWorld<S, V> {
         requires preparing { IsInPhase self.old proposer true }
         ensures step { Step (meaning S.Shelf V.Disk) self.old (Propose proposer) self.new }
         ensures proposed { OnOk result (HasProposed self.new proposer) }
-        ensures told { (caller : CallerView) → slice_get self.old.callers proposer ≡ Some caller → IfErr result (WasTold self.new proposer caller.number) }
-        ensures cause { IfErr result (λ told. PreparesBy (meaning S.Shelf V.Disk) self.old proposer told self.new) }
+        ensures told { (caller : CallerView) → slice_get self.old.callers proposer ≡ Some caller
+            → IfErr result (WasTold self.new proposer caller.number) }
+        ensures cause { IfErr result
+            (λ told. PreparesBy (meaning S.Shelf V.Disk) self.old proposer told self.new) }
         ensures above { S.tells → V.tells → IfErr result (TellsAbove self.old proposer) }
     {
         self.world.propose(proposer)
@@ -75,10 +81,13 @@ impl<S: Shelf, V: Disk> SteadyWorld<S, V> {
         requires known { proposer ≤ self.old.last_proposer }
         requires counting { IsInPhase self.old proposer false }
         ensures step { Step (meaning S.Shelf V.Disk) self.old (Count proposer) self.new }
-        ensures told { (caller : CallerView) → slice_get self.old.callers proposer ≡ Some caller → WasTold self.new proposer caller.number result }
+        ensures told { (caller : CallerView) → slice_get self.old.callers proposer ≡ Some caller
+            → WasTold self.new proposer caller.number result }
         ensures cause { AcceptsBy self.old proposer result }
         ensures above { S.tells → V.tells → TellsAbove self.old proposer result }
-        ensures kept { S.tells → V.tells → (a : AnAcknowledgment) → Stands (Acked a) (reverse self.new.marks) → IsAboveFloors (reverse self.new.marks) a.key a.ballot → AcknowledgedIsKept (meaning S.Shelf V.Disk) self.new a }
+        ensures kept { S.tells → V.tells → (a : AnAcknowledgment) → Stands (Acked a)
+            (reverse self.new.marks) → IsAboveFloors (reverse self.new.marks) a.key a.ballot
+            → AcknowledgedIsKept (meaning S.Shelf V.Disk) self.new a }
     {
         self.world.count(proposer)
     }
@@ -97,8 +106,10 @@ impl<S: Shelf, V: Disk> SteadyWorld<S, V> {
     pub fn stray(&mut self, index: usize) -> Result<AcceptorId, StrayFault>
         requires { index < length self.old.flow.late }
         ensures ok { OnOk result (Step (meaning S.Shelf V.Disk) self.old (Stray index) self.new) }
-        ensures peer { IfOk result (λ peer. IfSome (slice_get self.old.flow.late index) (λ late. peer ≡ (head_of late).1)) }
-        ensures full { IsErrOf result StrayFault.RecordFull ↔ (length self.old.marks + seen_in_all self.old ≡ most_marks) }
+        ensures peer { IfOk result (λ peer. IfSome (slice_get self.old.flow.late index)
+            (λ late. peer ≡ (head_of late).1)) }
+        ensures full { IsErrOf result StrayFault.RecordFull ↔
+            (length self.old.marks + seen_in_all self.old ≡ most_marks) }
         ensures unchanged { IsErrOf result StrayFault.RecordFull → self.new ≡ self.old }
         ensures err { OnErr result (Step (meaning S.Shelf V.Disk) self.old RefuseStray self.new) }
     {

@@ -28,7 +28,8 @@ impl<S: Shelf, V: Disk> SteadyWorld<S, V> {
         ensures step { Step (meaning S.Shelf V.Disk) self.old (BeginCollect key.now) self.new }
         ensures ok { OnOk result (HasCollected self.new call key.now) }
         ensures err { IfErr result (CollectsNot self.old self.new call key.now) }
-        ensures long { IsErrOf result (OpAnswer.Stopped Answer.RecordFull) → 999000 < length self.old.marks }
+        ensures long { IsErrOf result (OpAnswer.Stopped Answer.RecordFull)
+            → 999000 < length self.old.marks }
     {
         self.world.begin_collect(call, key, program)
     }
@@ -37,11 +38,15 @@ impl<S: Shelf, V: Disk> SteadyWorld<S, V> {
     pub fn propose_tombstone(&mut self) -> Result<Reading, Answer>
         requires preparing { IsInPhase self.old 0 true }
         requires calling { IsCollectingCall self.old }
-        ensures empty { result ≡ Ok Reading.Empty → Step (meaning S.Shelf V.Disk) self.old (Propose 0) self.new × HasProposed self.new 0 }
-        ensures held { (version : ℕ) → result ≡ Ok (Reading.Held version) → Step (meaning S.Shelf V.Disk) self.old ReadHeld self.new }
+        ensures empty { result ≡ Ok Reading.Empty
+            → Step (meaning S.Shelf V.Disk) self.old (Propose 0) self.new × HasProposed self.new 0 }
+        ensures held { (version : ℕ) → result ≡ Ok (Reading.Held version)
+            → Step (meaning S.Shelf V.Disk) self.old ReadHeld self.new }
         ensures err { OnErr result (Step (meaning S.Shelf V.Disk) self.old (Propose 0) self.new) }
-        ensures reads { (version : ℕ) (desk : DeskView V) → IsAt self.old.desks 0 desk → ((result ≡ Ok (Reading.Held version)) ↔ FindsHeld desk version) }
-        ensures told { (caller : CallerView) → IsAt self.old.callers 0 caller → IfErr result (WasTold self.new 0 caller.number) }
+        ensures reads { (version : ℕ) (desk : DeskView V) → IsAt self.old.desks 0 desk
+            → ((result ≡ Ok (Reading.Held version)) ↔ FindsHeld desk version) }
+        ensures told { (caller : CallerView)
+            → IsAt self.old.callers 0 caller → IfErr result (WasTold self.new 0 caller.number) }
     {
         self.world.propose_tombstone()
     }
@@ -51,7 +56,8 @@ impl<S: Shelf, V: Disk> SteadyWorld<S, V> {
         requires counting { IsInPhase self.old 0 false }
         requires calling { IsCollectingCall self.old }
         ensures step { CountsTombstone (meaning S.Shelf V.Disk) self.old result self.new }
-        ensures told { (caller : CallerView) → IsAt self.old.callers 0 caller → WasTold self.new 0 caller.number result }
+        ensures told { (caller : CallerView)
+            → IsAt self.old.callers 0 caller → WasTold self.new 0 caller.number result }
     {
         self.world.count_tombstone()
     }

@@ -24,10 +24,13 @@ impl<S: Shelf, V: Disk> SteadyWorld<S, V> {
     /// As [`World::order`].
     pub fn order(&mut self, asked: &Asked) -> Result<(), Answer>
         requires { self.old.council.order ≡ None }
-        ensures full { IsErrOf result Answer.RecordFull ↔ (length self.old.marks + reserved_in_all self.old ≡ 1000000) }
+        ensures full { IsErrOf result Answer.RecordFull ↔
+            (length self.old.marks + reserved_in_all self.old ≡ 1000000) }
         ensures long { IsErrOf result Answer.RecordFull → 999000 < length self.old.marks }
-        ensures cause { IfErr result (λ told. (told ≡ Answer.RecordFull) ⊎ (told ≡ Answer.NoMemory false)) }
-        ensures ok { OnOk result (Step (meaning S.Shelf V.Disk) self.old (Orders asked.now) self.new) }
+        ensures cause { IfErr result (λ told. (told ≡ Answer.RecordFull)
+            ⊎ (told ≡ Answer.NoMemory false)) }
+        ensures ok { OnOk result
+            (Step (meaning S.Shelf V.Disk) self.old (Orders asked.now) self.new) }
         ensures err { OnErr result (Step (meaning S.Shelf V.Disk) self.old RefuseOrder self.new) }
     {
         self.world.order(asked)
@@ -38,8 +41,10 @@ impl<S: Shelf, V: Disk> SteadyWorld<S, V> {
         requires { MayTell self.old answer }
         ensures same { result ≡ answer }
         ensures step { Step (meaning S.Shelf V.Disk) self.old (Tell answer) self.new }
-        ensures floor { S.tells → V.tells → HasCollectedAll self.old answer → HasItsFloor answer (reverse self.old.marks) }
-        ensures entered { HasFinished self.old answer → HaveEnteredIts self.old.last_proposer answer (reverse self.old.marks) }
+        ensures floor { S.tells → V.tells
+            → HasCollectedAll self.old answer → HasItsFloor answer (reverse self.old.marks) }
+        ensures entered { HasFinished self.old answer
+            → HaveEnteredIts self.old.last_proposer answer (reverse self.old.marks) }
     {
         self.world.tell(answer)
     }
@@ -51,7 +56,8 @@ impl<S: Shelf, V: Disk> SteadyWorld<S, V> {
         ensures ok { OnOk result (IsSome self.new.council.exchange) }
         ensures none { OnErr result (self.new.council.exchange ≡ None) }
         ensures err { IfErr result (WasToldOrder self.new) }
-        ensures long { IsErrOf result (OpAnswer.Stopped Answer.RecordFull) → 999000 < length self.old.marks }
+        ensures long { IsErrOf result (OpAnswer.Stopped Answer.RecordFull)
+            → 999000 < length self.old.marks }
     {
         self.world.ask_all(what)
     }
@@ -61,9 +67,11 @@ impl<S: Shelf, V: Disk> SteadyWorld<S, V> {
         requires { MayGather self.old }
         ensures steady { IsSteady (meaning S.Shelf V.Disk) self.old }
         ensures step { Step (meaning S.Shelf V.Disk) self.old (gathering_of self.old) self.new }
-        ensures removed { S.tells → V.tells → AreRemovalsDone (meaning S.Shelf V.Disk) self.old self.new }
+        ensures removed { S.tells
+            → V.tells → AreRemovalsDone (meaning S.Shelf V.Disk) self.old self.new }
         ensures ok { IfOk result (λ found. HasGathered self.old found self.new) }
-        ensures less { result ≡ Ok Gathered.More → left_to_list self.new.council.plan < left_to_list self.old.council.plan }
+        ensures less { result ≡ Ok Gathered.More
+            → left_to_list self.new.council.plan < left_to_list self.old.council.plan }
         ensures err { IfErr result (WasToldOrder self.new) }
     {
         self.world.gather()
@@ -94,7 +102,8 @@ impl<S: Shelf, V: Disk> SteadyWorld<S, V> {
     pub fn enter_era(&mut self, proposer: u8) -> Result<(), OpAnswer>
         requires { MayEnterNext self.old proposer }
         ensures step { Step (meaning S.Shelf V.Disk) self.old (EntersNext proposer) self.new }
-        ensures ok { OnOk result ((order : OrderView) → self.old.council.order ≡ Some order → IsUnderWay self.new order.asked) }
+        ensures ok { OnOk result ((order : OrderView)
+            → self.old.council.order ≡ Some order → IsUnderWay self.new order.asked) }
         ensures err { IfErr result (WasToldOrder self.new) }
     {
         self.world.enter_era(proposer)

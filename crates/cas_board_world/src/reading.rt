@@ -31,7 +31,8 @@ impl<S: Shelf, V: Disk> SteadyWorld<S, V> {
     pub fn record(&self) -> &Record
         ensures marks { result.now.marks ≡ self.now.marks }
         ensures legal { S.tells → V.tells → IsLegal (reverse result.now.marks) }
-        ensures tellings { S.tells → V.tells → AreTellingsSo (suc self.now.last_proposer) (reverse result.now.marks) }
+        ensures tellings { S.tells
+            → V.tells → AreTellingsSo (suc self.now.last_proposer) (reverse result.now.marks) }
     {
         self.world.record()
     }
@@ -54,7 +55,8 @@ impl<S: Shelf, V: Disk> SteadyWorld<S, V> {
     /// As [`World::front`].
     pub fn front(&self, proposer: u8) -> Option<(Leg, AcceptorId)>
         requires { proposer ≤ self.now.last_proposer }
-        ensures { result ≡ option_map head_of (slice_get (queue_at self.now.flow (place_of self.now proposer)).messages 0) }
+        ensures { result ≡ option_map head_of
+            (slice_get (queue_at self.now.flow (place_of self.now proposer)).messages 0) }
     {
         self.world.front(proposer)
     }
@@ -62,7 +64,8 @@ impl<S: Shelf, V: Disk> SteadyWorld<S, V> {
     /// As [`World::closed`].
     pub fn closed(&self, proposer: u8) -> Option<Answer>
         requires { proposer ≤ self.now.last_proposer }
-        ensures { (caller : CallerView) → IsAt self.now.callers proposer caller → result ≡ closed_in caller.call }
+        ensures { (caller : CallerView)
+            → IsAt self.now.callers proposer caller → result ≡ closed_in caller.call }
     {
         self.world.closed(proposer)
     }
@@ -70,7 +73,8 @@ impl<S: Shelf, V: Disk> SteadyWorld<S, V> {
     /// As [`World::verdict`].
     pub fn verdict(&self, proposer: u8) -> Option<RoundVerdict>
         requires { proposer ≤ self.now.last_proposer }
-        ensures { (desk : DeskView V) → IsAt self.now.desks proposer desk → IsVerdictIn desk.round result }
+        ensures { (desk : DeskView V)
+            → IsAt self.now.desks proposer desk → IsVerdictIn desk.round result }
     {
         self.world.verdict(proposer)
     }
@@ -78,8 +82,10 @@ impl<S: Shelf, V: Disk> SteadyWorld<S, V> {
     /// As [`World::has_proposed`].
     pub fn has_proposed(&self, caller: u8) -> bool
         requires { caller ≤ self.now.last_proposer }
-        ensures proposed { (seen : CallerView) → slice_get self.now.callers caller ≡ Some seen → IfSome seen.call (λ call. result ≡ is_some call.proposed) }
-        ensures phase { (desk : DeskView V) → slice_get self.now.desks caller ≡ Some desk → IfSome desk.round (λ round. is_preparing round.phase ≡ not result) }
+        ensures proposed { (seen : CallerView) → slice_get self.now.callers caller ≡ Some seen
+            → IfSome seen.call (λ call. result ≡ is_some call.proposed) }
+        ensures phase { (desk : DeskView V) → slice_get self.now.desks caller ≡ Some desk
+            → IfSome desk.round (λ round. is_preparing round.phase ≡ not result) }
     {
         self.world.has_proposed(caller)
     }
@@ -146,7 +152,8 @@ impl<S: Shelf, V: Disk> SteadyWorld<S, V> {
 
     /// As [`World::removals`].
     pub fn removals(&self) -> (u32, u32)
-        ensures { IfSome self.now.council.collection (λ c. (result.0 ≡ c.removed) × (result.1 ≡ c.kept)) }
+        ensures { IfSome self.now.council.collection (λ c. (result.0 ≡ c.removed)
+            × (result.1 ≡ c.kept)) }
     {
         self.world.removals()
     }

@@ -34,7 +34,8 @@ impl<S: Shelf, V: Disk> Model for SteadyWorld<S, V> {
 impl<S: Shelf, V: Disk> SteadyWorld<S, V> {
     /// A world in which nothing has happened, and the members and the proposers are up.
     pub fn over(world: World<S, V>) -> SteadyWorld<S, V>
-        requires opening { (members : List ℕ) × IsOpening (meaning S.Shelf V.Disk) members world × AreMembersUp members world.acceptors }
+        requires opening { (members : List ℕ) × IsOpening (meaning S.Shelf V.Disk) members world
+            × AreMembersUp members world.acceptors }
         requires places { HasPlaces world }
         requires desks { AreDesksUp world.desks }
         ensures { result ≡ world }
@@ -46,7 +47,8 @@ impl<S: Shelf, V: Disk> SteadyWorld<S, V> {
     pub fn into_world(self) -> World<S, V>
         ensures same { result ≡ self }
         ensures blamed { IsBlamed (meaning S.Shelf V.Disk) self }
-        ensures tellings { S.tells → V.tells → AreTellingsSo (suc self.last_proposer) (reverse self.marks) }
+        ensures tellings { S.tells
+            → V.tells → AreTellingsSo (suc self.last_proposer) (reverse self.marks) }
     {
         let SteadyWorld { world } = self;
         world

@@ -43,7 +43,8 @@ impl Cache {
     pub fn take(&mut self, key: &Key) -> Result<Option<Ready>, AllocError>
         requires { place_of self.old ≡ None }
         ensures ready { IfOk result (λ ready. ready ≡ promise_at key.now (promises_of self.old)) }
-        ensures promises { OnOk result (promises_of self.new ≡ without key.now (promises_of self.old)) }
+        ensures promises { OnOk result
+            (promises_of self.new ≡ without key.now (promises_of self.old)) }
         ensures place { OnOk result (place_of self.new ≡ Some key.now) }
         ensures gone { OnOk result (promise_at key.now (promises_of self.new) ≡ None) }
         ensures same { OnErr result (promises_of self.new ≡ promises_of self.old) }
@@ -64,7 +65,8 @@ impl Cache {
     /// promises the least recently used goes.
     pub fn keep(&mut self, key: &Key, ready: Ready)
         requires { place_of self.old ≡ Some key.now }
-        ensures promises { promises_of self.new ≡ take KEPT ((key.now, ready) ∷ promises_of self.old) }
+        ensures promises { promises_of self.new
+            ≡ take KEPT ((key.now, ready) ∷ promises_of self.old) }
         ensures place { place_of self.new ≡ None }
     {
         match self.entries.peek_mut(key) {
@@ -81,7 +83,8 @@ impl Cache {
         ensures promises { promises_of self.new ≡ without key.now (promises_of self.old) }
         ensures gone { promise_at key.now (promises_of self.new) ≡ None }
         ensures closed { place_of self.old ≡ Some key.now → place_of self.new ≡ None }
-        ensures other_place { (place_of self.old ≡ Some key.now → ⊥) → place_of self.new ≡ place_of self.old }
+        ensures other_place { (place_of self.old ≡ Some key.now → ⊥)
+            → place_of self.new ≡ place_of self.old }
     {
         prove!(self.entries.len() <= KEPT + 1);
         self.entries.pop(key);

@@ -58,8 +58,10 @@ impl<D: Disk> Cells<D> {
 
     /// The payload of a cell. A blank cell, and one that is not there, has none.
     pub fn payload(&self, cell: u32) -> Option<&[u8]>
-        ensures blank { (slice_get (cells_of self.now) cell ≡ Some None) → option_copied result ≡ None }
-        ensures held { (payload : List ℕ) → slice_get (cells_of self.now) cell ≡ Some (Some payload) → option_copied result ≡ Some payload }
+        ensures blank { (slice_get (cells_of self.now) cell ≡ Some None)
+            → option_copied result ≡ None }
+        ensures held { (payload : List ℕ) → slice_get (cells_of self.now) cell ≡ Some (Some payload)
+            → option_copied result ≡ Some payload }
         ensures absent { length (cells_of self.now) ≤ cell → option_copied result ≡ None }
     {
         let cell = self.cells.get(cell as usize)?;
@@ -71,7 +73,8 @@ impl<D: Disk> Cells<D> {
     pub fn payload_place(&self, cell: u32) -> Option<u64>
         requires stands { CellsStand D.tells D.seen D.may_leave self.now }
         requires within { cell ≤ count_in (cells_of self.now) }
-        ensures place { D.tells → result ≡ payload_place (narrow_in (cells_of self.now)) (D.seen (disk_of self.now)) cell }
+        ensures place { D.tells → result
+            ≡ payload_place (narrow_in (cells_of self.now)) (D.seen (disk_of self.now)) cell }
         ensures small { IfSome result (λ place. place ≤ 9216 * (cell + 1)) }
     {
         let held = &self.cells[cell as usize];
@@ -131,10 +134,14 @@ impl<D: Disk> Cells<D> {
         ensures same { OnErr result (change_of self.new ≡ change_of self.old) }
         ensures cells { cells_of self.new ≡ cells_of self.old }
         ensures stands { OnOk result (CellsStand D.tells D.seen D.may_leave self.new) }
-        ensures after_no_memory { IsErrOf result CellFault.NoMemory → CellsStand D.tells D.seen D.may_leave self.new }
-        ensures any_moment { D.tells → ContinuesOnly D.moment D.left_since (disk_of self.old) (disk_of self.new) (IsImageOf (cells_of self.old)) }
-        ensures length { D.tells → NotLonger D.moment D.left_since D.may_leave (disk_of self.old) (disk_of self.new) 0 }
-        ensures cause { IsFaultOfDisk result (D.fault_count (disk_of self.old)) (D.fault_count (disk_of self.new)) }
+        ensures after_no_memory { IsErrOf result CellFault.NoMemory
+            → CellsStand D.tells D.seen D.may_leave self.new }
+        ensures any_moment { D.tells → ContinuesOnly D.moment D.left_since
+            (disk_of self.old) (disk_of self.new) (IsImageOf (cells_of self.old)) }
+        ensures length { D.tells
+            → NotLonger D.moment D.left_since D.may_leave (disk_of self.old) (disk_of self.new) 0 }
+        ensures cause { IsFaultOfDisk result
+            (D.fault_count (disk_of self.old)) (D.fault_count (disk_of self.new)) }
     {
         let held = &mut self.cells[cell as usize];
         steps::shut_spare(&mut self.disk, held, self.narrow, cell)?;
@@ -157,10 +164,14 @@ impl<D: Disk> Cells<D> {
         ensures same { OnErr result (change_of self.new ≡ change_of self.old) }
         ensures cells { cells_of self.new ≡ cells_of self.old }
         ensures stands { OnOk result (CellsStand D.tells D.seen D.may_leave self.new) }
-        ensures after_no_memory { IsErrOf result CellFault.NoMemory → CellsStand D.tells D.seen D.may_leave self.new }
-        ensures any_moment { D.tells → ContinuesOnly D.moment D.left_since (disk_of self.old) (disk_of self.new) (IsImageOf (cells_of self.old)) }
-        ensures length { D.tells → NotLonger D.moment D.left_since D.may_leave (disk_of self.old) (disk_of self.new) 0 }
-        ensures cause { IsFaultOfDisk result (D.fault_count (disk_of self.old)) (D.fault_count (disk_of self.new)) }
+        ensures after_no_memory { IsErrOf result CellFault.NoMemory
+            → CellsStand D.tells D.seen D.may_leave self.new }
+        ensures any_moment { D.tells → ContinuesOnly D.moment D.left_since
+            (disk_of self.old) (disk_of self.new) (IsImageOf (cells_of self.old)) }
+        ensures length { D.tells
+            → NotLonger D.moment D.left_since D.may_leave (disk_of self.old) (disk_of self.new) 0 }
+        ensures cause { IsFaultOfDisk result
+            (D.fault_count (disk_of self.old)) (D.fault_count (disk_of self.new)) }
     {
         let staged = payload.to_vec(self.alloc)?;
         let held = &mut self.cells[cell as usize];
@@ -179,15 +190,21 @@ impl<D: Disk> Cells<D> {
         requires stands { CellsStand D.tells D.seen D.may_leave self.old }
         requires within { cell ≤ count_in (cells_of self.old) }
         requires written { change_of self.old ≡ Some (cell, Some (staged_of self.old)) }
-        ensures changed { OnOk result (cells_of self.new ≡ slice_set (cells_of self.old) cell (Some (staged_of self.old))) }
+        ensures changed { OnOk result
+            (cells_of self.new ≡ slice_set (cells_of self.old) cell (Some (staged_of self.old))) }
         ensures done { OnOk result (change_of self.new ≡ None) }
         ensures same { OnErr result (change_of self.new ≡ change_of self.old) }
         ensures cells { OnErr result (cells_of self.new ≡ cells_of self.old) }
         ensures stands { OnOk result (CellsStand D.tells D.seen D.may_leave self.new) }
-        ensures after_no_memory { IsErrOf result CellFault.NoMemory → CellsStand D.tells D.seen D.may_leave self.new }
-        ensures any_moment { D.tells → ContinuesOnly D.moment D.left_since (disk_of self.old) (disk_of self.new) (IsBeforeOrAfter (cells_of self.old) (slice_set (cells_of self.old) cell (Some (staged_of self.old)))) }
-        ensures length { D.tells → NotLonger D.moment D.left_since D.may_leave (disk_of self.old) (disk_of self.new) 0 }
-        ensures cause { IsFaultOfDisk result (D.fault_count (disk_of self.old)) (D.fault_count (disk_of self.new)) }
+        ensures after_no_memory { IsErrOf result CellFault.NoMemory
+            → CellsStand D.tells D.seen D.may_leave self.new }
+        ensures any_moment { D.tells → ContinuesOnly D.moment D.left_since
+            (disk_of self.old) (disk_of self.new) (IsBeforeOrAfter (cells_of self.old)
+            (slice_set (cells_of self.old) cell (Some (staged_of self.old)))) }
+        ensures length { D.tells
+            → NotLonger D.moment D.left_since D.may_leave (disk_of self.old) (disk_of self.new) 0 }
+        ensures cause { IsFaultOfDisk result
+            (D.fault_count (disk_of self.old)) (D.fault_count (disk_of self.new)) }
     {
         let mut staged = take_staged(&mut self.change, cell);
         let held = &mut self.cells[cell as usize];
@@ -220,10 +237,15 @@ impl<D: Disk> Cells<D> {
         ensures same { OnErr result (change_of self.new ≡ change_of self.old) }
         ensures cells { OnErr result (cells_of self.new ≡ cells_of self.old) }
         ensures stands { OnOk result (CellsStand D.tells D.seen D.may_leave self.new) }
-        ensures after_no_memory { IsErrOf result CellFault.NoMemory → CellsStand D.tells D.seen D.may_leave self.new }
-        ensures any_moment { D.tells → ContinuesOnly D.moment D.left_since (disk_of self.old) (disk_of self.new) (IsBeforeOrAfter (cells_of self.old) (grown (cells_of self.old))) }
-        ensures length { D.tells → NotLonger D.moment D.left_since D.may_leave (disk_of self.old) (disk_of self.new) (1024 * (narrow_in (cells_of self.old) + 1) + 9216 * (wide_in (cells_of self.old) + 1)) }
-        ensures cause { IsFaultOfDisk result (D.fault_count (disk_of self.old)) (D.fault_count (disk_of self.new)) }
+        ensures after_no_memory { IsErrOf result CellFault.NoMemory
+            → CellsStand D.tells D.seen D.may_leave self.new }
+        ensures any_moment { D.tells → ContinuesOnly D.moment D.left_since (disk_of self.old)
+            (disk_of self.new) (IsBeforeOrAfter (cells_of self.old) (grown (cells_of self.old))) }
+        ensures length { D.tells → NotLonger D.moment D.left_since D.may_leave
+            (disk_of self.old) (disk_of self.new) (1024 *
+            (narrow_in (cells_of self.old) + 1) + 9216 * (wide_in (cells_of self.old) + 1)) }
+        ensures cause { IsFaultOfDisk result
+            (D.fault_count (disk_of self.old)) (D.fault_count (disk_of self.new)) }
     {
         let behind = self.count() + 1;
         let head = self.head_with(self.wide_count() + 1)?;
@@ -242,15 +264,20 @@ impl<D: Disk> Cells<D> {
     /// which may not be blank. After an `Err` what is seen is as before. The disk is only read.
     pub fn recover(&mut self) -> Result<(), CellFault>
         requires { D.tells → Only (D.seen (disk_of self.old)) (D.may_leave (disk_of self.old)) }
-        ensures recovered { D.tells → OnOk result (IsImageOf (cells_of self.new) (D.seen (disk_of self.old))) }
-        ensures foreign { D.tells → (at : ℕ) → IsErrOf result (CellFault.Foreign at) → foreign_at (D.seen (disk_of self.old)) ≡ Some at }
+        ensures recovered { D.tells
+            → OnOk result (IsImageOf (cells_of self.new) (D.seen (disk_of self.old))) }
+        ensures foreign { D.tells → (at : ℕ) → IsErrOf result (CellFault.Foreign at)
+            → foreign_at (D.seen (disk_of self.old)) ≡ Some at }
         ensures done { OnOk result (change_of self.new ≡ None) }
         ensures same { OnErr result (change_of self.new ≡ change_of self.old) }
         ensures cells { OnErr result (cells_of self.new ≡ cells_of self.old) }
         ensures stands { OnOk result (CellsStand D.tells D.seen D.may_leave self.new) }
-        ensures read { D.tells → OnlyRead D.moment D.left_since D.seen D.may_leave (disk_of self.old) (disk_of self.new) }
-        ensures length { D.tells → NotLonger D.moment D.left_since D.may_leave (disk_of self.old) (disk_of self.new) 0 }
-        ensures cause { HasCellCause result (D.fault_count (disk_of self.old)) (D.fault_count (disk_of self.new)) }
+        ensures read { D.tells → OnlyRead D.moment D.left_since D.seen D.may_leave
+            (disk_of self.old) (disk_of self.new) }
+        ensures length { D.tells
+            → NotLonger D.moment D.left_since D.may_leave (disk_of self.old) (disk_of self.new) 0 }
+        ensures cause { HasCellCause result
+            (D.fault_count (disk_of self.old)) (D.fault_count (disk_of self.new)) }
     {
         let (narrow, cells) = read_row(&mut self.disk, self.alloc)?;
         self.narrow = narrow;
@@ -269,8 +296,10 @@ impl<D: Disk> Cells<D> {
         ensures same { OnErr result (change_of self.new ≡ change_of self.old) }
         ensures cells { OnErr result (cells_of self.new ≡ cells_of self.old) }
         ensures stands { OnOk result (CellsStand D.tells D.seen D.may_leave self.new) }
-        ensures length { D.tells → NotLonger D.moment D.left_since D.may_leave (disk_of self.old) (disk_of self.new) 1024 }
-        ensures cause { IsFaultOfDisk result (D.fault_count (disk_of self.old)) (D.fault_count (disk_of self.new)) }
+        ensures length { D.tells → NotLonger D.moment D.left_since D.may_leave
+            (disk_of self.old) (disk_of self.new) 1024 }
+        ensures cause { IsFaultOfDisk result
+            (D.fault_count (disk_of self.old)) (D.fault_count (disk_of self.new)) }
     {
         let payload = payload.to_vec(self.alloc)?;
         let mut cells = Vec::with_capacity(self.alloc, 1)?;
@@ -287,9 +316,13 @@ impl<D: Disk> Cells<D> {
     /// Crashes the disk. The cells are recovered before they are used again.
     pub fn crash(&mut self)
         ensures image { D.tells → D.may_leave (disk_of self.old) (D.seen (disk_of self.new)) }
-        ensures settled { D.tells → Only (D.seen (disk_of self.new)) (D.may_leave (disk_of self.new)) }
-        ensures time { D.tells → Elapses (D.moment (disk_of self.old)) (D.moment (disk_of self.new)) (D.left_since (disk_of self.old)) (D.left_since (disk_of self.new)) (D.may_leave (disk_of self.new)) }
-        ensures length { D.tells → NotLonger D.moment D.left_since D.may_leave (disk_of self.old) (disk_of self.new) 0 }
+        ensures settled { D.tells
+            → Only (D.seen (disk_of self.new)) (D.may_leave (disk_of self.new)) }
+        ensures time { D.tells → Elapses (D.moment (disk_of self.old))
+            (D.moment (disk_of self.new)) (D.left_since (disk_of self.old))
+            (D.left_since (disk_of self.new)) (D.may_leave (disk_of self.new)) }
+        ensures length { D.tells
+            → NotLonger D.moment D.left_since D.may_leave (disk_of self.old) (disk_of self.new) 0 }
         ensures cells { cells_of self.new ≡ cells_of self.old }
         ensures change { change_of self.new ≡ change_of self.old }
         ensures never_falls { D.fault_count (disk_of self.old) ≤ D.fault_count (disk_of self.new) }
@@ -299,11 +332,13 @@ impl<D: Disk> Cells<D> {
 
     /// Tells the disk that nobody will ask of moments before this one. All that is seen is as before.
     pub fn forget_past(&mut self)
-        ensures kept { D.tells → Keeps (D.seen (disk_of self.old)) (D.seen (disk_of self.new)) (D.may_leave (disk_of self.old)) (D.may_leave (disk_of self.new)) }
+        ensures kept { D.tells → Keeps (D.seen (disk_of self.old)) (D.seen (disk_of self.new))
+            (D.may_leave (disk_of self.old)) (D.may_leave (disk_of self.new)) }
         ensures now { D.tells → D.moment (disk_of self.new) ≡ D.moment (disk_of self.old) }
         ensures cells { cells_of self.new ≡ cells_of self.old }
         ensures change { change_of self.new ≡ change_of self.old }
-        ensures stands { CellsStand D.tells D.seen D.may_leave self.old → CellsStand D.tells D.seen D.may_leave self.new }
+        ensures stands { CellsStand D.tells D.seen D.may_leave self.old
+            → CellsStand D.tells D.seen D.may_leave self.new }
         ensures faults { D.fault_count (disk_of self.new) ≡ D.fault_count (disk_of self.old) }
     {
         self.disk.forget_past();
@@ -311,8 +346,11 @@ impl<D: Disk> Cells<D> {
 
     // The payload of cell 0, if there is one.
     fn head(&self) -> Option<&[u8]>
-        ensures none { option_copied result ≡ None → (narrow_in (cells_of self.now) ≡ 0) × (wide_in (cells_of self.now) ≡ 0) × (head_in (cells_of self.now) ≡ []) }
-        ensures some { (head : List ℕ) → option_copied result ≡ Some head → (narrow_in (cells_of self.now) ≡ narrow_told head) × (wide_in (cells_of self.now) ≡ wide_told head) × (head_in (cells_of self.now) ≡ head) }
+        ensures none { option_copied result ≡ None → (narrow_in (cells_of self.now) ≡ 0)
+            × (wide_in (cells_of self.now) ≡ 0) × (head_in (cells_of self.now) ≡ []) }
+        ensures some { (head : List ℕ) → option_copied result ≡ Some head
+            → (narrow_in (cells_of self.now) ≡ narrow_told head) × (wide_in (cells_of self.now)
+            ≡ wide_told head) × (head_in (cells_of self.now) ≡ head) }
     {
         let first = self.cells.first()?;
         let payload = first.payload.as_ref()?;
@@ -324,7 +362,8 @@ impl<D: Disk> Cells<D> {
         requires head { IsTrue (is_head (head_in (cells_of self.now))) }
         requires fits { IsPayload 512 (head_in (cells_of self.now)) }
         requires small { count ≤ 4096 }
-        ensures head { IfOk result (λ head. head.items ≡ with_count (head_in (cells_of self.now)) count) }
+        ensures head { IfOk result
+            (λ head. head.items ≡ with_count (head_in (cells_of self.now)) count) }
         ensures fits { IfOk result (λ head. IsPayload 512 head.items) }
     {
         match self.head() {
@@ -351,7 +390,8 @@ impl<D: Disk> Cells<D> {
 /// Appends a blank cell, for which there is room.
 fn push_blank(cells: &mut Vec<Cell>)
     requires { vec_len cells.old < vec_capacity cells.old }
-    ensures { (cell : Cell) × (cells.new.items ≡ cells.old.items ++ cell ∷ []) × IsNew cell × (payload_held cell ≡ None) }
+    ensures { (cell : Cell) × (cells.new.items ≡ cells.old.items ++ cell ∷ [])
+        × IsNew cell × (payload_held cell ≡ None) }
 {
     push_cell(cells, blank());
 }

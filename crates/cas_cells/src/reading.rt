@@ -45,8 +45,10 @@ fn current(
 /// The side of the current frame: the only open one, or of two the one whose number follows the other's.
 fn current_side(first: &[u8], second: &[u8]) -> Option<Side>
     ensures none { result ≡ None → (is_open first.now ≡ false) × (is_open second.now ≡ false) }
-    ensures first { result ≡ Some Side.First → (is_open first.now ≡ true) × ((is_open second.now ≡ true) → (number_of second.now == next (number_of first.now)) ≡ false) }
-    ensures second { result ≡ Some Side.Second → (is_open second.now ≡ true) × ((is_open first.now ≡ true) → (number_of second.now == next (number_of first.now)) ≡ true) }
+    ensures first { result ≡ Some Side.First → (is_open first.now ≡ true) × ((is_open second.now
+        ≡ true) → (number_of second.now == next (number_of first.now)) ≡ false) }
+    ensures second { result ≡ Some Side.Second → (is_open second.now ≡ true) × ((is_open first.now
+        ≡ true) → (number_of second.now == next (number_of first.now)) ≡ true) }
 {
     if !is_open(second) {
         return if is_open(first) {
@@ -87,9 +89,13 @@ fn read_cell<D: Disk>(
     requires small { index ≤ 8192 }
     ensures within { IfOk result (HoldsWithin (half_size narrow index)) }
     ensures held { D.tells → IfOk result (CellHeld narrow (D.seen disk.old) index) }
-    ensures foreign { D.tells → (at : ℕ) → IsErrOf result (CellFault.Foreign at) → (wrong_at narrow (D.seen disk.old) index < 2 * half_size narrow index) × (at ≡ cell_place narrow index + wrong_at narrow (D.seen disk.old) index) }
-    ensures kept { D.tells → Keeps (D.seen disk.old) (D.seen disk.new) (D.may_leave disk.old) (D.may_leave disk.new) }
-    ensures any_moment { D.tells → Only (D.seen disk.old) (D.may_leave disk.old) → ContinuesOnly D.moment D.left_since disk.old disk.new (λ c. c ≡ D.seen disk.old) }
+    ensures foreign { D.tells → (at : ℕ) → IsErrOf result (CellFault.Foreign at)
+        → (wrong_at narrow (D.seen disk.old) index < 2 * half_size narrow index)
+        × (at ≡ cell_place narrow index + wrong_at narrow (D.seen disk.old) index) }
+    ensures kept { D.tells
+        → Keeps (D.seen disk.old) (D.seen disk.new) (D.may_leave disk.old) (D.may_leave disk.new) }
+    ensures any_moment { D.tells → Only (D.seen disk.old) (D.may_leave disk.old)
+        → ContinuesOnly D.moment D.left_since disk.old disk.new (λ c. c ≡ D.seen disk.old) }
     ensures cause { HasCellCause result (D.fault_count disk.old) (D.fault_count disk.new) }
 {
     if index > narrow {
@@ -111,9 +117,13 @@ fn read_frames<D: Disk>(
     requires size { length bytes.old ≡ 2 * half_size narrow index }
     ensures within { IfOk result (HoldsWithin (half_size narrow index)) }
     ensures held { D.tells → IfOk result (CellHeld narrow (D.seen disk.old) index) }
-    ensures foreign { D.tells → (at : ℕ) → IsErrOf result (CellFault.Foreign at) → (wrong_at narrow (D.seen disk.old) index < 2 * half_size narrow index) × (at ≡ cell_place narrow index + wrong_at narrow (D.seen disk.old) index) }
-    ensures kept { D.tells → Keeps (D.seen disk.old) (D.seen disk.new) (D.may_leave disk.old) (D.may_leave disk.new) }
-    ensures any_moment { D.tells → Only (D.seen disk.old) (D.may_leave disk.old) → ContinuesOnly D.moment D.left_since disk.old disk.new (λ c. c ≡ D.seen disk.old) }
+    ensures foreign { D.tells → (at : ℕ) → IsErrOf result (CellFault.Foreign at)
+        → (wrong_at narrow (D.seen disk.old) index < 2 * half_size narrow index)
+        × (at ≡ cell_place narrow index + wrong_at narrow (D.seen disk.old) index) }
+    ensures kept { D.tells
+        → Keeps (D.seen disk.old) (D.seen disk.new) (D.may_leave disk.old) (D.may_leave disk.new) }
+    ensures any_moment { D.tells → Only (D.seen disk.old) (D.may_leave disk.old)
+        → ContinuesOnly D.moment D.left_since disk.old disk.new (λ c. c ≡ D.seen disk.old) }
     ensures cause { HasCellCause result (D.fault_count disk.old) (D.fault_count disk.new) }
 {
     let place = frame_place(narrow, 2 * u64::from(index));
@@ -130,7 +140,9 @@ fn read_frames<D: Disk>(
 
 /// How many narrow and how many wide cells a cell 0 tells, or `None` where it is blank.
 fn head_counts(cell: &Cell) -> Option<(u32, u32)>
-    ensures counts { MatchOption result (payload_held cell.now ≡ None) (λ counts. (head : List ℕ) × (payload_held cell.now ≡ Some head) × (counts.0 ≡ narrow_told head) × (counts.1 ≡ wide_told head)) }
+    ensures counts { MatchOption result (payload_held cell.now ≡ None) (λ counts. (head : List ℕ)
+        × (payload_held cell.now ≡ Some head)
+        × (counts.0 ≡ narrow_told head) × (counts.1 ≡ wide_told head)) }
     ensures small { IfSome result (λ counts. (counts.0 ≤ 4096) × (counts.1 ≤ 4096)) }
 {
     let payload = cell.payload.as_ref()?;
@@ -152,7 +164,8 @@ fn read_rest<D: Disk>(
     ensures length { OnOk result (length cells.new.items ≡ 1 + count) }
     ensures first { take 1 cells.new.items ≡ cells.old.items }
     ensures held { D.tells → OnOk result (OnDisk narrow (D.seen disk.old) cells.new.items) }
-    ensures foreign { D.tells → (at : ℕ) → IsErrOf result (CellFault.Foreign at) → wrong_from narrow count 1 (D.seen disk.old) ≡ Some at }
+    ensures foreign { D.tells → (at : ℕ) → IsErrOf result (CellFault.Foreign at)
+        → wrong_from narrow count 1 (D.seen disk.old) ≡ Some at }
     ensures read { D.tells → OnlyRead D.moment D.left_since D.seen D.may_leave disk.old disk.new }
     ensures cause { HasCellCause result (D.fault_count disk.old) (D.fault_count disk.new) }
 {
@@ -171,7 +184,8 @@ pub fn read_row<D: Disk>(disk: &mut D, alloc: Global) -> Result<(u32, Vec<Cell>)
     ensures narrow { IfOk result (λ read. read.0 ≡ narrow_in (map payload_held read.1.items)) }
     ensures head { IfOk result (λ read. IsPayload 512 (head_in (map payload_held read.1.items))) }
     ensures held { D.tells → IfOk result (λ read. OnDisk read.0 (D.seen disk.old) read.1.items) }
-    ensures foreign { D.tells → (at : ℕ) → IsErrOf result (CellFault.Foreign at) → foreign_at (D.seen disk.old) ≡ Some at }
+    ensures foreign { D.tells → (at : ℕ)
+        → IsErrOf result (CellFault.Foreign at) → foreign_at (D.seen disk.old) ≡ Some at }
     ensures read { D.tells → OnlyRead D.moment D.left_since D.seen D.may_leave disk.old disk.new }
     ensures cause { HasCellCause result (D.fault_count disk.old) (D.fault_count disk.new) }
 {

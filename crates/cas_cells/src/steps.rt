@@ -47,11 +47,17 @@ pub fn shut_spare<D: Disk>(
     ensures shut { OnOk result (Shuts cell.old cell.new) }
     ensures same { OnErr result (cell.new ≡ cell.old) }
     ensures held { D.tells → OnOk result (CellHeld narrow (D.seen disk.new) index cell.new) }
-    ensures others { D.tells → OnOk result (Others narrow (frame_of index (other cell.old.side)) (D.seen disk.old) (D.seen disk.new)) }
-    ensures tail { D.tells → OnOk result (drop 1 (frame_at narrow (D.seen disk.new) (frame_of index (other cell.old.side))) ≡ drop 1 (frame_at narrow (D.seen disk.old) (frame_of index (other cell.old.side)))) }
+    ensures others { D.tells → OnOk result
+        (Others narrow (frame_of index (other cell.old.side)) (D.seen disk.old) (D.seen disk.new)) }
+    ensures tail { D.tells → OnOk result
+        (drop 1 (frame_at narrow (D.seen disk.new) (frame_of index (other cell.old.side)))
+        ≡ drop 1 (frame_at narrow (D.seen disk.old) (frame_of index (other cell.old.side)))) }
     ensures durable { D.tells → OnOk result (Only (D.seen disk.new) (D.may_leave disk.new)) }
-    ensures any_moment { D.tells → ContinuesOnly D.moment D.left_since disk.old disk.new (LeavesPayload narrow (frame_of index (other cell.old.side)) (D.seen disk.old) index (payload_held cell.old)) }
-    ensures unchanged { D.tells → IsErrOf result NoMemory → Keeps (D.seen disk.old) (D.seen disk.new) (D.may_leave disk.old) (D.may_leave disk.new) }
+    ensures any_moment { D.tells
+        → ContinuesOnly D.moment D.left_since disk.old disk.new (LeavesPayload narrow
+        (frame_of index (other cell.old.side)) (D.seen disk.old) index (payload_held cell.old)) }
+    ensures unchanged { D.tells → IsErrOf result NoMemory
+        → Keeps (D.seen disk.old) (D.seen disk.new) (D.may_leave disk.old) (D.may_leave disk.new) }
     ensures cause { HasCause result (D.fault_count disk.old) (D.fault_count disk.new) }
 {
     if !cell.spare_open {
@@ -78,11 +84,16 @@ pub fn write_spare<D: Disk>(
     ensures written { OnOk result (Writes payload.now cell.old cell.new) }
     ensures same { OnErr result (cell.new ≡ cell.old) }
     ensures held { D.tells → OnOk result (CellHeld narrow (D.seen disk.new) index cell.new) }
-    ensures others { D.tells → OnOk result (Others narrow (frame_of index (other cell.old.side)) (D.seen disk.old) (D.seen disk.new)) }
-    ensures staged { D.tells → OnOk result (HoldsTail narrow (D.seen disk.new) index cell.new payload.now) }
+    ensures others { D.tells → OnOk result
+        (Others narrow (frame_of index (other cell.old.side)) (D.seen disk.old) (D.seen disk.new)) }
+    ensures staged { D.tells
+        → OnOk result (HoldsTail narrow (D.seen disk.new) index cell.new payload.now) }
     ensures durable { D.tells → OnOk result (Only (D.seen disk.new) (D.may_leave disk.new)) }
-    ensures any_moment { D.tells → ContinuesOnly D.moment D.left_since disk.old disk.new (LeavesPayload narrow (frame_of index (other cell.old.side)) (D.seen disk.old) index (payload_held cell.old)) }
-    ensures unchanged { D.tells → IsErrOf result NoMemory → Keeps (D.seen disk.old) (D.seen disk.new) (D.may_leave disk.old) (D.may_leave disk.new) }
+    ensures any_moment { D.tells
+        → ContinuesOnly D.moment D.left_since disk.old disk.new (LeavesPayload narrow
+        (frame_of index (other cell.old.side)) (D.seen disk.old) index (payload_held cell.old)) }
+    ensures unchanged { D.tells → IsErrOf result NoMemory
+        → Keeps (D.seen disk.old) (D.seen disk.new) (D.may_leave disk.old) (D.may_leave disk.new) }
     ensures cause { HasCause result (D.fault_count disk.old) (D.fault_count disk.new) }
 {
     let used = payload.len() + 3;
@@ -116,16 +127,22 @@ pub fn keep_staged<D: Disk>(
     requires fits { IsPayload (half_size narrow index) payload.now }
     requires held { D.tells → CellHeld narrow (D.seen disk.old) index cell.old }
     requires shut { D.tells → cell.old.spare_open ≡ false }
-    requires staged { D.tells → kept.old ≡ true → HoldsTail narrow (D.seen disk.old) index cell.old payload.now }
+    requires staged { D.tells
+        → kept.old ≡ true → HoldsTail narrow (D.seen disk.old) index cell.old payload.now }
     requires durable { D.tells → Only (D.seen disk.old) (D.may_leave disk.old) }
     ensures stays { IsAsBefore cell.old cell.new }
     ensures same { OnErr result (cell.new ≡ cell.old) }
     ensures held { D.tells → OnOk result (CellHeld narrow (D.seen disk.new) index cell.new) }
-    ensures others { D.tells → OnOk result (Others narrow (frame_of index (other cell.old.side)) (D.seen disk.old) (D.seen disk.new)) }
-    ensures staged { D.tells → OnOk result (HoldsTail narrow (D.seen disk.new) index cell.new payload.now) }
+    ensures others { D.tells → OnOk result
+        (Others narrow (frame_of index (other cell.old.side)) (D.seen disk.old) (D.seen disk.new)) }
+    ensures staged { D.tells
+        → OnOk result (HoldsTail narrow (D.seen disk.new) index cell.new payload.now) }
     ensures durable { D.tells → OnOk result (Only (D.seen disk.new) (D.may_leave disk.new)) }
-    ensures any_moment { D.tells → ContinuesOnly D.moment D.left_since disk.old disk.new (LeavesPayload narrow (frame_of index (other cell.old.side)) (D.seen disk.old) index (payload_held cell.old)) }
-    ensures unchanged { D.tells → IsErrOf result NoMemory → Keeps (D.seen disk.old) (D.seen disk.new) (D.may_leave disk.old) (D.may_leave disk.new) }
+    ensures any_moment { D.tells
+        → ContinuesOnly D.moment D.left_since disk.old disk.new (LeavesPayload narrow
+        (frame_of index (other cell.old.side)) (D.seen disk.old) index (payload_held cell.old)) }
+    ensures unchanged { D.tells → IsErrOf result NoMemory
+        → Keeps (D.seen disk.old) (D.seen disk.new) (D.may_leave disk.old) (D.may_leave disk.new) }
     ensures kept { OnErr result (kept.new ≡ kept.old) }
     ensures cause { HasCause result (D.fault_count disk.old) (D.fault_count disk.new) }
 {
@@ -150,15 +167,22 @@ pub fn open_spare<D: Disk>(
     requires fits { IsPayload (half_size narrow index) payload.now }
     requires held { D.tells → CellHeld narrow (D.seen disk.old) index cell.old }
     requires shut { D.tells → cell.old.spare_open ≡ false }
-    requires staged { D.tells → kept.old ≡ true → HoldsTail narrow (D.seen disk.old) index cell.old payload.now }
+    requires staged { D.tells
+        → kept.old ≡ true → HoldsTail narrow (D.seen disk.old) index cell.old payload.now }
     requires durable { D.tells → Only (D.seen disk.old) (D.may_leave disk.old) }
     ensures stays { IsAsBefore cell.old cell.new }
-    ensures opened { D.tells → OnOk result ((after : Cell) → OpensSpare payload.now cell.new after → CellHeld narrow (D.seen disk.new) index after) }
-    ensures others { D.tells → OnOk result (Others narrow (frame_of index (other cell.old.side)) (D.seen disk.old) (D.seen disk.new)) }
+    ensures opened { D.tells → OnOk result ((after : Cell)
+        → OpensSpare payload.now cell.new after → CellHeld narrow (D.seen disk.new) index after) }
+    ensures others { D.tells → OnOk result
+        (Others narrow (frame_of index (other cell.old.side)) (D.seen disk.old) (D.seen disk.new)) }
     ensures durable { D.tells → OnOk result (Only (D.seen disk.new) (D.may_leave disk.new)) }
-    ensures any_moment { D.tells → ContinuesOnly D.moment D.left_since disk.old disk.new (MayOpen narrow (frame_of index (other cell.old.side)) (D.seen disk.old) index (payload_held cell.old) payload.now) }
-    ensures still { D.tells → IsErrOf result NoMemory → Still narrow (D.seen disk.old) (D.seen disk.new) (D.may_leave disk.new) index cell.old cell.new }
-    ensures staged { D.tells → IsErrOf result NoMemory → kept.new ≡ true → HoldsTail narrow (D.seen disk.new) index cell.new payload.now }
+    ensures any_moment { D.tells
+        → ContinuesOnly D.moment D.left_since disk.old disk.new (MayOpen narrow (frame_of index
+        (other cell.old.side)) (D.seen disk.old) index (payload_held cell.old) payload.now) }
+    ensures still { D.tells → IsErrOf result NoMemory → Still narrow
+        (D.seen disk.old) (D.seen disk.new) (D.may_leave disk.new) index cell.old cell.new }
+    ensures staged { D.tells → IsErrOf result NoMemory
+        → kept.new ≡ true → HoldsTail narrow (D.seen disk.new) index cell.new payload.now }
     ensures cause { HasCause result (D.fault_count disk.old) (D.fault_count disk.new) }
 {
     keep_staged(disk, alloc, cell, narrow, index, payload, kept)?;
@@ -179,12 +203,16 @@ pub fn change_cell<D: Disk>(
     requires durable { D.tells → Only (D.seen disk.old) (D.may_leave disk.old) }
     ensures changed { OnOk result (payload_held cell.new ≡ Some payload.items) }
     ensures held { D.tells → OnOk result (CellHeld narrow (D.seen disk.new) index cell.new) }
-    ensures others { D.tells → OnOk result (Others narrow (frame_of index (other cell.old.side)) (D.seen disk.old) (D.seen disk.new)) }
+    ensures others { D.tells → OnOk result
+        (Others narrow (frame_of index (other cell.old.side)) (D.seen disk.old) (D.seen disk.new)) }
     ensures durable { D.tells → OnOk result (Only (D.seen disk.new) (D.may_leave disk.new)) }
-    ensures any_moment { D.tells → ContinuesOnly D.moment D.left_since disk.old disk.new (MayOpen narrow (frame_of index (other cell.old.side)) (D.seen disk.old) index (payload_held cell.old) payload.items) }
+    ensures any_moment { D.tells
+        → ContinuesOnly D.moment D.left_since disk.old disk.new (MayOpen narrow (frame_of index
+        (other cell.old.side)) (D.seen disk.old) index (payload_held cell.old) payload.items) }
     ensures same { OnErr result (payload_held cell.new ≡ payload_held cell.old) }
     ensures shut { OnErr result (cell.old.spare_open ≡ false → cell.new.spare_open ≡ false) }
-    ensures still { D.tells → IsErrOf result NoMemory → Still narrow (D.seen disk.old) (D.seen disk.new) (D.may_leave disk.new) index cell.old cell.new }
+    ensures still { D.tells → IsErrOf result NoMemory → Still narrow
+        (D.seen disk.old) (D.seen disk.new) (D.may_leave disk.new) index cell.old cell.new }
     ensures cause { HasCause result (D.fault_count disk.old) (D.fault_count disk.new) }
 {
     shut_spare(disk, cell, narrow, index)?;

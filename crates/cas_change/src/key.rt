@@ -101,8 +101,8 @@ impl Key {
         ensures key { IfOk result (λ key. (key ≡ bytes.now) × IsKey bytes.now) }
         ensures empty { IsErrOf result KeyFault.Empty ↔ (bytes.now ≡ []) }
         ensures too_long { IsErrOf result KeyFault.TooLong ↔ (LONGEST_KEY < length bytes.now) }
-        ensures bad_byte { (at : ℕ) →
-            IsErrOf result (KeyFault.BadByte at) ↔ ((length bytes.now ≤ LONGEST_KEY) × (first_bad_byte bytes.now ≡ Some at)) }
+        ensures bad_byte { (at : ℕ) → IsErrOf result (KeyFault.BadByte at) ↔
+            ((length bytes.now ≤ LONGEST_KEY) × (first_bad_byte bytes.now ≡ Some at)) }
         // Bytes that are a key are refused for want of memory alone.
         ensures no_memory { IfErr result (λ fault. (fault ≡ KeyFault.NoMemory) ↔ IsKey bytes.now) }
     {

@@ -73,7 +73,8 @@ fn outcome_of(clauses: &[Clause], state: &State) -> Result<Outcome, AllocError>
 pub fn apply(program: &Program, state: &State) -> Result<Outcome, AllocError>
     ensures outcome { IfOk result (λ outcome. outcome ≡ outcome_of program.now state.now) }
     // The same in other words, by who took it.
-    ensures by_cases { IfOk result (λ outcome. IsOutcome program.now state.now outcome.state outcome.took) }
+    ensures by_cases { IfOk result
+        (λ outcome. IsOutcome program.now state.now outcome.state outcome.took) }
 {
     outcome_of(program.clauses(), state)
 }

@@ -58,7 +58,8 @@ impl Text {
         ensures text { IfOk result (λ text. (text ≡ bytes.now) × IsText bytes.now) }
         ensures too_long { IsErrOf result TextFault.TooLong ↔ (LONGEST_TEXT < length bytes.now) }
         // Bytes that are a text are refused for want of memory alone.
-        ensures no_memory { IfErr result (λ fault. (fault ≡ TextFault.NoMemory) ↔ IsText bytes.now) }
+        ensures no_memory { IfErr result
+            (λ fault. (fault ≡ TextFault.NoMemory) ↔ IsText bytes.now) }
     {
         if bytes.len() > LONGEST_TEXT {
             return Err(TextFault::TooLong);

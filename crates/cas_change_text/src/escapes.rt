@@ -40,7 +40,8 @@ fn byte_from(high: u8, low: u8) -> Option<u8>
 
 /// The first byte that the word stands for, and what stands behind it.
 fn first_byte(word: &[u8]) -> Option<(u8, &[u8])>
-    ensures some { IfSome result (λ found. unescaped word.now ≡ onto (Some found.0) (unescaped found.1.now)) }
+    ensures some { IfSome result
+        (λ found. unescaped word.now ≡ onto (Some found.0) (unescaped found.1.now)) }
     ensures less { IfSome result (λ found. length found.1.now < length word.now) }
     ensures none { IfNone result (0 < length word.now → unescaped word.now ≡ None) }
 {

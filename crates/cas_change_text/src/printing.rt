@@ -26,7 +26,8 @@ pub fn push_decimal(text: &mut String, number: u64) -> Result<(), AllocError>
 
 /// Writes a name and a number.
 fn push_number(text: &mut String, name: &str, number: i64) -> Result<(), AllocError>
-    ensures ok { OnOk result (string_bytes text.new ≡ string_bytes text.old ++ name.now ++ signed_decimal number) }
+    ensures ok { OnOk result
+        (string_bytes text.new ≡ string_bytes text.old ++ name.now ++ signed_decimal number) }
     ensures fits { FitsSigned w64 number }
 {
     let mut digits = Buffer::new();
@@ -36,7 +37,8 @@ fn push_number(text: &mut String, name: &str, number: i64) -> Result<(), AllocEr
 
 /// Writes a name and a number.
 fn push_version(text: &mut String, name: &str, version: u64) -> Result<(), AllocError>
-    ensures ok { OnOk result (string_bytes text.new ≡ string_bytes text.old ++ name.now ++ decimal version) }
+    ensures ok { OnOk result
+        (string_bytes text.new ≡ string_bytes text.old ++ name.now ++ decimal version) }
     ensures fits { version < 2 ^ 64 }
 {
     text.push_str(name)?;
@@ -45,7 +47,8 @@ fn push_version(text: &mut String, name: &str, version: u64) -> Result<(), Alloc
 
 /// Writes a name and a text.
 fn push_text(text: &mut String, name: &str, bytes: &Text) -> Result<(), AllocError>
-    ensures ok { OnOk result (string_bytes text.new ≡ string_bytes text.old ++ name.now ++ escaped bytes.now) }
+    ensures ok { OnOk result
+        (string_bytes text.new ≡ string_bytes text.old ++ name.now ++ escaped bytes.now) }
     ensures fits { OnOk result (TextFits bytes.now) }
 {
     text.push_str(name)?;
@@ -53,7 +56,8 @@ fn push_text(text: &mut String, name: &str, bytes: &Text) -> Result<(), AllocErr
 }
 
 fn push_guard(text: &mut String, guard: &Guard) -> Result<(), AllocError>
-    ensures ok { OnOk result (string_bytes text.new ≡ string_bytes text.old ++ guard_text guard.now) }
+    ensures ok { OnOk result
+        (string_bytes text.new ≡ string_bytes text.old ++ guard_text guard.now) }
     ensures fits { OnOk result (GuardFits guard.now) }
 {
     match guard {
@@ -79,7 +83,8 @@ fn push_act(text: &mut String, act: &Act) -> Result<(), AllocError>
 }
 
 fn push_clause(text: &mut String, clause: &Clause) -> Result<(), AllocError>
-    ensures ok { OnOk result (string_bytes text.new ≡ string_bytes text.old ++ clause_text clause.now) }
+    ensures ok { OnOk result
+        (string_bytes text.new ≡ string_bytes text.old ++ clause_text clause.now) }
     ensures fits { OnOk result (ClauseFits clause.now) }
 {
     push_guard(text, &clause.guard)?;
@@ -89,7 +94,8 @@ fn push_clause(text: &mut String, clause: &Clause) -> Result<(), AllocError>
 
 /// Writes each clause behind a semicolon.
 fn push_next_clauses(text: &mut String, clauses: &[Clause]) -> Result<(), AllocError>
-    ensures ok { OnOk result (string_bytes text.new ≡ string_bytes text.old ++ flat_map next_clause_text clauses.now) }
+    ensures ok { OnOk result
+        (string_bytes text.new ≡ string_bytes text.old ++ flat_map next_clause_text clauses.now) }
     ensures fits { OnOk result (All ClauseFits clauses.now) }
 {
     for clause in clauses {
@@ -101,7 +107,8 @@ fn push_next_clauses(text: &mut String, clauses: &[Clause]) -> Result<(), AllocE
 
 /// Writes clauses behind the text, with a semicolon between any two.
 fn push_clauses(text: &mut String, clauses: &[Clause]) -> Result<(), AllocError>
-    ensures ok { OnOk result (string_bytes text.new ≡ string_bytes text.old ++ program_text clauses.now) }
+    ensures ok { OnOk result
+        (string_bytes text.new ≡ string_bytes text.old ++ program_text clauses.now) }
     ensures fits { OnOk result (AllByRecursion ClauseFits clauses.now) }
 {
     match clauses {
@@ -125,7 +132,8 @@ fn push_body(text: &mut String, body: &Body) -> Result<(), AllocError>
 
 /// Writes a state behind the text: `empty`, or `v` and its version, and `num` or `text` and what it holds.
 pub fn push_state(text: &mut String, state: &State) -> Result<(), AllocError>
-    ensures ok { OnOk result (string_bytes text.new ≡ string_bytes text.old ++ state_text state.now) }
+    ensures ok { OnOk result
+        (string_bytes text.new ≡ string_bytes text.old ++ state_text state.now) }
     ensures fits { OnOk result (StateFits state.now) }
 {
     match state {

@@ -18,7 +18,8 @@ use std::alloc::{AllocFailed, Global};
 
 /// The next word. A refusal says that there is none.
 pub fn next_word<'a>(words: &mut Words<'a>) -> Result<&'a [u8], TextRefusal>
-    ensures { MatchResult result (λ word. word_at words.old ≡ Ok (word.now, words.new)) (λ refusal. word_at words.old ≡ Err refusal) }
+    ensures { MatchResult result (λ word. word_at words.old ≡ Ok (word.now, words.new))
+        (λ refusal. word_at words.old ≡ Err refusal) }
 {
     match words.next() {
         Some(word) => Ok(word),
@@ -31,7 +32,8 @@ pub fn next_word<'a>(words: &mut Words<'a>) -> Result<&'a [u8], TextRefusal>
 
 /// Nothing, where no word is left. A word that is left is the refusal: it is one too many.
 pub fn read_end(words: &mut Words<'_>) -> Result<(), TextRefusal>
-    ensures { MatchResult result (λ _. words.old.words ≡ []) (λ refusal. end_at words.old ≡ Err refusal) }
+    ensures { MatchResult result
+        (λ _. words.old.words ≡ []) (λ refusal. end_at words.old ≡ Err refusal) }
 {
     let at = words.taken();
     match words.next() {
@@ -242,7 +244,8 @@ pub fn read_program(alloc: Global, text: &[u8]) -> Result<Program, TextRefusal>
     ensures only { (program : List Clause) → IsProgram (words_of text.now) program
         → MatchResult result (λ read. read ≡ program) (λ refusal. refusal.why ≡ Why.NoMemory) }
     // A refusal names the first word that does not fit.
-    ensures first { IfErr result (λ refusal. refusal.why ≢ Why.NoMemory → IsFirstMisfit AreClauses AreProgram (words_of text.now) refusal.word) }
+    ensures first { IfErr result (λ refusal. refusal.why ≢ Why.NoMemory
+        → IsFirstMisfit AreClauses AreProgram (words_of text.now) refusal.word) }
     // Which refusal it is, word by word.
     ensures exact { GivesInMemory result (program_at (all_of (words_of text.now))) }
 {

@@ -118,7 +118,8 @@ pub fn read_state(alloc: Global, text: &[u8]) -> Result<State, TextRefusal>
     ensures only { (state : State) → IsState (words_of text.now) state
         → MatchResult result (λ read. read ≡ state) (λ refusal. refusal.why ≡ Why.NoMemory) }
     // A refusal names the first word that does not fit.
-    ensures first { IfErr result (λ refusal. refusal.why ≢ Why.NoMemory → IsFirstMisfit AreState AreState (words_of text.now) refusal.word) }
+    ensures first { IfErr result (λ refusal. refusal.why ≢ Why.NoMemory
+        → IsFirstMisfit AreState AreState (words_of text.now) refusal.word) }
     // Which refusal it is, word by word.
     ensures exact { GivesInMemory result (whole_state (all_of (words_of text.now))) }
 {

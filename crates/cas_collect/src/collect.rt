@@ -55,7 +55,13 @@ impl Model for Collect {
 impl Collect {
     /// The collection of the key in that era, with the proposers 0 to `proposers`, before its first step.
     pub fn begin(key: Key, proposers: u8, era: &Era) -> Collect
-        ensures { result ≡ record { key = key; era = era.now; proposers = proposers; confirmed = []; step = CollectStep.Round } }
+        ensures { result ≡ record {
+          key = key;
+          era = era.now;
+          proposers = proposers;
+          confirmed = [];
+          step = CollectStep.Round;
+        } }
     {
         Collect {
             key,
@@ -90,7 +96,10 @@ impl Collect {
     /// The step, which was next, was confirmed. The end stays the end.
     pub fn confirm(&mut self, step: CollectStep)
         requires { IsNext self.old.proposers self.old.confirmed step }
-        ensures { self.new ≡ record self.old { confirmed = with_step self.old.confirmed step; step = step_after self.old.proposers step } }
+        ensures { self.new ≡ record self.old {
+          confirmed = with_step self.old.confirmed step;
+          step = step_after self.old.proposers step;
+        } }
     {
         self.step = step_after(step, self.proposers);
     }

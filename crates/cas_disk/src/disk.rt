@@ -58,28 +58,38 @@ pub trait Disk {
     /// How many bytes there are. `Failed` comes only where the count of faults rose. Whatever the answer, the content stays.
     fn len(&mut self) -> Result<u64, DiskFault>
         ensures told { tells → IfOk result (λ n. n ≡ length (seen self.old)) }
-        ensures kept { tells → Keeps (seen self.old) (seen self.new) (may_leave self.old) (may_leave self.new) }
-        ensures time { tells → Elapses (moment self.old) (moment self.new) (left_since self.old) (left_since self.new) (may_leave self.new) }
+        ensures kept { tells
+            → Keeps (seen self.old) (seen self.new) (may_leave self.old) (may_leave self.new) }
+        ensures time { tells → Elapses (moment self.old)
+            (moment self.new) (left_since self.old) (left_since self.new) (may_leave self.new) }
         ensures cause { HasCause result (fault_count self.old) (fault_count self.new) };
 
     /// Puts the bytes from `at` on into the front of `buf` and answers how many: as many as there are, or as `buf` has room
     /// for. `Failed` comes only where the count of faults rose. Whatever the answer, the content stays.
     fn read(&mut self, at: u64, buf: &mut [u8]) -> Result<usize, DiskFault>
         ensures within { IfOk result (λ n. n ≤ length buf.old) }
-        ensures all { tells → IfOk result (λ n. n ≡ min (length buf.old) (length (seen self.old) - at)) }
-        ensures bytes { tells → IfOk result (λ n. take n buf.new ≡ take n (drop at (seen self.old))) }
-        ensures kept { tells → Keeps (seen self.old) (seen self.new) (may_leave self.old) (may_leave self.new) }
-        ensures time { tells → Elapses (moment self.old) (moment self.new) (left_since self.old) (left_since self.new) (may_leave self.new) }
+        ensures all { tells
+            → IfOk result (λ n. n ≡ min (length buf.old) (length (seen self.old) - at)) }
+        ensures bytes { tells
+            → IfOk result (λ n. take n buf.new ≡ take n (drop at (seen self.old))) }
+        ensures kept { tells
+            → Keeps (seen self.old) (seen self.new) (may_leave self.old) (may_leave self.new) }
+        ensures time { tells → Elapses (moment self.old)
+            (moment self.new) (left_since self.old) (left_since self.new) (may_leave self.new) }
         ensures cause { HasCause result (fault_count self.old) (fault_count self.new) };
 
     /// Writes over what is there, and past the end. Until a sync a crash may leave any bytes in the range and past the old
     /// end, also where the call failed. `Failed` comes only where the count of faults rose. After `NoMemory` nothing changed.
     fn write_at(&mut self, at: u64, bytes: &[u8]) -> Result<(), DiskFault>
         requires { tells → at ≤ length (seen self.old) }
-        ensures written { tells → OnOk result (HoldsBytes (seen self.old) at bytes.now (seen self.new)) }
-        ensures unchanged { tells → IsErrOf result NoMemory → Keeps (seen self.old) (seen self.new) (may_leave self.old) (may_leave self.new) }
-        ensures crash { tells → OutcomesFollow (Torn at (length bytes.now)) (may_leave self.old) (may_leave self.new) }
-        ensures time { tells → Elapses (moment self.old) (moment self.new) (left_since self.old) (left_since self.new) (may_leave self.new) }
+        ensures written { tells
+            → OnOk result (HoldsBytes (seen self.old) at bytes.now (seen self.new)) }
+        ensures unchanged { tells → IsErrOf result NoMemory
+            → Keeps (seen self.old) (seen self.new) (may_leave self.old) (may_leave self.new) }
+        ensures crash { tells → OutcomesFollow (Torn at (length bytes.now))
+            (may_leave self.old) (may_leave self.new) }
+        ensures time { tells → Elapses (moment self.old)
+            (moment self.new) (left_since self.old) (left_since self.new) (may_leave self.new) }
         ensures cause { HasCause result (fault_count self.old) (fault_count self.new) };
 
     /// After it a crash leaves what a read gives. Its only error is `Failed`, which comes only where the count of faults rose.
@@ -87,7 +97,8 @@ pub trait Disk {
         ensures durable { tells → OnOk result (Only (seen self.new) (may_leave self.new)) }
         ensures same { tells → OnOk result (seen self.new ≡ seen self.old) }
         ensures crash { tells → (c : List ℕ) → may_leave self.new c → may_leave self.old c }
-        ensures time { tells → Elapses (moment self.old) (moment self.new) (left_since self.old) (left_since self.new) (may_leave self.new) }
+        ensures time { tells → Elapses (moment self.old)
+            (moment self.new) (left_since self.old) (left_since self.new) (may_leave self.new) }
         ensures failed { IsErrOf result NoMemory → ⊥ }
         ensures cause { FailsByCount result (fault_count self.old) (fault_count self.new) };
 
@@ -95,13 +106,15 @@ pub trait Disk {
     fn crash(&mut self)
         ensures image { tells → may_leave self.old (seen self.new) }
         ensures settled { tells → Only (seen self.new) (may_leave self.new) }
-        ensures time { tells → Elapses (moment self.old) (moment self.new) (left_since self.old) (left_since self.new) (may_leave self.new) }
+        ensures time { tells → Elapses (moment self.old)
+            (moment self.new) (left_since self.old) (left_since self.new) (may_leave self.new) }
         ensures never_falls { fault_count self.old ≤ fault_count self.new };
 
     /// Tells that nobody will ask of moments before this one, so that the disk need not keep what speaks of them. The content, what
     /// a crash may leave and the moment stay.
     fn forget_past(&mut self)
-        ensures kept { tells → Keeps (seen self.old) (seen self.new) (may_leave self.old) (may_leave self.new) }
+        ensures kept { tells
+            → Keeps (seen self.old) (seen self.new) (may_leave self.old) (may_leave self.new) }
         ensures now { tells → moment self.new ≡ moment self.old }
         ensures faults { fault_count self.new ≡ fault_count self.old };
 

@@ -94,10 +94,13 @@ impl Medium {
     /// Writes over what is there, and past the end. After an `Err` nothing changed.
     pub fn write(&mut self, at: usize, piece: &[u8]) -> Result<(), AllocError>
         requires { at ≤ length self.old.bytes.items }
-        ensures held { OnOk result (HoldsBytes self.old.bytes.items at piece.now self.new.bytes.items) }
-        ensures crash { OutcomesFollow (Torn at (length piece.now)) (may_leave_in self.old) (may_leave_in self.new) }
+        ensures held { OnOk result
+            (HoldsBytes self.old.bytes.items at piece.now self.new.bytes.items) }
+        ensures crash { OutcomesFollow (Torn at (length piece.now))
+            (may_leave_in self.old) (may_leave_in self.new) }
         ensures durable { durable_in self.new ≡ durable_in self.old }
-        ensures time { Elapses (moment_in self.old) (moment_in self.new) (left_in self.old) (left_in self.new) (may_leave_in self.new) }
+        ensures time { Elapses (moment_in self.old)
+            (moment_in self.new) (left_in self.old) (left_in self.new) (may_leave_in self.new) }
         ensures bytes_err { OnErr result (self.new.bytes.items ≡ self.old.bytes.items) }
         ensures pending_err { OnErr result (self.new.pending.items ≡ self.old.pending.items) }
     {
@@ -119,7 +122,8 @@ impl Medium {
     pub fn settle(&mut self)
         ensures bytes { self.new.bytes.items ≡ self.old.bytes.items }
         ensures pending { self.new.pending.items ≡ [] }
-        ensures time { Elapses (moment_in self.old) (moment_in self.new) (left_in self.old) (left_in self.new) (may_leave_in self.new) }
+        ensures time { Elapses (moment_in self.old)
+            (moment_in self.new) (left_in self.old) (left_in self.new) (may_leave_in self.new) }
     {
         close(
             self.alloc,
@@ -135,7 +139,8 @@ impl Medium {
         ensures old { image ≡ Image.Old → self.new.bytes.items ≡ durable_in self.old }
         ensures new { image ≡ Image.New → self.new.bytes.items ≡ self.old.bytes.items }
         ensures pending { self.new.pending.items ≡ [] }
-        ensures time { Elapses (moment_in self.old) (moment_in self.new) (left_in self.old) (left_in self.new) (may_leave_in self.new) }
+        ensures time { Elapses (moment_in self.old)
+            (moment_in self.new) (left_in self.old) (left_in self.new) (may_leave_in self.new) }
     {
         let before = redraw(self.alloc, &mut self.bytes, &self.pending, image);
         close(self.alloc, &mut self.past, &mut self.pending, before);
@@ -231,7 +236,8 @@ fn redraw(alloc: Global, bytes: &mut Vec<u8>, writes: &[Write], image: Image) ->
     ensures image { IsImage (undone writes.now bytes.old.items) writes.now bytes.new.items }
     ensures old { image ≡ Image.Old → bytes.new.items ≡ undone writes.now bytes.old.items }
     ensures new { image ≡ Image.New → bytes.new.items ≡ bytes.old.items }
-    ensures before { started_with result writes.now bytes.new.items ≡ undone writes.now bytes.old.items }
+    ensures before { started_with result writes.now bytes.new.items
+        ≡ undone writes.now bytes.old.items }
 {
     match image {
         Image::New => Before::Undone,

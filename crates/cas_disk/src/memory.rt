@@ -85,7 +85,8 @@ impl MemoryDisk {
     fn begin(&mut self) -> Result<(), DiskFault>
         ensures call { IsCall result self.old self.new }
         ensures medium { self.new.medium ≡ self.old.medium }
-        ensures cause { MatchResult result (λ _. self.new.faults ≡ self.old.faults) (λ e. (e ≡ DiskFault.Failed) × Rose self.old.faults self.new.faults) }
+        ensures cause { MatchResult result (λ _. self.new.faults ≡ self.old.faults) (λ e.
+            (e ≡ DiskFault.Failed) × Rose self.old.faults self.new.faults) }
         ensures never_falls { self.old.faults ≤ self.new.faults }
     {
         let trouble = self.next_trouble();
@@ -156,7 +157,8 @@ impl Disk for MemoryDisk {
 
     fn read(&mut self, at: u64, buf: &mut [u8]) -> Result<usize, DiskFault>
         ensures call { IsCall result self.old self.new }
-        ensures all { IfOk result (λ n. n ≡ min (length buf.old) (length (bytes_of self.old) - at)) }
+        ensures all { IfOk result
+            (λ n. n ≡ min (length buf.old) (length (bytes_of self.old) - at)) }
         ensures bytes { IfOk result (λ n. take n buf.new ≡ take n (drop at (bytes_of self.old))) }
         ensures medium { self.new.medium ≡ self.old.medium }
         ensures cause { HasCause result (faults_of self.old) (faults_of self.new) }
@@ -168,16 +170,22 @@ impl Disk for MemoryDisk {
     fn write_at(&mut self, at: u64, bytes: &[u8]) -> Result<(), DiskFault>
         requires { at ≤ length (bytes_of self.old) }
         ensures call { IsCall result self.old self.new }
-        ensures written { OnOk result (HoldsBytes (bytes_of self.old) at bytes.now (bytes_of self.new)) }
-        ensures unchanged { IsErrOf result DiskFault.NoMemory → Keeps (bytes_of self.old) (bytes_of self.new) (may_leave_in self.old.medium) (may_leave_in self.new.medium) }
+        ensures written { OnOk result
+            (HoldsBytes (bytes_of self.old) at bytes.now (bytes_of self.new)) }
+        ensures unchanged { IsErrOf result DiskFault.NoMemory → Keeps (bytes_of self.old)
+            (bytes_of self.new) (may_leave_in self.old.medium) (may_leave_in self.new.medium) }
 
         // Where it fails nothing is written, unless the disk stops here: then the write is under way.
-        ensures failed { IsErrOf result DiskFault.Failed → stops_next self.old ≡ false → self.new.medium ≡ self.old.medium }
-        ensures under_way { IsErrOf result DiskFault.Failed → IsTrue (stops_next self.old) → HoldsBytes (bytes_of self.old) at bytes.now (bytes_of self.new) }
+        ensures failed { IsErrOf result DiskFault.Failed
+            → stops_next self.old ≡ false → self.new.medium ≡ self.old.medium }
+        ensures under_way { IsErrOf result DiskFault.Failed → IsTrue (stops_next self.old)
+            → HoldsBytes (bytes_of self.old) at bytes.now (bytes_of self.new) }
         ensures durable { durable_of self.new ≡ durable_of self.old }
 
-        ensures crash { OutcomesFollow (Torn at (length bytes.now)) (may_leave_in self.old.medium) (may_leave_in self.new.medium) }
-        ensures time { Elapses (moment_in self.old.medium) (moment_in self.new.medium) (left_in self.old.medium) (left_in self.new.medium) (may_leave_in self.new.medium) }
+        ensures crash { OutcomesFollow (Torn at (length bytes.now))
+            (may_leave_in self.old.medium) (may_leave_in self.new.medium) }
+        ensures time { Elapses (moment_in self.old.medium) (moment_in self.new.medium)
+            (left_in self.old.medium) (left_in self.new.medium) (may_leave_in self.new.medium) }
         ensures cause { HasCause result (faults_of self.old) (faults_of self.new) }
     {
         let stops = !self.stopped && self.next_trouble() == Some(Trouble::Stop);
@@ -192,10 +200,13 @@ impl Disk for MemoryDisk {
         ensures call { IsCall result self.old self.new }
         ensures durable { OnOk result (durable_of self.new ≡ bytes_of self.old) }
         ensures same { bytes_of self.new ≡ bytes_of self.old }
-        ensures nothing_pending { OnOk result (Only (bytes_of self.new) (may_leave_in self.new.medium)) }
+        ensures nothing_pending { OnOk result
+            (Only (bytes_of self.new) (may_leave_in self.new.medium)) }
         ensures err { OnErr result (self.new.medium ≡ self.old.medium) }
-        ensures crash { (c : List ℕ) → may_leave_in self.new.medium c → may_leave_in self.old.medium c }
-        ensures time { Elapses (moment_in self.old.medium) (moment_in self.new.medium) (left_in self.old.medium) (left_in self.new.medium) (may_leave_in self.new.medium) }
+        ensures crash { (c : List ℕ)
+            → may_leave_in self.new.medium c → may_leave_in self.old.medium c }
+        ensures time { Elapses (moment_in self.old.medium) (moment_in self.new.medium)
+            (left_in self.old.medium) (left_in self.new.medium) (may_leave_in self.new.medium) }
         ensures no_memory { IsErrOf result DiskFault.NoMemory → ⊥ }
         ensures cause { FailsByCount result (faults_of self.old) (faults_of self.new) }
     {
@@ -217,7 +228,8 @@ impl Disk for MemoryDisk {
         ensures same_troubles { troubles_of self.new ≡ troubles_of self.old }
         ensures same_image { image_of self.new ≡ image_of self.old }
         ensures faults { faults_of self.new ≡ faults_of self.old }
-        ensures time { Elapses (moment_in self.old.medium) (moment_in self.new.medium) (left_in self.old.medium) (left_in self.new.medium) (may_leave_in self.new.medium) }
+        ensures time { Elapses (moment_in self.old.medium) (moment_in self.new.medium)
+            (left_in self.old.medium) (left_in self.new.medium) (may_leave_in self.new.medium) }
     {
         self.stopped = false;
         self.medium.crash(self.image);
@@ -226,7 +238,8 @@ impl Disk for MemoryDisk {
     fn forget_past(&mut self)
         ensures forgotten { moment_in self.old.medium < 2 ^ 64 → epochs_in self.new.medium ≡ 0 }
         ensures bytes { bytes_of self.new ≡ bytes_of self.old }
-        ensures outcomes { (c : List ℕ) → may_leave_in self.new.medium c → may_leave_in self.old.medium c }
+        ensures outcomes { (c : List ℕ)
+            → may_leave_in self.new.medium c → may_leave_in self.old.medium c }
         ensures durable { durable_of self.new ≡ durable_of self.old }
         ensures now { moment_in self.new.medium ≡ moment_in self.old.medium }
         ensures calls { calls_of self.new ≡ calls_of self.old }

@@ -223,7 +223,8 @@ fn u64_at(bytes: &[u8], at: usize) -> u64
 /// The payload of a cell that holds the slot of a key.
 pub fn spell_slot(alloc: Global, key: &Key, slot: &Slot) -> Result<Vec<u8>, AllocError>
     requires { SlotBallotsFit slot.now }
-    ensures spelled { IfOk result (λ bytes. bytes.items ≡ cell_spelling (Some (key.now, slot.now))) }
+    ensures spelled { IfOk result
+        (λ bytes. bytes.items ≡ cell_spelling (Some (key.now, slot.now))) }
     ensures fits { OnOk result (FitsSlot slot.now) }
     ensures key { IsKey key.now }
 {

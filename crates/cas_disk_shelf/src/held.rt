@@ -76,7 +76,8 @@ impl Held {
 
     /// The first `most` keys above this one, or the first `most` of all, in the order of their bytes.
     pub fn keys_after(&self, after: Option<&Key>, most: usize) -> Result<Vec<Key>, AllocError>
-        ensures { IfOk result (λ keys. keys.items ≡ take most (keys_above self.now.slots (option_copied after.entry))) }
+        ensures { IfOk result (λ keys. keys.items ≡ take most
+            (keys_above self.now.slots (option_copied after.entry))) }
     {
         keys_after(self.alloc, &self.slots, after, most)
     }
@@ -84,7 +85,8 @@ impl Held {
     /// Puts the slot at the key, in the place of the one that was there. Only a new key may find no memory, and then nothing changes.
     pub fn insert(&mut self, key: Key, slot: Slot) -> Result<(), AllocError>
         ensures ok { OnOk result (self.new ≡ with_kept self.old key slot) }
-        ensures len { OnOk result (slot_count self.new.slots ≡ slot_count self.old.slots + (if is_some (kept_at self.old key) then 0 else 1)) }
+        ensures len { OnOk result (slot_count self.new.slots
+            ≡ slot_count self.old.slots + (if is_some (kept_at self.old key) then 0 else 1)) }
         ensures err { OnErr result (self.new ≡ self.old) }
         ensures absent { OnErr result (kept_at self.old key ≡ None) }
     {

@@ -56,7 +56,8 @@ impl Memory {
         requires new { is_free self.old cell ≡ false }
         ensures held { self.new.held ≡ self.old.held }
         ensures index { self.new.index ≡ self.old.index }
-        ensures free { OnOk result ((i : ℕ) → is_free self.new i ≡ freed (is_free self.old) cell i) }
+        ensures free { OnOk result ((i : ℕ)
+            → is_free self.new i ≡ freed (is_free self.old) cell i) }
         ensures len { OnOk result (btree_set_len self.new.free ≡ btree_set_len self.old.free + 1) }
     {
         match self.free.insert(cell) {
@@ -100,11 +101,14 @@ impl Loaded {
     fn add_wide(&mut self, key: Key, slot: Slot, cell: u32) -> Result<(), AllocError>
         requires new { cell_of self.old.memory key ≡ None }
         requires empty { kept_at self.old.memory.held key ≡ None }
-        ensures held { OnOk result (self.new.memory.held ≡ with_kept self.old.memory.held key slot) }
-        ensures index { OnOk result ((q : List ℕ) → cell_of self.new.memory q ≡ moved (cell_of self.old.memory) key cell q) }
+        ensures held { OnOk result
+            (self.new.memory.held ≡ with_kept self.old.memory.held key slot) }
+        ensures index { OnOk result ((q : List ℕ)
+            → cell_of self.new.memory q ≡ moved (cell_of self.old.memory) key cell q) }
         ensures free { self.new.memory.free ≡ self.old.memory.free }
         ensures alone { self.new.alone ≡ self.old.alone }
-        ensures counted { OnOk result ((wide : ℕ) → AreCounted self.old wide → AreCounted self.new (wide + 1)) }
+        ensures counted { OnOk result ((wide : ℕ)
+            → AreCounted self.old wide → AreCounted self.new (wide + 1)) }
     {
         self.memory.held.insert(key.copy()?, slot)?;
         match self.memory.index.insert(key, cell) {
@@ -117,11 +121,14 @@ impl Loaded {
     fn add_narrow(&mut self, key: Key, slot: Slot, cell: u32) -> Result<(), AllocError>
         requires new { alone_in self.old key ≡ None }
         requires empty { kept_at self.old.memory.held key ≡ None }
-        ensures held { OnOk result (self.new.memory.held ≡ with_kept self.old.memory.held key slot) }
+        ensures held { OnOk result
+            (self.new.memory.held ≡ with_kept self.old.memory.held key slot) }
         ensures index { self.new.memory.index ≡ self.old.memory.index }
         ensures free { self.new.memory.free ≡ self.old.memory.free }
-        ensures alone { OnOk result ((q : List ℕ) → alone_in self.new q ≡ moved (alone_in self.old) key cell q) }
-        ensures counted { OnOk result ((wide : ℕ) → AreCounted self.old wide → AreCounted self.new wide) }
+        ensures alone { OnOk result ((q : List ℕ)
+            → alone_in self.new q ≡ moved (alone_in self.old) key cell q) }
+        ensures counted { OnOk result ((wide : ℕ)
+            → AreCounted self.old wide → AreCounted self.new wide) }
     {
         self.memory.held.insert(key.copy()?, slot)?;
         match self.alone.insert(key, cell) {
@@ -135,10 +142,13 @@ impl Loaded {
         requires new { cell_of self.old.memory key ≡ None }
         requires alone { (n : ℕ) × (alone_in self.old key ≡ Some n) }
         ensures held { self.new.memory.held ≡ self.old.memory.held }
-        ensures index { OnOk result ((q : List ℕ) → cell_of self.new.memory q ≡ moved (cell_of self.old.memory) key cell q) }
+        ensures index { OnOk result ((q : List ℕ)
+            → cell_of self.new.memory q ≡ moved (cell_of self.old.memory) key cell q) }
         ensures free { self.new.memory.free ≡ self.old.memory.free }
-        ensures alone { OnOk result ((q : List ℕ) → alone_in self.new q ≡ removed (alone_in self.old) key q) }
-        ensures counted { OnOk result ((wide : ℕ) → AreCounted self.old wide → AreCounted self.new (wide + 1)) }
+        ensures alone { OnOk result ((q : List ℕ)
+            → alone_in self.new q ≡ removed (alone_in self.old) key q) }
+        ensures counted { OnOk result ((wide : ℕ)
+            → AreCounted self.old wide → AreCounted self.new (wide + 1)) }
     {
         self.alone.swap_remove(&key);
         match self.memory.index.insert(key, cell) {
@@ -154,7 +164,8 @@ pub fn load<D: Disk>(alloc: Global, cells: &Cells<D>) -> Result<Loaded, ShelfFau
     requires { CellsStand D.tells D.seen D.may_leave cells.now }
     ensures read { IfOk result (IsReadFrom (cells_of cells.now)) }
     ensures fits { IfOk result (λ loaded. AllBallotsFit loaded.memory.held) }
-    ensures foreign { D.tells → (at : ℕ) → IsErrOf result (ShelfFault.Foreign at) → left_in (place_on (D.seen (disk_of cells.now))) (cells_of cells.now) ≡ Err at }
+    ensures foreign { D.tells → (at : ℕ) → IsErrOf result (ShelfFault.Foreign at)
+        → left_in (place_on (D.seen (disk_of cells.now))) (cells_of cells.now) ≡ Err at }
     ensures other { IsOfLoading result }
 {
     let head = load_head(cells)?;
@@ -169,7 +180,8 @@ pub fn load<D: Disk>(alloc: Global, cells: &Cells<D>) -> Result<Loaded, ShelfFau
 fn load_head<D: Disk>(cells: &Cells<D>) -> Result<Head, ShelfFault>
     requires { CellsStand D.tells D.seen D.may_leave cells.now }
     ensures head { IfOk result (IsHeadOf (cells_of cells.now)) }
-    ensures foreign { D.tells → (at : ℕ) → IsErrOf result (ShelfFault.Foreign at) → left_in (place_on (D.seen (disk_of cells.now))) (cells_of cells.now) ≡ Err at }
+    ensures foreign { D.tells → (at : ℕ) → IsErrOf result (ShelfFault.Foreign at)
+        → left_in (place_on (D.seen (disk_of cells.now))) (cells_of cells.now) ≡ Err at }
     ensures other { IsOfLoading result }
 {
     let Some(payload) = cells.payload(0) else {
@@ -209,7 +221,9 @@ fn load_cell<D: Disk>(
     ensures loaded { OnOk result (IsLoadedFrom (cells_of cells.now) (so_many + 1) loaded.new) }
     ensures read { OnOk result (IsReadTo (cells_of cells.now) (so_many + 1) loaded.new) }
     ensures ages { OnOk result (loaded.new.memory.held.ages ≡ loaded.old.memory.held.ages) }
-    ensures foreign { D.tells → (at : ℕ) → IsErrOf result (ShelfFault.Foreign at) → read_cells (cells_of cells.now) (place_on (D.seen (disk_of cells.now))) (so_many + 1) ≡ Err at }
+    ensures foreign { D.tells → (at : ℕ) → IsErrOf result (ShelfFault.Foreign at)
+        → read_cells (cells_of cells.now) (place_on (D.seen (disk_of cells.now))) (so_many + 1)
+        ≡ Err at }
     ensures other { IsOfLoading result }
 {
     let cell = so_many + 1;
@@ -254,7 +268,8 @@ fn take_in<D: Disk>(
 ) -> Result<(), ShelfFault>
     requires stands { CellsStand D.tells D.seen D.may_leave cells.now }
     requires within { so_many < count_in (cells_of cells.now) }
-    requires holds { entry_held (cell_in (cells_of cells.now) (so_many + 1)) ≡ Ok (Some (key, slot)) }
+    requires holds { entry_held (cell_in (cells_of cells.now) (so_many + 1))
+        ≡ Ok (Some (key, slot)) }
     requires slot_fits { SlotBallotsFit slot }
     requires loaded { IsLoadedFrom (cells_of cells.now) so_many loaded.old }
     requires read { IsReadTo (cells_of cells.now) so_many loaded.old }
@@ -263,7 +278,9 @@ fn take_in<D: Disk>(
     ensures loaded { OnOk result (IsLoadedFrom (cells_of cells.now) (so_many + 1) loaded.new) }
     ensures read { OnOk result (IsReadTo (cells_of cells.now) (so_many + 1) loaded.new) }
     ensures ages { OnOk result (loaded.new.memory.held.ages ≡ loaded.old.memory.held.ages) }
-    ensures foreign { D.tells → (at : ℕ) → IsErrOf result (ShelfFault.Foreign at) → read_cells (cells_of cells.now) (place_on (D.seen (disk_of cells.now))) (so_many + 1) ≡ Err at }
+    ensures foreign { D.tells → (at : ℕ) → IsErrOf result (ShelfFault.Foreign at)
+        → read_cells (cells_of cells.now) (place_on (D.seen (disk_of cells.now))) (so_many + 1)
+        ≡ Err at }
     ensures other { IsOfLoading result }
 {
     let cell = so_many + 1;
@@ -296,7 +313,8 @@ fn is_twin<D: Disk>(loaded: &Loaded, cells: &Cells<D>, cell: u32, key: &Key) -> 
 
 /// Whether two cells have the same payload.
 fn same_payload<D: Disk>(cells: &Cells<D>, one: u32, other: u32) -> bool
-    ensures { result ≡ same_payload (cell_in (cells_of cells.now) one) (cell_in (cells_of cells.now) other) }
+    ensures { result
+        ≡ same_payload (cell_in (cells_of cells.now) one) (cell_in (cells_of cells.now) other) }
 {
     match (cells.payload(one), cells.payload(other)) {
         (Some(payload), Some(second)) => payload == second,

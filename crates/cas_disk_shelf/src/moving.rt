@@ -33,13 +33,18 @@ pub fn move_slots<D: Disk>(
     requires moving { IsMoving (cells_of cells.old) loaded.old }
     ensures stands { OnOk result (CellsStand D.tells D.seen D.may_leave cells.new) }
     ensures moving { OnOk result (IsMoving (cells_of cells.new) loaded.new) }
-    ensures cleared { OnOk result (AreCleared (cells_of cells.new) (narrow_in (cells_of cells.new))) }
+    ensures cleared { OnOk result
+        (AreCleared (cells_of cells.new) (narrow_in (cells_of cells.new))) }
     ensures narrow { narrow_in (cells_of cells.new) ≡ narrow_in (cells_of cells.old) }
     ensures held { loaded.new.memory.held ≡ loaded.old.memory.held }
-    ensures any_moment { D.tells → ContinuesOnly D.moment D.left_since (disk_of cells.old) (disk_of cells.new) (λ c. left_on c ≡ Ok loaded.old.memory.held) }
-    ensures length { D.tells → NotLonger D.moment D.left_since D.may_leave (disk_of cells.old) (disk_of cells.new) (1024 * (1 + narrow_in (cells_of cells.old)) + 9216 * (slot_count loaded.old.memory.held.slots + 1)) }
+    ensures any_moment { D.tells → ContinuesOnly D.moment D.left_since
+        (disk_of cells.old) (disk_of cells.new) (λ c. left_on c ≡ Ok loaded.old.memory.held) }
+    ensures length { D.tells → NotLonger D.moment D.left_since D.may_leave (disk_of cells.old)
+        (disk_of cells.new) (1024 * (1 + narrow_in (cells_of cells.old)) + 9216 *
+        (slot_count loaded.old.memory.held.slots + 1)) }
     ensures other { IsNeitherFullNorForeign result }
-    ensures cause { HasShelfCause result (D.fault_count (disk_of cells.old)) (D.fault_count (disk_of cells.new)) }
+    ensures cause { HasShelfCause result
+        (D.fault_count (disk_of cells.old)) (D.fault_count (disk_of cells.new)) }
 {
     for i in 0..cells.narrow_count() {
         move_slot(alloc, cells, loaded, i + 1)?;
@@ -64,10 +69,14 @@ fn move_slot<D: Disk>(
     ensures cleared { OnOk result (AreCleared (cells_of cells.new) narrow) }
     ensures narrow { narrow_in (cells_of cells.new) ≡ narrow_in (cells_of cells.old) }
     ensures held { loaded.new.memory.held ≡ loaded.old.memory.held }
-    ensures any_moment { D.tells → ContinuesOnly D.moment D.left_since (disk_of cells.old) (disk_of cells.new) (λ c. left_on c ≡ Ok loaded.old.memory.held) }
-    ensures length { D.tells → NotLonger D.moment D.left_since D.may_leave (disk_of cells.old) (disk_of cells.new) (1024 * (1 + narrow_in (cells_of cells.old)) + 9216 * (slot_count loaded.old.memory.held.slots + 1)) }
+    ensures any_moment { D.tells → ContinuesOnly D.moment D.left_since
+        (disk_of cells.old) (disk_of cells.new) (λ c. left_on c ≡ Ok loaded.old.memory.held) }
+    ensures length { D.tells → NotLonger D.moment D.left_since D.may_leave (disk_of cells.old)
+        (disk_of cells.new) (1024 * (1 + narrow_in (cells_of cells.old)) + 9216 *
+        (slot_count loaded.old.memory.held.slots + 1)) }
     ensures other { IsNeitherFullNorForeign result }
-    ensures cause { HasShelfCause result (D.fault_count (disk_of cells.old)) (D.fault_count (disk_of cells.new)) }
+    ensures cause { HasShelfCause result
+        (D.fault_count (disk_of cells.old)) (D.fault_count (disk_of cells.new)) }
 {
     let Some(payload) = cells.payload(narrow) else {
         return Ok(());
@@ -102,12 +111,17 @@ fn copy_slot<D: Disk>(
     ensures moving { OnOk result (IsMoving (cells_of cells.new) loaded.new) }
     ensures wide { OnOk result (alone_in loaded.new key ≡ None) }
     ensures narrow { narrow_in (cells_of cells.new) ≡ narrow_in (cells_of cells.old) }
-    ensures others { OnOk result ((i : ℕ) → 0 < i → i ≤ narrow_in (cells_of cells.old) → cell_in (cells_of cells.new) i ≡ cell_in (cells_of cells.old) i) }
+    ensures others { OnOk result ((i : ℕ) → 0 < i → i ≤ narrow_in (cells_of cells.old)
+        → cell_in (cells_of cells.new) i ≡ cell_in (cells_of cells.old) i) }
     ensures held { loaded.new.memory.held ≡ loaded.old.memory.held }
-    ensures any_moment { D.tells → ContinuesOnly D.moment D.left_since (disk_of cells.old) (disk_of cells.new) (λ c. left_on c ≡ Ok loaded.old.memory.held) }
-    ensures length { D.tells → NotLonger D.moment D.left_since D.may_leave (disk_of cells.old) (disk_of cells.new) (1024 * (1 + narrow_in (cells_of cells.old)) + 9216 * (slot_count loaded.old.memory.held.slots + 1)) }
+    ensures any_moment { D.tells → ContinuesOnly D.moment D.left_since
+        (disk_of cells.old) (disk_of cells.new) (λ c. left_on c ≡ Ok loaded.old.memory.held) }
+    ensures length { D.tells → NotLonger D.moment D.left_since D.may_leave (disk_of cells.old)
+        (disk_of cells.new) (1024 * (1 + narrow_in (cells_of cells.old)) + 9216 *
+        (slot_count loaded.old.memory.held.slots + 1)) }
     ensures other { IsNeitherFullNorForeign result }
-    ensures cause { HasShelfCause result (D.fault_count (disk_of cells.old)) (D.fault_count (disk_of cells.new)) }
+    ensures cause { HasShelfCause result
+        (D.fault_count (disk_of cells.old)) (D.fault_count (disk_of cells.new)) }
 {
     let Some(_from) = loaded.alone_in(&key) else {
         return Ok(());
@@ -130,12 +144,17 @@ fn unused_cell<D: Disk>(cells: &mut Cells<D>, loaded: &mut Loaded) -> Result<u32
     ensures index { loaded.new.memory.index ≡ loaded.old.memory.index }
     ensures alone { loaded.new.alone ≡ loaded.old.alone }
     ensures narrow { narrow_in (cells_of cells.new) ≡ narrow_in (cells_of cells.old) }
-    ensures others { OnOk result ((i : ℕ) → 0 < i → i ≤ narrow_in (cells_of cells.old) → cell_in (cells_of cells.new) i ≡ cell_in (cells_of cells.old) i) }
+    ensures others { OnOk result ((i : ℕ) → 0 < i → i ≤ narrow_in (cells_of cells.old)
+        → cell_in (cells_of cells.new) i ≡ cell_in (cells_of cells.old) i) }
     ensures held { loaded.new.memory.held ≡ loaded.old.memory.held }
-    ensures any_moment { D.tells → ContinuesOnly D.moment D.left_since (disk_of cells.old) (disk_of cells.new) (λ c. left_on c ≡ Ok loaded.old.memory.held) }
-    ensures length { D.tells → NotLonger D.moment D.left_since D.may_leave (disk_of cells.old) (disk_of cells.new) (1024 * (1 + narrow_in (cells_of cells.old)) + 9216 * (slot_count loaded.old.memory.held.slots + 1)) }
+    ensures any_moment { D.tells → ContinuesOnly D.moment D.left_since
+        (disk_of cells.old) (disk_of cells.new) (λ c. left_on c ≡ Ok loaded.old.memory.held) }
+    ensures length { D.tells → NotLonger D.moment D.left_since D.may_leave (disk_of cells.old)
+        (disk_of cells.new) (1024 * (1 + narrow_in (cells_of cells.old)) + 9216 *
+        (slot_count loaded.old.memory.held.slots + 1)) }
     ensures other { IsNeitherFullNorForeign result }
-    ensures cause { HasShelfCause result (D.fault_count (disk_of cells.old)) (D.fault_count (disk_of cells.new)) }
+    ensures cause { HasShelfCause result
+        (D.fault_count (disk_of cells.old)) (D.fault_count (disk_of cells.new)) }
 {
     match loaded.memory.free.first() {
         Some(cell) => Ok(*cell),
@@ -154,12 +173,17 @@ fn grow<D: Disk>(cells: &mut Cells<D>, loaded: &mut Loaded) -> Result<u32, Shelf
     ensures index { loaded.new.memory.index ≡ loaded.old.memory.index }
     ensures alone { loaded.new.alone ≡ loaded.old.alone }
     ensures narrow { narrow_in (cells_of cells.new) ≡ narrow_in (cells_of cells.old) }
-    ensures others { OnOk result ((i : ℕ) → 0 < i → i ≤ narrow_in (cells_of cells.old) → cell_in (cells_of cells.new) i ≡ cell_in (cells_of cells.old) i) }
+    ensures others { OnOk result ((i : ℕ) → 0 < i → i ≤ narrow_in (cells_of cells.old)
+        → cell_in (cells_of cells.new) i ≡ cell_in (cells_of cells.old) i) }
     ensures held { loaded.new.memory.held ≡ loaded.old.memory.held }
-    ensures any_moment { D.tells → ContinuesOnly D.moment D.left_since (disk_of cells.old) (disk_of cells.new) (λ c. left_on c ≡ Ok loaded.old.memory.held) }
-    ensures length { D.tells → NotLonger D.moment D.left_since D.may_leave (disk_of cells.old) (disk_of cells.new) (1024 * (1 + narrow_in (cells_of cells.old)) + 9216 * (slot_count loaded.old.memory.held.slots + 1)) }
+    ensures any_moment { D.tells → ContinuesOnly D.moment D.left_since
+        (disk_of cells.old) (disk_of cells.new) (λ c. left_on c ≡ Ok loaded.old.memory.held) }
+    ensures length { D.tells → NotLonger D.moment D.left_since D.may_leave (disk_of cells.old)
+        (disk_of cells.new) (1024 * (1 + narrow_in (cells_of cells.old)) + 9216 *
+        (slot_count loaded.old.memory.held.slots + 1)) }
     ensures other { IsNeitherFullNorForeign result }
-    ensures cause { HasShelfCause result (D.fault_count (disk_of cells.old)) (D.fault_count (disk_of cells.new)) }
+    ensures cause { HasShelfCause result
+        (D.fault_count (disk_of cells.old)) (D.fault_count (disk_of cells.new)) }
 {
     let cell = cells.count() + 1;
     loaded.memory.free.insert(cell)?;

@@ -52,7 +52,8 @@ impl<D: Disk> DiskShelf<D> {
     pub fn over(alloc: Global, disk: D) -> DiskShelf<D>
         ensures disk { disk_of result ≡ disk }
         ensures contents { contents_of result ≡ nothing }
-        ensures length { (taken most : ℕ) → AllWithin taken (D.may_leave disk) → HoldsAtMost D.may_leave most result → IsShort D.may_leave taken 0 most result }
+        ensures length { (taken most : ℕ) → AllWithin taken (D.may_leave disk)
+            → HoldsAtMost D.may_leave most result → IsShort D.may_leave taken 0 most result }
     {
         DiskShelf {
             alloc,
@@ -65,8 +66,10 @@ impl<D: Disk> DiskShelf<D> {
     /// that is up its contents, and nothing else.
     pub fn into_disk(self) -> D
         ensures disk { result ≡ disk_of self }
-        ensures left { (c : List ℕ) → D.may_leave result c → ShelfMayLeave D.may_leave self (left_on c) }
-        ensures spelled { D.tells → ShelfIsUp D.tells D.seen D.may_leave self → (c : List ℕ) → D.may_leave result c → left_on c ≡ Ok (contents_of self) }
+        ensures left { (c : List ℕ)
+            → D.may_leave result c → ShelfMayLeave D.may_leave self (left_on c) }
+        ensures spelled { D.tells → ShelfIsUp D.tells D.seen D.may_leave self
+            → (c : List ℕ) → D.may_leave result c → left_on c ≡ Ok (contents_of self) }
     {
         self.cells.into_disk()
     }
@@ -75,17 +78,28 @@ impl<D: Disk> DiskShelf<D> {
     fn keep(&mut self, key: &Key, slot: Slot) -> Result<(), ShelfFault>
         requires up { ShelfIsUp D.tells D.seen D.may_leave self.old }
         requires fits { SlotBallotsFit slot }
-        ensures ok { OnOk result (contents_of self.new ≡ with_kept (contents_of self.old) key.now slot) }
+        ensures ok { OnOk result
+            (contents_of self.new ≡ with_kept (contents_of self.old) key.now slot) }
         ensures err { OnErr result (contents_of self.new ≡ contents_of self.old) }
         ensures up { OnOk result (ShelfIsUp D.tells D.seen D.may_leave self.new) }
-        ensures up_still { IsErrOf result ShelfFault.NoMemory → ShelfIsUp D.tells D.seen D.may_leave self.new }
-        ensures full { IsErrOf result ShelfFault.Full ↔ IsFullFor (contents_of self.old).slots key.now }
-        ensures up_when_full { IsErrOf result ShelfFault.Full → ShelfIsUp D.tells D.seen D.may_leave self.new }
-        ensures untouched_when_full { D.tells → IsErrOf result ShelfFault.Full → ShelfContinuesOnly D.moment D.left_since (disk_of self.old) (disk_of self.new) (λ left. left ≡ Ok (contents_of self.old)) }
+        ensures up_still { IsErrOf result ShelfFault.NoMemory
+            → ShelfIsUp D.tells D.seen D.may_leave self.new }
+        ensures full { IsErrOf result ShelfFault.Full ↔ IsFullFor
+            (contents_of self.old).slots key.now }
+        ensures up_when_full { IsErrOf result ShelfFault.Full
+            → ShelfIsUp D.tells D.seen D.may_leave self.new }
+        ensures untouched_when_full { D.tells
+            → IsErrOf result ShelfFault.Full → ShelfContinuesOnly D.moment D.left_since
+            (disk_of self.old) (disk_of self.new) (λ left. left ≡ Ok (contents_of self.old)) }
         ensures not_foreign { (at : ℕ) → IsErrOf result (ShelfFault.Foreign at) → ⊥ }
-        ensures any_moment { D.tells → ShelfContinuesOnly D.moment D.left_since (disk_of self.old) (disk_of self.new) (IsOldOrNew (contents_of self.old) (with_kept (contents_of self.old) key.now slot)) }
-        ensures length { D.tells → NotLonger D.moment D.left_since D.may_leave (disk_of self.old) (disk_of self.new) (1024 * (1 + narrow_of self.old) + 9216 * (slot_count (contents_of self.old).slots + 1)) }
-        ensures cause { HasShelfCause result (D.fault_count (disk_of self.old)) (D.fault_count (disk_of self.new)) }
+        ensures any_moment { D.tells
+            → ShelfContinuesOnly D.moment D.left_since (disk_of self.old) (disk_of self.new)
+            (IsOldOrNew (contents_of self.old) (with_kept (contents_of self.old) key.now slot)) }
+        ensures length { D.tells → NotLonger D.moment D.left_since D.may_leave
+            (disk_of self.old) (disk_of self.new) (1024 *
+            (1 + narrow_of self.old) + 9216 * (slot_count (contents_of self.old).slots + 1)) }
+        ensures cause { HasShelfCause result
+            (D.fault_count (disk_of self.old)) (D.fault_count (disk_of self.new)) }
     {
         match self.memory.cell_of(key) {
             Some(cell) => self.rewrite(cell, key, slot),
@@ -103,14 +117,20 @@ impl<D: Disk> DiskShelf<D> {
         requires up { ShelfIsUp D.tells D.seen D.may_leave self.old }
         requires own { cell_of self.old.memory key.now ≡ Some cell }
         requires fits { SlotBallotsFit slot }
-        ensures ok { OnOk result (contents_of self.new ≡ with_kept (contents_of self.old) key.now slot) }
+        ensures ok { OnOk result
+            (contents_of self.new ≡ with_kept (contents_of self.old) key.now slot) }
         ensures err { OnErr result (contents_of self.new ≡ contents_of self.old) }
         ensures up { OnOk result (ShelfIsUp D.tells D.seen D.may_leave self.new) }
-        ensures up_still { IsErrOf result ShelfFault.NoMemory → ShelfIsUp D.tells D.seen D.may_leave self.new }
-        ensures any_moment { D.tells → ShelfContinuesOnly D.moment D.left_since (disk_of self.old) (disk_of self.new) (IsOldOrNew (contents_of self.old) (with_kept (contents_of self.old) key.now slot)) }
-        ensures length { D.tells → NotLonger D.moment D.left_since D.may_leave (disk_of self.old) (disk_of self.new) 0 }
+        ensures up_still { IsErrOf result ShelfFault.NoMemory
+            → ShelfIsUp D.tells D.seen D.may_leave self.new }
+        ensures any_moment { D.tells
+            → ShelfContinuesOnly D.moment D.left_since (disk_of self.old) (disk_of self.new)
+            (IsOldOrNew (contents_of self.old) (with_kept (contents_of self.old) key.now slot)) }
+        ensures length { D.tells
+            → NotLonger D.moment D.left_since D.may_leave (disk_of self.old) (disk_of self.new) 0 }
         ensures other { IsNeitherFullNorForeign result }
-        ensures cause { HasShelfCause result (D.fault_count (disk_of self.old)) (D.fault_count (disk_of self.new)) }
+        ensures cause { HasShelfCause result
+            (D.fault_count (disk_of self.old)) (D.fault_count (disk_of self.new)) }
     {
         let payload = spell_slot(self.alloc, key, &slot)?;
         let own = key.copy()?;
@@ -126,14 +146,21 @@ impl<D: Disk> DiskShelf<D> {
         requires new { cell_of self.old.memory key.now ≡ None }
         requires room { slot_count (contents_of self.old).slots < 4096 }
         requires fits { SlotBallotsFit slot }
-        ensures ok { OnOk result (contents_of self.new ≡ with_kept (contents_of self.old) key.now slot) }
+        ensures ok { OnOk result
+            (contents_of self.new ≡ with_kept (contents_of self.old) key.now slot) }
         ensures err { OnErr result (contents_of self.new ≡ contents_of self.old) }
         ensures up { OnOk result (ShelfIsUp D.tells D.seen D.may_leave self.new) }
-        ensures up_still { IsErrOf result ShelfFault.NoMemory → ShelfIsUp D.tells D.seen D.may_leave self.new }
-        ensures any_moment { D.tells → ShelfContinuesOnly D.moment D.left_since (disk_of self.old) (disk_of self.new) (IsOldOrNew (contents_of self.old) (with_kept (contents_of self.old) key.now slot)) }
-        ensures length { D.tells → NotLonger D.moment D.left_since D.may_leave (disk_of self.old) (disk_of self.new) (1024 * (1 + narrow_of self.old) + 9216 * (slot_count (contents_of self.old).slots + 1)) }
+        ensures up_still { IsErrOf result ShelfFault.NoMemory
+            → ShelfIsUp D.tells D.seen D.may_leave self.new }
+        ensures any_moment { D.tells
+            → ShelfContinuesOnly D.moment D.left_since (disk_of self.old) (disk_of self.new)
+            (IsOldOrNew (contents_of self.old) (with_kept (contents_of self.old) key.now slot)) }
+        ensures length { D.tells → NotLonger D.moment D.left_since D.may_leave
+            (disk_of self.old) (disk_of self.new) (1024 *
+            (1 + narrow_of self.old) + 9216 * (slot_count (contents_of self.old).slots + 1)) }
         ensures other { IsNeitherFullNorForeign result }
-        ensures cause { HasShelfCause result (D.fault_count (disk_of self.old)) (D.fault_count (disk_of self.new)) }
+        ensures cause { HasShelfCause result
+            (D.fault_count (disk_of self.old)) (D.fault_count (disk_of self.new)) }
     {
         let cell = self.unused_cell()?;
         self.add_at(cell, key, slot)
@@ -146,14 +173,20 @@ impl<D: Disk> DiskShelf<D> {
         requires room { slot_count (contents_of self.old).slots < 4096 }
         requires free { is_free self.old.memory cell ≡ true }
         requires fits { SlotBallotsFit slot }
-        ensures ok { OnOk result (contents_of self.new ≡ with_kept (contents_of self.old) key.now slot) }
+        ensures ok { OnOk result
+            (contents_of self.new ≡ with_kept (contents_of self.old) key.now slot) }
         ensures err { OnErr result (contents_of self.new ≡ contents_of self.old) }
         ensures up { OnOk result (ShelfIsUp D.tells D.seen D.may_leave self.new) }
-        ensures up_still { IsErrOf result ShelfFault.NoMemory → ShelfIsUp D.tells D.seen D.may_leave self.new }
-        ensures any_moment { D.tells → ShelfContinuesOnly D.moment D.left_since (disk_of self.old) (disk_of self.new) (IsOldOrNew (contents_of self.old) (with_kept (contents_of self.old) key.now slot)) }
-        ensures length { D.tells → NotLonger D.moment D.left_since D.may_leave (disk_of self.old) (disk_of self.new) 0 }
+        ensures up_still { IsErrOf result ShelfFault.NoMemory
+            → ShelfIsUp D.tells D.seen D.may_leave self.new }
+        ensures any_moment { D.tells
+            → ShelfContinuesOnly D.moment D.left_since (disk_of self.old) (disk_of self.new)
+            (IsOldOrNew (contents_of self.old) (with_kept (contents_of self.old) key.now slot)) }
+        ensures length { D.tells
+            → NotLonger D.moment D.left_since D.may_leave (disk_of self.old) (disk_of self.new) 0 }
         ensures other { IsNeitherFullNorForeign result }
-        ensures cause { HasShelfCause result (D.fault_count (disk_of self.old)) (D.fault_count (disk_of self.new)) }
+        ensures cause { HasShelfCause result
+            (D.fault_count (disk_of self.old)) (D.fault_count (disk_of self.new)) }
     {
         let payload = spell_slot(self.alloc, key, &slot)?;
         let own = key.copy()?;
@@ -176,13 +209,19 @@ impl<D: Disk> DiskShelf<D> {
         ensures contents { contents_of self.new ≡ contents_of self.old }
         ensures index { self.new.memory.index ≡ self.old.memory.index }
         ensures free { IfOk result (λ cell. is_free self.new.memory cell ≡ true) }
-        ensures least { IfOk result (λ cell. (other : ℕ) → is_free self.old.memory other ≡ true → cell ≤ other) }
+        ensures least { IfOk result (λ cell. (other : ℕ)
+            → is_free self.old.memory other ≡ true → cell ≤ other) }
         ensures up { OnOk result (ShelfIsUp D.tells D.seen D.may_leave self.new) }
-        ensures up_still { IsErrOf result ShelfFault.NoMemory → ShelfIsUp D.tells D.seen D.may_leave self.new }
-        ensures any_moment { D.tells → ShelfContinuesOnly D.moment D.left_since (disk_of self.old) (disk_of self.new) (λ left. left ≡ Ok (contents_of self.old)) }
-        ensures length { D.tells → NotLonger D.moment D.left_since D.may_leave (disk_of self.old) (disk_of self.new) (1024 * (1 + narrow_of self.old) + 9216 * (slot_count (contents_of self.old).slots + 1)) }
+        ensures up_still { IsErrOf result ShelfFault.NoMemory
+            → ShelfIsUp D.tells D.seen D.may_leave self.new }
+        ensures any_moment { D.tells → ShelfContinuesOnly D.moment D.left_since
+            (disk_of self.old) (disk_of self.new) (λ left. left ≡ Ok (contents_of self.old)) }
+        ensures length { D.tells → NotLonger D.moment D.left_since D.may_leave
+            (disk_of self.old) (disk_of self.new) (1024 *
+            (1 + narrow_of self.old) + 9216 * (slot_count (contents_of self.old).slots + 1)) }
         ensures other { IsNeitherFullNorForeign result }
-        ensures cause { HasShelfCause result (D.fault_count (disk_of self.old)) (D.fault_count (disk_of self.new)) }
+        ensures cause { HasShelfCause result
+            (D.fault_count (disk_of self.old)) (D.fault_count (disk_of self.new)) }
     {
         match self.memory.free.first() {
             Some(cell) => Ok(*cell),
@@ -198,11 +237,16 @@ impl<D: Disk> DiskShelf<D> {
         ensures index { self.new.memory.index ≡ self.old.memory.index }
         ensures free { IfOk result (λ cell. is_free self.new.memory cell ≡ true) }
         ensures up { OnOk result (ShelfIsUp D.tells D.seen D.may_leave self.new) }
-        ensures up_still { IsErrOf result ShelfFault.NoMemory → ShelfIsUp D.tells D.seen D.may_leave self.new }
-        ensures any_moment { D.tells → ShelfContinuesOnly D.moment D.left_since (disk_of self.old) (disk_of self.new) (λ left. left ≡ Ok (contents_of self.old)) }
-        ensures length { D.tells → NotLonger D.moment D.left_since D.may_leave (disk_of self.old) (disk_of self.new) (1024 * (1 + narrow_of self.old) + 9216 * (wide_in (cells_of self.old.cells) + 1)) }
+        ensures up_still { IsErrOf result ShelfFault.NoMemory
+            → ShelfIsUp D.tells D.seen D.may_leave self.new }
+        ensures any_moment { D.tells → ShelfContinuesOnly D.moment D.left_since
+            (disk_of self.old) (disk_of self.new) (λ left. left ≡ Ok (contents_of self.old)) }
+        ensures length { D.tells
+            → NotLonger D.moment D.left_since D.may_leave (disk_of self.old) (disk_of self.new)
+            (1024 * (1 + narrow_of self.old) + 9216 * (wide_in (cells_of self.old.cells) + 1)) }
         ensures other { IsNeitherFullNorForeign result }
-        ensures cause { HasShelfCause result (D.fault_count (disk_of self.old)) (D.fault_count (disk_of self.new)) }
+        ensures cause { HasShelfCause result
+            (D.fault_count (disk_of self.old)) (D.fault_count (disk_of self.new)) }
     {
         let cell = self.cells.count() + 1;
         self.memory.free.insert(cell)?;
@@ -216,14 +260,20 @@ impl<D: Disk> DiskShelf<D> {
     // Removes the slot of a key, if it has one.
     fn release(&mut self, key: &Key) -> Result<(), ShelfFault>
         requires { ShelfIsUp D.tells D.seen D.may_leave self.old }
-        ensures ok { OnOk result (contents_of self.new ≡ without_kept (contents_of self.old) key.now) }
+        ensures ok { OnOk result
+            (contents_of self.new ≡ without_kept (contents_of self.old) key.now) }
         ensures err { OnErr result (contents_of self.new ≡ contents_of self.old) }
         ensures up { OnOk result (ShelfIsUp D.tells D.seen D.may_leave self.new) }
-        ensures up_still { IsErrOf result ShelfFault.NoMemory → ShelfIsUp D.tells D.seen D.may_leave self.new }
+        ensures up_still { IsErrOf result ShelfFault.NoMemory
+            → ShelfIsUp D.tells D.seen D.may_leave self.new }
         ensures other { IsNeitherFullNorForeign result }
-        ensures any_moment { D.tells → ShelfContinuesOnly D.moment D.left_since (disk_of self.old) (disk_of self.new) (IsOldOrNew (contents_of self.old) (without_kept (contents_of self.old) key.now)) }
-        ensures length { D.tells → NotLonger D.moment D.left_since D.may_leave (disk_of self.old) (disk_of self.new) 0 }
-        ensures cause { HasShelfCause result (D.fault_count (disk_of self.old)) (D.fault_count (disk_of self.new)) }
+        ensures any_moment { D.tells
+            → ShelfContinuesOnly D.moment D.left_since (disk_of self.old) (disk_of self.new)
+            (IsOldOrNew (contents_of self.old) (without_kept (contents_of self.old) key.now)) }
+        ensures length { D.tells
+            → NotLonger D.moment D.left_since D.may_leave (disk_of self.old) (disk_of self.new) 0 }
+        ensures cause { HasShelfCause result
+            (D.fault_count (disk_of self.old)) (D.fault_count (disk_of self.new)) }
     {
         match self.memory.cell_of(key) {
             Some(cell) => self.free(cell, key),
@@ -235,14 +285,20 @@ impl<D: Disk> DiskShelf<D> {
     fn free(&mut self, cell: u32, key: &Key) -> Result<(), ShelfFault>
         requires up { ShelfIsUp D.tells D.seen D.may_leave self.old }
         requires own { cell_of self.old.memory key.now ≡ Some cell }
-        ensures ok { OnOk result (contents_of self.new ≡ without_kept (contents_of self.old) key.now) }
+        ensures ok { OnOk result
+            (contents_of self.new ≡ without_kept (contents_of self.old) key.now) }
         ensures err { OnErr result (contents_of self.new ≡ contents_of self.old) }
         ensures up { OnOk result (ShelfIsUp D.tells D.seen D.may_leave self.new) }
-        ensures up_still { IsErrOf result ShelfFault.NoMemory → ShelfIsUp D.tells D.seen D.may_leave self.new }
-        ensures any_moment { D.tells → ShelfContinuesOnly D.moment D.left_since (disk_of self.old) (disk_of self.new) (IsOldOrNew (contents_of self.old) (without_kept (contents_of self.old) key.now)) }
-        ensures length { D.tells → NotLonger D.moment D.left_since D.may_leave (disk_of self.old) (disk_of self.new) 0 }
+        ensures up_still { IsErrOf result ShelfFault.NoMemory
+            → ShelfIsUp D.tells D.seen D.may_leave self.new }
+        ensures any_moment { D.tells
+            → ShelfContinuesOnly D.moment D.left_since (disk_of self.old) (disk_of self.new)
+            (IsOldOrNew (contents_of self.old) (without_kept (contents_of self.old) key.now)) }
+        ensures length { D.tells
+            → NotLonger D.moment D.left_since D.may_leave (disk_of self.old) (disk_of self.new) 0 }
         ensures other { IsNeitherFullNorForeign result }
-        ensures cause { HasShelfCause result (D.fault_count (disk_of self.old)) (D.fault_count (disk_of self.new)) }
+        ensures cause { HasShelfCause result
+            (D.fault_count (disk_of self.old)) (D.fault_count (disk_of self.new)) }
     {
         self.memory.free.insert(cell)?;
         if let Err(fault) = change(&mut self.cells, cell, &FREE) {
@@ -257,14 +313,20 @@ impl<D: Disk> DiskShelf<D> {
     // Sets the least ages.
     fn set_ages(&mut self, ages: Ages) -> Result<(), ShelfFault>
         requires { ShelfIsUp D.tells D.seen D.may_leave self.old }
-        ensures ok { OnOk result (contents_of self.new ≡ record (contents_of self.old) { ages = ages }) }
+        ensures ok { OnOk result
+            (contents_of self.new ≡ record (contents_of self.old) { ages = ages }) }
         ensures err { OnErr result (contents_of self.new ≡ contents_of self.old) }
         ensures up { OnOk result (ShelfIsUp D.tells D.seen D.may_leave self.new) }
-        ensures up_still { IsErrOf result ShelfFault.NoMemory → ShelfIsUp D.tells D.seen D.may_leave self.new }
-        ensures any_moment { D.tells → ShelfContinuesOnly D.moment D.left_since (disk_of self.old) (disk_of self.new) (IsOldOrNew (contents_of self.old) (record (contents_of self.old) { ages = ages })) }
-        ensures length { D.tells → NotLonger D.moment D.left_since D.may_leave (disk_of self.old) (disk_of self.new) 0 }
+        ensures up_still { IsErrOf result ShelfFault.NoMemory
+            → ShelfIsUp D.tells D.seen D.may_leave self.new }
+        ensures any_moment { D.tells
+            → ShelfContinuesOnly D.moment D.left_since (disk_of self.old) (disk_of self.new)
+            (IsOldOrNew (contents_of self.old) (record (contents_of self.old) { ages = ages })) }
+        ensures length { D.tells
+            → NotLonger D.moment D.left_since D.may_leave (disk_of self.old) (disk_of self.new) 0 }
         ensures other { IsNeitherFullNorForeign result }
-        ensures cause { HasShelfCause result (D.fault_count (disk_of self.old)) (D.fault_count (disk_of self.new)) }
+        ensures cause { HasShelfCause result
+            (D.fault_count (disk_of self.old)) (D.fault_count (disk_of self.new)) }
     {
         let head = Head {
             narrow: self.cells.narrow_count(),
@@ -280,15 +342,19 @@ impl<D: Disk> DiskShelf<D> {
     // Recovers the cells of a disk that was crashed, and loads what they hold.
     fn recover(&mut self) -> Result<Loaded, ShelfFault>
         requires { D.tells → Only (D.seen (disk_of self.old)) (D.may_leave (disk_of self.old)) }
-        ensures recovered { D.tells → IfOk result (λ loaded. left_on (D.seen (disk_of self.old)) ≡ Ok loaded.memory.held) }
+        ensures recovered { D.tells
+            → IfOk result (λ loaded. left_on (D.seen (disk_of self.old)) ≡ Ok loaded.memory.held) }
         ensures memory { self.new.memory ≡ self.old.memory }
-        ensures foreign { D.tells → (at : ℕ) → IsErrOf result (ShelfFault.Foreign at) → left_on (D.seen (disk_of self.old)) ≡ Err at }
+        ensures foreign { D.tells → (at : ℕ) → IsErrOf result (ShelfFault.Foreign at)
+            → left_on (D.seen (disk_of self.old)) ≡ Err at }
         ensures stands { OnOk result (CellsStand D.tells D.seen D.may_leave self.new.cells) }
         ensures read { IfOk result (IsReadFrom (cells_of self.new.cells)) }
         ensures fits { IfOk result (λ loaded. AllBallotsFit loaded.memory.held) }
-        ensures any_moment { D.tells → DiskContinuesOnly D.moment D.left_since (disk_of self.old) (disk_of self.new) (λ c. c ≡ D.seen (disk_of self.old)) }
+        ensures any_moment { D.tells → DiskContinuesOnly D.moment D.left_since
+            (disk_of self.old) (disk_of self.new) (λ c. c ≡ D.seen (disk_of self.old)) }
         ensures not_full { IsErrOf result ShelfFault.Full → ⊥ }
-        ensures cause { HasShelfCause result (D.fault_count (disk_of self.old)) (D.fault_count (disk_of self.new)) }
+        ensures cause { HasShelfCause result
+            (D.fault_count (disk_of self.old)) (D.fault_count (disk_of self.new)) }
     {
         if let Err(fault) = self.cells.recover() {
             return Err(fault_of(fault));
@@ -329,7 +395,8 @@ impl<D: Disk> Shelf for DiskShelf<D> {
         ensures up { OnOk result (ShelfIsUp D.tells D.seen D.may_leave self.new) }
         ensures other { IsNeitherFullNorForeign result }
         ensures length { D.tells → StaysShort D.moment D.left_since D.may_leave self.old self.new }
-        ensures cause { HasShelfCause result (D.fault_count (disk_of self.old)) (D.fault_count (disk_of self.new)) }
+        ensures cause { HasShelfCause result
+            (D.fault_count (disk_of self.old)) (D.fault_count (disk_of self.new)) }
     {
         self.cells.crash();
         let head = Head {
@@ -346,14 +413,18 @@ impl<D: Disk> Shelf for DiskShelf<D> {
     }
 
     fn reopen(&mut self) -> Result<(), ShelfFault>
-        ensures reopened { D.tells → OnOk result (ShelfMayLeave D.may_leave self.old (Ok (contents_of self.new))) }
+        ensures reopened { D.tells
+            → OnOk result (ShelfMayLeave D.may_leave self.old (Ok (contents_of self.new))) }
         ensures err { OnErr result (contents_of self.new ≡ contents_of self.old) }
-        ensures foreign { D.tells → (at : ℕ) → IsErrOf result (ShelfFault.Foreign at) → ShelfMayLeave D.may_leave self.old (Err at) }
+        ensures foreign { D.tells → (at : ℕ)
+            → IsErrOf result (ShelfFault.Foreign at) → ShelfMayLeave D.may_leave self.old (Err at) }
         ensures up { OnOk result (ShelfIsUp D.tells D.seen D.may_leave self.new) }
-        ensures any_moment { D.tells → ShelfLeavesOnly (moment_of D.moment) (ShelfLeftSince D.left_since) self.old self.new (ShelfMayLeave D.may_leave self.old) }
+        ensures any_moment { D.tells → ShelfLeavesOnly (moment_of D.moment)
+            (ShelfLeftSince D.left_since) self.old self.new (ShelfMayLeave D.may_leave self.old) }
         ensures not_full { IsErrOf result ShelfFault.Full → ⊥ }
         ensures length { D.tells → StaysShort D.moment D.left_since D.may_leave self.old self.new }
-        ensures cause { HasShelfCause result (D.fault_count (disk_of self.old)) (D.fault_count (disk_of self.new)) }
+        ensures cause { HasShelfCause result
+            (D.fault_count (disk_of self.old)) (D.fault_count (disk_of self.new)) }
     {
         self.cells.forget_past();
         self.cells.crash();
@@ -365,8 +436,10 @@ impl<D: Disk> Shelf for DiskShelf<D> {
     }
 
     fn crash(&mut self)
-        ensures settled { D.tells → NothingIsPending (ShelfMayLeave D.may_leave self.old) (ShelfMayLeave D.may_leave self.new) }
-        ensures any_moment { D.tells → ShelfLeavesOnly (moment_of D.moment) (ShelfLeftSince D.left_since) self.old self.new (ShelfMayLeave D.may_leave self.old) }
+        ensures settled { D.tells → NothingIsPending (ShelfMayLeave D.may_leave self.old)
+            (ShelfMayLeave D.may_leave self.new) }
+        ensures any_moment { D.tells → ShelfLeavesOnly (moment_of D.moment)
+            (ShelfLeftSince D.left_since) self.old self.new (ShelfMayLeave D.may_leave self.old) }
         ensures length { D.tells → StaysShort D.moment D.left_since D.may_leave self.old self.new }
         ensures never_falls { D.fault_count (disk_of self.old) ≤ D.fault_count (disk_of self.new) }
     {
@@ -388,17 +461,26 @@ impl<D: Disk> Shelf for DiskShelf<D> {
     fn put(&mut self, key: &Key, slot: Slot) -> Result<(), ShelfFault>
         requires up { ShelfIsUp D.tells D.seen D.may_leave self.old }
         requires fits { SlotBallotsFit slot }
-        ensures ok { OnOk result (contents_of self.new ≡ with_kept (contents_of self.old) key.now slot) }
+        ensures ok { OnOk result
+            (contents_of self.new ≡ with_kept (contents_of self.old) key.now slot) }
         ensures err { OnErr result (contents_of self.new ≡ contents_of self.old) }
         ensures up { OnOk result (ShelfIsUp D.tells D.seen D.may_leave self.new) }
-        ensures up_still { IsErrOf result ShelfFault.NoMemory → ShelfIsUp D.tells D.seen D.may_leave self.new }
-        ensures full { IsErrOf result ShelfFault.Full ↔ IsFullFor (contents_of self.old).slots key.now }
-        ensures up_when_full { IsErrOf result ShelfFault.Full → ShelfIsUp D.tells D.seen D.may_leave self.new }
-        ensures untouched_when_full { D.tells → IsErrOf result ShelfFault.Full → ShelfLeavesOnly (moment_of D.moment) (ShelfLeftSince D.left_since) self.old self.new (λ left. left ≡ Ok (contents_of self.old)) }
+        ensures up_still { IsErrOf result ShelfFault.NoMemory
+            → ShelfIsUp D.tells D.seen D.may_leave self.new }
+        ensures full { IsErrOf result ShelfFault.Full ↔ IsFullFor
+            (contents_of self.old).slots key.now }
+        ensures up_when_full { IsErrOf result ShelfFault.Full
+            → ShelfIsUp D.tells D.seen D.may_leave self.new }
+        ensures untouched_when_full { D.tells → IsErrOf result ShelfFault.Full
+            → ShelfLeavesOnly (moment_of D.moment) (ShelfLeftSince D.left_since) self.old self.new
+            (λ left. left ≡ Ok (contents_of self.old)) }
         ensures not_foreign { (at : ℕ) → IsErrOf result (ShelfFault.Foreign at) → ⊥ }
-        ensures any_moment { D.tells → ShelfLeavesOnly (moment_of D.moment) (ShelfLeftSince D.left_since) self.old self.new (IsOldOrNew (contents_of self.old) (with_kept (contents_of self.old) key.now slot)) }
+        ensures any_moment { D.tells
+            → ShelfLeavesOnly (moment_of D.moment) (ShelfLeftSince D.left_since) self.old self.new
+            (IsOldOrNew (contents_of self.old) (with_kept (contents_of self.old) key.now slot)) }
         ensures length { D.tells → StaysShort D.moment D.left_since D.may_leave self.old self.new }
-        ensures cause { HasShelfCause result (D.fault_count (disk_of self.old)) (D.fault_count (disk_of self.new)) }
+        ensures cause { HasShelfCause result
+            (D.fault_count (disk_of self.old)) (D.fault_count (disk_of self.new)) }
     {
         self.cells.forget_past();
         self.keep(key, slot)
@@ -406,14 +488,19 @@ impl<D: Disk> Shelf for DiskShelf<D> {
 
     fn drop_slot(&mut self, key: &Key) -> Result<(), ShelfFault>
         requires { ShelfIsUp D.tells D.seen D.may_leave self.old }
-        ensures ok { OnOk result (contents_of self.new ≡ without_kept (contents_of self.old) key.now) }
+        ensures ok { OnOk result
+            (contents_of self.new ≡ without_kept (contents_of self.old) key.now) }
         ensures err { OnErr result (contents_of self.new ≡ contents_of self.old) }
         ensures up { OnOk result (ShelfIsUp D.tells D.seen D.may_leave self.new) }
-        ensures up_still { IsErrOf result ShelfFault.NoMemory → ShelfIsUp D.tells D.seen D.may_leave self.new }
+        ensures up_still { IsErrOf result ShelfFault.NoMemory
+            → ShelfIsUp D.tells D.seen D.may_leave self.new }
         ensures other { IsNeitherFullNorForeign result }
-        ensures any_moment { D.tells → ShelfLeavesOnly (moment_of D.moment) (ShelfLeftSince D.left_since) self.old self.new (IsOldOrNew (contents_of self.old) (without_kept (contents_of self.old) key.now)) }
+        ensures any_moment { D.tells
+            → ShelfLeavesOnly (moment_of D.moment) (ShelfLeftSince D.left_since) self.old self.new
+            (IsOldOrNew (contents_of self.old) (without_kept (contents_of self.old) key.now)) }
         ensures length { D.tells → StaysShort D.moment D.left_since D.may_leave self.old self.new }
-        ensures cause { HasShelfCause result (D.fault_count (disk_of self.old)) (D.fault_count (disk_of self.new)) }
+        ensures cause { HasShelfCause result
+            (D.fault_count (disk_of self.old)) (D.fault_count (disk_of self.new)) }
     {
         self.cells.forget_past();
         self.release(key)
@@ -421,14 +508,19 @@ impl<D: Disk> Shelf for DiskShelf<D> {
 
     fn raise_ages(&mut self, least: &Ages) -> Result<(), ShelfFault>
         requires { ShelfIsUp D.tells D.seen D.may_leave self.old }
-        ensures ok { OnOk result (contents_of self.new ≡ with_raised (contents_of self.old) least.now) }
+        ensures ok { OnOk result
+            (contents_of self.new ≡ with_raised (contents_of self.old) least.now) }
         ensures err { OnErr result (contents_of self.new ≡ contents_of self.old) }
         ensures up { OnOk result (ShelfIsUp D.tells D.seen D.may_leave self.new) }
-        ensures up_still { IsErrOf result ShelfFault.NoMemory → ShelfIsUp D.tells D.seen D.may_leave self.new }
+        ensures up_still { IsErrOf result ShelfFault.NoMemory
+            → ShelfIsUp D.tells D.seen D.may_leave self.new }
         ensures other { IsNeitherFullNorForeign result }
-        ensures any_moment { D.tells → ShelfLeavesOnly (moment_of D.moment) (ShelfLeftSince D.left_since) self.old self.new (IsOldOrNew (contents_of self.old) (with_raised (contents_of self.old) least.now)) }
+        ensures any_moment { D.tells
+            → ShelfLeavesOnly (moment_of D.moment) (ShelfLeftSince D.left_since) self.old self.new
+            (IsOldOrNew (contents_of self.old) (with_raised (contents_of self.old) least.now)) }
         ensures length { D.tells → StaysShort D.moment D.left_since D.may_leave self.old self.new }
-        ensures cause { HasShelfCause result (D.fault_count (disk_of self.old)) (D.fault_count (disk_of self.new)) }
+        ensures cause { HasShelfCause result
+            (D.fault_count (disk_of self.old)) (D.fault_count (disk_of self.new)) }
     {
         self.cells.forget_past();
         let mut ages = self.memory.held.ages();

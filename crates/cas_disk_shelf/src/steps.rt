@@ -35,14 +35,20 @@ pub fn change<D: Disk>(cells: &mut Cells<D>, cell: u32, payload: &[u8]) -> Resul
     requires within { cell ≤ count_in (cells_of cells.old) }
     requires fits { FitsCell (cells_of cells.old) cell payload.now }
     requires same_count { (cell ≡ 0) → TellsSame payload.now (cells_of cells.old) }
-    ensures changed { OnOk result (cells_of cells.new ≡ slice_set (cells_of cells.old) cell (Some payload.now)) }
+    ensures changed { OnOk result
+        (cells_of cells.new ≡ slice_set (cells_of cells.old) cell (Some payload.now)) }
     ensures same { OnErr result (cells_of cells.new ≡ cells_of cells.old) }
     ensures stands { OnOk result (CellsStand D.tells D.seen D.may_leave cells.new) }
-    ensures after_no_memory { IsErrOf result ShelfFault.NoMemory → CellsStand D.tells D.seen D.may_leave cells.new }
-    ensures any_moment { D.tells → ContinuesOnly D.moment D.left_since (disk_of cells.old) (disk_of cells.new) (IsBeforeOrAfter (cells_of cells.old) (slice_set (cells_of cells.old) cell (Some payload.now))) }
-    ensures length { D.tells → NotLonger D.moment D.left_since D.may_leave (disk_of cells.old) (disk_of cells.new) 0 }
+    ensures after_no_memory { IsErrOf result ShelfFault.NoMemory
+        → CellsStand D.tells D.seen D.may_leave cells.new }
+    ensures any_moment { D.tells → ContinuesOnly D.moment D.left_since
+        (disk_of cells.old) (disk_of cells.new) (IsBeforeOrAfter (cells_of cells.old)
+        (slice_set (cells_of cells.old) cell (Some payload.now))) }
+    ensures length { D.tells
+        → NotLonger D.moment D.left_since D.may_leave (disk_of cells.old) (disk_of cells.new) 0 }
     ensures other { IsNeitherFullNorForeign result }
-    ensures cause { HasShelfCause result (D.fault_count (disk_of cells.old)) (D.fault_count (disk_of cells.new)) }
+    ensures cause { HasShelfCause result
+        (D.fault_count (disk_of cells.old)) (D.fault_count (disk_of cells.new)) }
 {
     match change_in_steps(cells, cell, payload) {
         Ok(()) => Ok(()),
@@ -59,13 +65,19 @@ fn change_in_steps<D: Disk>(
     requires within { cell ≤ count_in (cells_of cells.old) }
     requires fits { FitsCell (cells_of cells.old) cell payload.now }
     requires same_count { (cell ≡ 0) → TellsSame payload.now (cells_of cells.old) }
-    ensures changed { OnOk result (cells_of cells.new ≡ slice_set (cells_of cells.old) cell (Some payload.now)) }
+    ensures changed { OnOk result
+        (cells_of cells.new ≡ slice_set (cells_of cells.old) cell (Some payload.now)) }
     ensures same { OnErr result (cells_of cells.new ≡ cells_of cells.old) }
     ensures stands { OnOk result (CellsStand D.tells D.seen D.may_leave cells.new) }
-    ensures after_no_memory { IsErrOf result CellFault.NoMemory → CellsStand D.tells D.seen D.may_leave cells.new }
-    ensures any_moment { D.tells → ContinuesOnly D.moment D.left_since (disk_of cells.old) (disk_of cells.new) (IsBeforeOrAfter (cells_of cells.old) (slice_set (cells_of cells.old) cell (Some payload.now))) }
-    ensures length { D.tells → NotLonger D.moment D.left_since D.may_leave (disk_of cells.old) (disk_of cells.new) 0 }
-    ensures cause { IsFaultOfDisk result (D.fault_count (disk_of cells.old)) (D.fault_count (disk_of cells.new)) }
+    ensures after_no_memory { IsErrOf result CellFault.NoMemory
+        → CellsStand D.tells D.seen D.may_leave cells.new }
+    ensures any_moment { D.tells → ContinuesOnly D.moment D.left_since
+        (disk_of cells.old) (disk_of cells.new) (IsBeforeOrAfter (cells_of cells.old)
+        (slice_set (cells_of cells.old) cell (Some payload.now))) }
+    ensures length { D.tells
+        → NotLonger D.moment D.left_since D.may_leave (disk_of cells.old) (disk_of cells.new) 0 }
+    ensures cause { IsFaultOfDisk result
+        (D.fault_count (disk_of cells.old)) (D.fault_count (disk_of cells.new)) }
 {
     cells.close_spare(cell)?;
     cells.write_spare(cell, payload)?;
@@ -84,10 +96,13 @@ pub fn renew<D: Disk>(
     ensures stands { OnOk result (CellsStand D.tells D.seen D.may_leave cells.new) }
     ensures moving { OnOk result (IsMoving (cells_of cells.new) loaded.now) }
     ensures narrow { narrow_in (cells_of cells.new) ≡ narrow_in (cells_of cells.old) }
-    ensures any_moment { D.tells → ContinuesOnly D.moment D.left_since (disk_of cells.old) (disk_of cells.new) (λ c. left_on c ≡ Ok loaded.now.memory.held) }
-    ensures length { D.tells → NotLonger D.moment D.left_since D.may_leave (disk_of cells.old) (disk_of cells.new) 0 }
+    ensures any_moment { D.tells → ContinuesOnly D.moment D.left_since
+        (disk_of cells.old) (disk_of cells.new) (λ c. left_on c ≡ Ok loaded.now.memory.held) }
+    ensures length { D.tells
+        → NotLonger D.moment D.left_since D.may_leave (disk_of cells.old) (disk_of cells.new) 0 }
     ensures other { IsNeitherFullNorForeign result }
-    ensures cause { HasShelfCause result (D.fault_count (disk_of cells.old)) (D.fault_count (disk_of cells.new)) }
+    ensures cause { HasShelfCause result
+        (D.fault_count (disk_of cells.old)) (D.fault_count (disk_of cells.new)) }
 {
     let old = match cells.payload(0) {
         Some(payload) => is_old(payload),

@@ -32,7 +32,8 @@ impl Links {
     /// From now on this becomes of the frames of this leg to or from this acceptor.
     pub fn set(&mut self, leg: Leg, peer: AcceptorId, verdict: Verdict)
         ensures here { verdict_at self.new leg peer ≡ verdict }
-        ensures others { (l : Leg) (p : ℕ) → (l ≢ leg) ⊎ (p ≢ peer) → verdict_at self.new l p ≡ verdict_at self.old l p }
+        ensures others { (l : Leg) (p : ℕ)
+            → (l ≢ leg) ⊎ (p ≢ peer) → verdict_at self.new l p ≡ verdict_at self.old l p }
         ensures harms { harms_of self.new ≡ harms_of self.old }
     {
         self.rows[row_of(leg)][peer.number() as usize] = verdict;

@@ -65,7 +65,8 @@ impl Flow {
     /// Makes room for so many more own frames of the proposer. All frames stay, and after an `Err` all is as before.
     pub fn reserve_own(&mut self, proposer: u8, frames: usize) -> Result<(), AllocError>
         requires { proposer ≤ 17 }
-        ensures same { self.new ≡ with_queue self.old proposer (record (queue_at self.old proposer) { room = (queue_at self.new proposer).room }) }
+        ensures same { self.new ≡ with_queue self.old proposer
+            (record (queue_at self.old proposer) { room = (queue_at self.new proposer).room }) }
         ensures ok { OnOk result (frames ≤ (queue_at self.new proposer).room) }
         ensures grows { (queue_at self.old proposer).room ≤ (queue_at self.new proposer).room }
         ensures err { OnErr result (self.new ≡ self.old) }
@@ -78,7 +79,8 @@ impl Flow {
         requires proposer { proposer ≤ 17 }
         requires room { 0 < (queue_at self.old proposer).room }
         requires bears { IsSome frame }
-        ensures { IfSome frame (λ message. self.new ≡ with_queue self.old proposer (pushed (queue_at self.old proposer) message)) }
+        ensures { IfSome frame (λ message. self.new ≡ with_queue self.old proposer
+            (pushed (queue_at self.old proposer) message)) }
     {
         self.own[usize::from(proposer)].push(frame);
     }
@@ -86,7 +88,8 @@ impl Flow {
     /// The frame, which is not blank, joins the late ones, or is lost where there are [`MOST_LATE`](crate::MOST_LATE).
     pub fn push_late(&mut self, frame: Frame)
         requires { IsSome frame }
-        ensures { IfSome frame (λ message. self.new ≡ record self.old { late = joined self.old.late message }) }
+        ensures { IfSome frame
+            (λ message. self.new ≡ record self.old { late = joined self.old.late message }) }
     {
         self.late.push(frame);
     }
@@ -106,7 +109,8 @@ impl Flow {
     /// The proposer's first frame, which is not blank. `None` comes exactly where the proposer has no own frame.
     pub fn look(&self, proposer: u8) -> Option<&Frame>
         requires { proposer ≤ 17 }
-        ensures { MatchOption result ((queue_at self.now proposer).messages ≡ []) (λ frame. (frame.now ≡ slice_get (queue_at self.now proposer).messages 0) × IsSome frame.now) }
+        ensures { MatchOption result ((queue_at self.now proposer).messages ≡ []) (λ frame.
+            (frame.now ≡ slice_get (queue_at self.now proposer).messages 0) × IsSome frame.now) }
     {
         self.own[usize::from(proposer)].front()
     }
@@ -152,7 +156,10 @@ impl Flow {
     /// The late frame at that place leaves, and those behind it close the gap.
     pub fn take_late(&mut self, index: usize)
         requires { index < length self.old.late }
-        ensures { self.new ≡ record self.old { late = take index self.old.late ++ drop (index + 1) self.old.late } }
+        ensures { self.new ≡ record self.old {
+          late = take index self.old.late ++ drop
+              (index + 1) self.old.late;
+        } }
     {
         self.late.take(index);
     }

@@ -64,7 +64,8 @@ impl Queue {
 
     /// The first frame.
     pub fn front(&self) -> Option<&Frame>
-        ensures { MatchOption result (self.now.messages ≡ []) (λ frame. (frame.now ≡ slice_get self.now.messages 0) × IsSome frame.now) }
+        ensures { MatchOption result (self.now.messages ≡ []) (λ frame.
+            (frame.now ≡ slice_get self.now.messages 0) × IsSome frame.now) }
     {
         self.frames.front()
     }
@@ -80,7 +81,9 @@ impl Queue {
     pub fn pop(&mut self) -> Option<Frame>
         ensures left { IsSome result → self.new ≡ popped self.old }
         ensures none { IsNone result → self.new ≡ record self.old { again = false } }
-        ensures first { MatchOption result ((self.old.messages ≡ []) × (self.new.messages ≡ [])) (λ frame. (frame ≡ slice_get self.old.messages 0) × IsSome frame) }
+        ensures first { MatchOption result ((self.old.messages ≡ [])
+            × (self.new.messages ≡ [])) (λ frame. (frame ≡ slice_get self.old.messages 0)
+            × IsSome frame) }
     {
         self.again = false;
         self.frames.pop_front()

@@ -100,7 +100,8 @@ pub fn print_shown(
 
 /// Writes behind `line` what a call that asks for a change is answered.
 pub fn push_answer(line: &mut String, answer: &Answer) -> Result<(), AllocError>
-    ensures { OnOk result (string_bytes line.new ≡ string_bytes line.old ++ answer_text answer.now) }
+    ensures { OnOk result
+        (string_bytes line.new ≡ string_bytes line.old ++ answer_text answer.now) }
 {
     match answer {
         Answer::Done {
@@ -204,7 +205,8 @@ fn push_shown(line: &mut String, shown: &Shown) -> Result<(), AllocError>
 
 /// What was accepted, where something was.
 fn push_accepted(line: &mut String, accepted: &Option<Accepted>) -> Result<(), AllocError>
-    ensures { OnOk result (string_bytes line.new ≡ string_bytes line.old ++ accepted_text accepted.now) }
+    ensures { OnOk result
+        (string_bytes line.new ≡ string_bytes line.old ++ accepted_text accepted.now) }
 {
     match accepted {
         Some(accepted) => {

@@ -148,8 +148,8 @@ pub struct Change<'a> {
 impl Command {
     /// The change that the line asks for. `None` exactly where it is an event or an operator's. Only memory can fail.
     pub fn change(&self, alloc: Global) -> Result<Option<Change<'_>>, AllocError>
-        ensures asked { IfOk result (λ change. IfSome change (λ change.
-            change_of self.now ≡ Some (record { caller = change.caller; key = change.key.now; program = change.program }))) }
+        ensures asked { IfOk result (λ change. IfSome change (λ change. change_of self.now ≡ Some
+            (record { caller = change.caller; key = change.key.now; program = change.program }))) }
         ensures event { IfOk result (λ change. IfNone change (change_of self.now ≡ None)) }
     {
         let Some((caller, key)) = self.asker() else {
@@ -165,7 +165,8 @@ impl Command {
 
     /// Who asks for a change, and of which register. `None` exactly where the line is an event or an operator's.
     fn asker(&self) -> Option<(u8, &Key)>
-        ensures asked { IfSome result (λ asker. IfSome (change_of self.now) (λ asked. (asked.caller ≡ asker.0) × (asked.key ≡ asker.1.now))) }
+        ensures asked { IfSome result (λ asker. IfSome (change_of self.now)
+            (λ asked. (asked.caller ≡ asker.0) × (asked.key ≡ asker.1.now))) }
         ensures change { IsSome result ↔ IsSome (change_of self.now) }
     {
         match self {
@@ -186,7 +187,8 @@ impl Command {
     /// The program of the change that the line asks for.
     fn program(&self, alloc: Global) -> Result<Program, AllocError>
         requires { IsSome (change_of self.now) }
-        ensures { IfOk result (λ program. IfSome (change_of self.now) (λ asked. asked.program ≡ program)) }
+        ensures { IfOk result
+            (λ program. IfSome (change_of self.now) (λ asked. asked.program ≡ program)) }
     {
         let (guard, act) = match self {
             Command::Get { .. } => (Guard::Always, Act::Keep),

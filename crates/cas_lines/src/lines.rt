@@ -175,17 +175,20 @@ fn take_piece<S: Source>(
     room: usize,
 ) -> Result<usize, LineFault>
     requires { vec_len held.old ≤ room }
-    ensures ahead { Keeps (prepend_known held.old.items (S.remaining source.old)) (prepend_known held.new.items (S.remaining source.new)) }
+    ensures ahead { Keeps (prepend_known held.old.items (S.remaining source.old))
+        (prepend_known held.new.items (S.remaining source.new)) }
     ensures front { StartsWith held.new.items held.old.items }
     ensures count { IfOk result (λ count. vec_len held.new ≡ vec_len held.old + count) }
     ensures end { IfOk result (λ count. count ≡ 0 → IsAtEnd (S.remaining source.new)) }
     ensures bound { vec_len held.new ≤ max room (vec_len held.old + 1) }
     ensures err { OnErr result (held.new.items ≡ held.old.items) }
-    ensures bytes { IfOk result (λ count. count ≢ 0 → S.take_gives source.old (Bytes (drop (length held.old.items) held.new.items)) source.new) }
+    ensures bytes { IfOk result (λ count. count ≢ 0 → S.take_gives source.old
+        (Bytes (drop (length held.old.items) held.new.items)) source.new) }
     ensures ended { IfOk result (λ count. count ≡ 0 → S.take_gives source.old End source.new) }
     ensures failed { IsErrOf result LineFault.ReadFault → S.take_gives source.old Fault source.new }
     ensures not_asked { IsErrOf result LineFault.NoMemory → source.new ≡ source.old }
-    ensures read_fault { IsErrOf result LineFault.ReadFault → Rose (S.faults_of source.old) (S.faults_of source.new) }
+    ensures read_fault { IsErrOf result LineFault.ReadFault
+        → Rose (S.faults_of source.old) (S.faults_of source.new) }
     ensures not_endless { (line : ℕ) → result ≢ Err (LineFault.Endless line) }
     ensures not_too_many { result ≢ Err LineFault.TooManyLines }
     ensures never_falls { S.faults_of source.old ≤ S.faults_of source.new }
@@ -211,15 +214,20 @@ enum Supply {
 
 /// Takes from the source until a newline stands within the room, and leaves it alone where one stands there already.
 fn fill<S: Source>(source: &mut S, held: &mut Vec<u8>, room: usize) -> Result<Supply, LineFault>
-    ensures ahead { Keeps (prepend_known held.old.items (S.remaining source.old)) (prepend_known held.new.items (S.remaining source.new)) }
+    ensures ahead { Keeps (prepend_known held.old.items (S.remaining source.old))
+        (prepend_known held.new.items (S.remaining source.new)) }
     ensures front { StartsWith held.new.items held.old.items }
     ensures line { result ≡ Ok Supply.Line → has_newline (take room held.new.items) ≡ true }
-    ensures end { result ≡ Ok Supply.End → (has_newline held.new.items ≡ false) × (vec_len held.new ≤ room) × IsAtEnd (S.remaining source.new) }
-    ensures beyond { result ≡ Ok Supply.Beyond → (has_newline (take room held.new.items) ≡ false) × (room < vec_len held.new) }
+    ensures end { result ≡ Ok Supply.End → (has_newline held.new.items ≡ false)
+        × (vec_len held.new ≤ room) × IsAtEnd (S.remaining source.new) }
+    ensures beyond { result ≡ Ok Supply.Beyond
+        → (has_newline (take room held.new.items) ≡ false) × (room < vec_len held.new) }
     ensures bound { vec_len held.new ≤ max (vec_len held.old) (room + 1) }
     ensures ready { has_newline (take room held.old.items) ≡ true → source.new ≡ source.old }
-    ensures asks { GrowsBy S.take_gives room held.old.items source.old (StopsFilling result) held.new.items source.new }
-    ensures read_fault { IsErrOf result LineFault.ReadFault → Rose (S.faults_of source.old) (S.faults_of source.new) }
+    ensures asks { GrowsBy S.take_gives room held.old.items source.old
+        (StopsFilling result) held.new.items source.new }
+    ensures read_fault { IsErrOf result LineFault.ReadFault
+        → Rose (S.faults_of source.old) (S.faults_of source.new) }
     ensures not_endless { (line : ℕ) → result ≢ Err (LineFault.Endless line) }
     ensures not_too_many { result ≢ Err LineFault.TooManyLines }
     ensures never_falls { S.faults_of source.old ≤ S.faults_of source.new }
@@ -290,7 +298,8 @@ impl Lines {
         requires fits { self.old.handed < MOST_LINES }
         ensures number { IfOk result (λ line. line.number ≡ self.old.handed + 1) }
         ensures text { IfOk result (λ line. line.bytes ≡ text_of self.old.held) }
-        ensures held { OnOk result (self.new.held ≡ drop (length (take_through 10 self.old.held)) self.old.held) }
+        ensures held { OnOk result
+            (self.new.held ≡ drop (length (take_through 10 self.old.held)) self.old.held) }
         ensures handed { OnOk result (self.new.handed ≡ self.old.handed + 1) }
         ensures err { OnErr result (self.new ≡ self.old) }
     {
@@ -307,15 +316,20 @@ impl Lines {
 
     /// Nothing, where the input ends here, and else the fault that a line more begins.
     fn expect_end<S: Source>(&mut self, source: &mut S) -> Result<(), LineFault>
-        ensures end { OnOk result (IsAtEnd (ahead self.old (S.remaining source.old)) × IsAtEnd (S.remaining source.new)) }
+        ensures end { OnOk result (IsAtEnd (ahead self.old (S.remaining source.old))
+            × IsAtEnd (S.remaining source.new)) }
         ensures ended { OnOk result (self.new ≡ self.old) }
-        ensures too_many { IsErrOf result LineFault.TooManyLines → HasMore self.old (S.remaining source.old) }
+        ensures too_many { IsErrOf result LineFault.TooManyLines
+            → HasMore self.old (S.remaining source.old) }
         ensures not_endless { (line : ℕ) → result ≢ Err (LineFault.Endless line) }
-        ensures read_fault { IsErrOf result LineFault.ReadFault → Rose (S.faults_of source.old) (S.faults_of source.new) }
-        ensures err { OnErr result (Keeps (ahead self.old (S.remaining source.old)) (ahead self.new (S.remaining source.new))) }
+        ensures read_fault { IsErrOf result LineFault.ReadFault
+            → Rose (S.faults_of source.old) (S.faults_of source.new) }
+        ensures err { OnErr result (Keeps (ahead self.old (S.remaining source.old))
+            (ahead self.new (S.remaining source.new))) }
         ensures handed { self.new.handed ≡ self.old.handed }
         ensures ready { 0 < length self.old.held → source.new ≡ source.old }
-        ensures asks { GrowsBy S.take_gives 0 self.old.held source.old (StopsAtEnd result) self.new.held source.new }
+        ensures asks { GrowsBy S.take_gives 0 self.old.held source.old
+            (StopsAtEnd result) self.new.held source.new }
         ensures never_falls { S.faults_of source.old ≤ S.faults_of source.new }
     {
         if !self.rest().is_empty() {
@@ -333,14 +347,21 @@ impl Lines {
     /// Takes from the source until a newline stands within the longest line, and leaves it alone where one stands there
     /// already.
     fn supply<S: Source>(&mut self, source: &mut S) -> Result<Supply, LineFault>
-        ensures ahead { Keeps (ahead self.old (S.remaining source.old)) (ahead self.new (S.remaining source.new)) }
-        ensures line { result ≡ Ok Supply.Line → has_newline (take LINE_LIMIT self.new.held) ≡ true }
-        ensures end { result ≡ Ok Supply.End → (has_newline self.new.held ≡ false) × (length self.new.held ≤ LINE_LIMIT) × IsAtEnd (S.remaining source.new) }
-        ensures beyond { result ≡ Ok Supply.Beyond → (has_newline (take LINE_LIMIT self.new.held) ≡ false) × (LINE_LIMIT < length self.new.held) }
+        ensures ahead { Keeps (ahead self.old (S.remaining source.old))
+            (ahead self.new (S.remaining source.new)) }
+        ensures line { result ≡ Ok Supply.Line
+            → has_newline (take LINE_LIMIT self.new.held) ≡ true }
+        ensures end { result ≡ Ok Supply.End → (has_newline self.new.held ≡ false)
+            × (length self.new.held ≤ LINE_LIMIT) × IsAtEnd (S.remaining source.new) }
+        ensures beyond { result ≡ Ok Supply.Beyond → (has_newline (take LINE_LIMIT self.new.held)
+            ≡ false) × (LINE_LIMIT < length self.new.held) }
         ensures handed { self.new.handed ≡ self.old.handed }
-        ensures ready { has_newline (take LINE_LIMIT self.old.held) ≡ true → source.new ≡ source.old }
-        ensures asks { GrowsBy S.take_gives LINE_LIMIT self.old.held source.old (StopsFilling result) self.new.held source.new }
-        ensures read_fault { IsErrOf result LineFault.ReadFault → Rose (S.faults_of source.old) (S.faults_of source.new) }
+        ensures ready { has_newline (take LINE_LIMIT self.old.held) ≡ true
+            → source.new ≡ source.old }
+        ensures asks { GrowsBy S.take_gives LINE_LIMIT self.old.held source.old
+            (StopsFilling result) self.new.held source.new }
+        ensures read_fault { IsErrOf result LineFault.ReadFault
+            → Rose (S.faults_of source.old) (S.faults_of source.new) }
         ensures not_endless { (line : ℕ) → result ≢ Err (LineFault.Endless line) }
         ensures not_too_many { result ≢ Err LineFault.TooManyLines }
         ensures never_falls { S.faults_of source.old ≤ S.faults_of source.new }
@@ -361,28 +382,34 @@ impl Lines {
     /// the same lines and bytes are ahead as before, so that these two come again.
     pub fn next<S: Source>(&mut self, source: &mut S) -> Result<Option<Line>, LineFault>
         // A line is the first of what was ahead, and fits.
-        ensures line { IfOk result (λ next. IfSome next (λ line.
-            HandsOut self.old self.new (S.remaining source.old) (S.remaining source.new) line.bytes)) }
-        ensures number { IfOk result (λ next. IfSome next (λ line. line.number ≡ self.old.handed + 1)) }
+        ensures line { IfOk result (λ next. IfSome next (λ line. HandsOut self.old self.new
+            (S.remaining source.old) (S.remaining source.new) line.bytes)) }
+        ensures number { IfOk result
+            (λ next. IfSome next (λ line. line.number ≡ self.old.handed + 1)) }
         ensures handed { IfOk result (λ next. IfSome next (λ line. self.new.handed ≡ line.number)) }
         ensures few { IfOk result (λ next. OnSome next (self.old.handed < MOST_LINES)) }
 
         // No line comes at the end of the input alone.
-        ensures end { IfOk result (λ next. IfNone next (IsAtEnd (ahead self.old (S.remaining source.old)))) }
+        ensures end { IfOk result
+            (λ next. IfNone next (IsAtEnd (ahead self.old (S.remaining source.old)))) }
         ensures read { IfOk result (λ next. IfNone next (IsAtEnd (S.remaining source.new))) }
         ensures ended { IfOk result (λ next. IfNone next (self.new ≡ self.old)) }
 
         // The source is asked only while it is open what comes next. What its calls gave decides what is told.
         ensures at_once { TellsAtOnce S.take_gives self.old source.old result self.new source.new }
         // A line whose newline was taken before is handed out with no call of the source.
-        ensures ready { has_newline (take LINE_LIMIT self.old.held) ≡ true → source.new ≡ source.old }
+        ensures ready { has_newline (take LINE_LIMIT self.old.held) ≡ true
+            → source.new ≡ source.old }
 
-        ensures read_fault { IsErrOf result LineFault.ReadFault → Rose (S.faults_of source.old) (S.faults_of source.new) }
+        ensures read_fault { IsErrOf result LineFault.ReadFault
+            → Rose (S.faults_of source.old) (S.faults_of source.new) }
         ensures too_many { IsErrOf result LineFault.TooManyLines →
             (self.old.handed ≡ MOST_LINES) × HasMore self.old (S.remaining source.old) }
-        ensures endless { (line : ℕ) → IsErrOf result (LineFault.Endless line) →
-            (line ≡ self.old.handed + 1) × (self.old.handed < MOST_LINES) × IsLongLine self.old (S.remaining source.old) }
-        ensures err { OnErr result (Keeps (ahead self.old (S.remaining source.old)) (ahead self.new (S.remaining source.new))) }
+        ensures endless { (line : ℕ)
+            → IsErrOf result (LineFault.Endless line) → (line ≡ self.old.handed + 1)
+            × (self.old.handed < MOST_LINES) × IsLongLine self.old (S.remaining source.old) }
+        ensures err { OnErr result (Keeps (ahead self.old (S.remaining source.old))
+            (ahead self.new (S.remaining source.new))) }
         ensures err_kept { OnErr result (self.new.handed ≡ self.old.handed) }
         ensures never_falls { S.faults_of source.old ≤ S.faults_of source.new }
     {

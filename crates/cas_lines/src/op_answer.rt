@@ -66,7 +66,8 @@ pub fn push_op(line: &mut String, answer: &OpAnswer) -> Result<(), AllocError>
 
 /// Whose plan is finished, in which era, and how many keys were proposed anew for it.
 fn push_plan(line: &mut String, id: AcceptorId, era: u32, rescanned: u32) -> Result<(), AllocError>
-    ensures { OnOk result (string_bytes line.new ≡ string_bytes line.old ++ plan_text id era rescanned) }
+    ensures { OnOk result
+        (string_bytes line.new ≡ string_bytes line.old ++ plan_text id era rescanned) }
 {
     let id = id.number();
     write!(line, "{id} era {era} rescanned {rescanned}")
@@ -92,7 +93,8 @@ fn push_key_byte(line: &mut String, byte: u8) -> Result<(), AllocError>
 
 /// What members told when they were probed, in their order.
 fn push_probes(line: &mut String, probes: &[Probe]) -> Result<(), AllocError>
-    ensures { OnOk result (string_bytes line.new ≡ string_bytes line.old ++ flat_map probe_text probes.now) }
+    ensures { OnOk result
+        (string_bytes line.new ≡ string_bytes line.old ++ flat_map probe_text probes.now) }
 {
     for probe in probes {
         push_probe(line, probe)?;
@@ -121,7 +123,8 @@ fn push_told(line: &mut String, told: &Option<Tell>) -> Result<(), AllocError>
 
 /// At which ballot, and in which era, what a member keeps was accepted.
 fn push_kept(line: &mut String, accepted: &Option<Accepted>) -> Result<(), AllocError>
-    ensures { OnOk result (string_bytes line.new ≡ string_bytes line.old ++ kept_text accepted.now) }
+    ensures { OnOk result
+        (string_bytes line.new ≡ string_bytes line.old ++ kept_text accepted.now) }
 {
     match accepted {
         Some(accepted) => {

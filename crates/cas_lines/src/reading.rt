@@ -172,10 +172,12 @@ pub fn read_command(
     // What is read is within its limits.
     ensures known { IfOk result (λ read. IfSome read (IsKnown proposers)) }
     // What is read is an event where the first word is an event's, and nowhere else.
-    ensures event { IfOk result (λ read. IfSome read (λ command. asks_nobody command ≡ is_event (words_of line.now))) }
+    ensures event { IfOk result
+        (λ read. IfSome read (λ command. asks_nobody command ≡ is_event (words_of line.now))) }
     // A line whose length fits is refused at the first word with which it begins no command.
-    ensures first { length line.now ≤ LONGEST_LINE → IfErr result (λ refusal. refusal.why ≢ Why.NoMemory
-        → IsFirstMisfit (AreUnlimited proposers) (AreCommand proposers) (words_of line.now) refusal.word) }
+    ensures first { length line.now ≤ LONGEST_LINE → IfErr result
+        (λ refusal. refusal.why ≢ Why.NoMemory → IsFirstMisfit (AreUnlimited proposers)
+        (AreCommand proposers) (words_of line.now) refusal.word) }
     // Which refusal it is, word by word.
     ensures exact { GivesInMemory result (line_in proposers line.now) }
 {

@@ -39,7 +39,8 @@ pub trait Sink {
 /// of them and not all.
 pub fn put_all<K: Sink>(sink: &mut K, bytes: &[u8]) -> Result<(), Failed>
     ensures all { OnOk result (Appends (K.contents sink.old) (K.contents sink.new) bytes.now) }
-    ensures front { OnErr result (AppendsFront (K.contents sink.old) (K.contents sink.new) bytes.now) }
+    ensures front { OnErr result
+        (AppendsFront (K.contents sink.old) (K.contents sink.new) bytes.now) }
     ensures by_count { FailsByCount result (K.faults_of sink.old) (K.faults_of sink.new) }
 {
     let mut written = 0;

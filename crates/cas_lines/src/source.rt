@@ -119,7 +119,8 @@ impl Source for MemorySource {
         ensures by_count { FailsByCount result self.old.faults self.new.faults }
         ensures gives { GivesNext self.old (taken_of result buf.new) self.new }
         ensures fails { IsErr result ↔ Contains self.old.failing (call_after self.old.calls) }
-        ensures count { IfOk result (λ count. count ≡ min self.old.piece (min (length buf.old) (length self.old.left))) }
+        ensures count { IfOk result
+            (λ count. count ≡ min self.old.piece (min (length buf.old) (length self.old.left))) }
         ensures counted { self.new.calls ≡ call_after self.old.calls }
         ensures kept { (self.new.piece ≡ self.old.piece) × (self.new.failing ≡ self.old.failing) }
     {

@@ -40,7 +40,8 @@ impl Summary {
     pub fn count(&mut self, answer: &Answer)
         requires room { self.old.lines < 4294967295 }
         requires counts { (answers : List AnAnswer) × (self.old ≡ summary_of answers) }
-        ensures { (answers : List AnAnswer) → self.old ≡ summary_of answers → self.new ≡ summary_of (answers ++ answer.now ∷ []) }
+        ensures { (answers : List AnAnswer)
+            → self.old ≡ summary_of answers → self.new ≡ summary_of (answers ++ answer.now ∷ []) }
     {
         self.lines += 1;
         match answer {

@@ -114,7 +114,10 @@ impl Plan {
     /// The plan from that era over the half step's era, where there is one, to the last.
     fn over(era: &Era, half: Option<Era>, whole: Era) -> Plan
         requires { IsLawfulCourse era.now (eras_of half (Some whole)) }
-        ensures value { result ≡ record { era = era.now; left = steps_left (era.now.number == 0) (eras_of half (Some whole)) } }
+        ensures value { result ≡ record {
+          era = era.now;
+          left = steps_left (era.now.number == 0) (eras_of half (Some whole));
+        } }
         ensures lawful { IsLawfulPlan result }
     {
         Plan {

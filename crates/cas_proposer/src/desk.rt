@@ -59,7 +59,13 @@ impl<V: Disk> Desk<V> {
         vault: Vault<V>,
     ) -> Result<Desk<V>, (AllocError, Vault<V>)>
         requires { VaultStands V.tells V.seen V.may_leave vault }
-        ensures desk { IfOk result (λ desk. desk ≡ record { id = id; vault = vault; cache = []; round = None; down = false }) }
+        ensures desk { IfOk result (λ desk. desk ≡ record {
+          id = id;
+          vault = vault;
+          cache = [];
+          round = None;
+          down = false;
+        }) }
         ensures back { IfErr result (λ back. back.1 ≡ vault) }
     {
         match Cache::new(alloc) {
@@ -81,26 +87,45 @@ impl<V: Disk> Desk<V> {
     pub fn begin(&mut self, era: &Era, key: &Key) -> Result<Began, VaultError>
         requires up { self.old.down ≡ false }
         requires idle { self.old.round ≡ None }
-        ensures by_promise { IfOk result (λ began. promise_used began ≡ promise_at key.now self.old.cache) }
-        ensures opened { IfOk result (λ began. IsSomeAnd self.new.round (IsOpened key.now era.now began)) }
-        ensures phase { IfOk result (λ began. is_in_prepare self.new.round ≡ is_none (promise_used began)) }
+        ensures by_promise { IfOk result
+            (λ began. promise_used began ≡ promise_at key.now self.old.cache) }
+        ensures opened { IfOk result
+            (λ began. IsSomeAnd self.new.round (IsOpened key.now era.now began)) }
+        ensures phase { IfOk result
+            (λ began. is_in_prepare self.new.round ≡ is_none (promise_used began)) }
         ensures vault { IfOk result (DrawsFor self.old.id self.old.vault self.new.vault) }
-        ensures desk { OnOk result (self.new ≡ record self.old { vault = self.new.vault; cache = without key.now self.old.cache; round = self.new.round }) }
+        ensures desk { OnOk result (self.new ≡ record self.old {
+          vault = self.new.vault;
+          cache = without key.now self.old.cache;
+          round = self.new.round;
+        }) }
         ensures gone { OnOk result (promise_at key.now self.new.cache ≡ None) }
-        ensures stands { self.new.down ≡ false → VaultStands V.tells V.seen V.may_leave self.new.vault }
+        ensures stands { self.new.down ≡ false
+            → VaultStands V.tells V.seen V.may_leave self.new.vault }
 
         // The vault is then past the ballot that was drawn, and still past each number that it was past.
-        ensures past { V.tells → IfOk result (λ began. promise_used began ≡ None → IsPast V.may_leave (counter_of self.new.vault) self.new.vault) }
-        ensures still_past { V.tells → (n : ℕ) → IsPast V.may_leave n self.old.vault → IsPast V.may_leave n self.new.vault }
-        ensures any_moment { V.tells → LeavesOnly V.moment V.left_since (disk_of self.old.vault) (disk_of self.new.vault) (KeepsBeforeOrAfter (kept_of self.old.vault) (kept_to_draw (counter_of self.old.vault) (kept_of self.old.vault))) }
+        ensures past { V.tells → IfOk result (λ began. promise_used began ≡ None
+            → IsPast V.may_leave (counter_of self.new.vault) self.new.vault) }
+        ensures still_past { V.tells
+            → (n : ℕ) → IsPast V.may_leave n self.old.vault → IsPast V.may_leave n self.new.vault }
+        ensures any_moment { V.tells → LeavesOnly V.moment V.left_since (disk_of self.old.vault)
+            (disk_of self.new.vault) (KeepsBeforeOrAfter (kept_of self.old.vault)
+            (kept_to_draw (counter_of self.old.vault) (kept_of self.old.vault))) }
 
-        ensures spent { IsErrOf result VaultError.Spent → (promise_at key.now self.old.cache ≡ None) × (counter_of self.old.vault ≡ 2 ^ 48) }
-        ensures spent_or_no_memory { promise_at key.now self.old.cache ≡ None → counter_of self.old.vault ≡ 2 ^ 48 → IsErrOf result VaultError.Spent ⊎ IsErrOf result VaultError.NoMemory }
+        ensures spent { IsErrOf result VaultError.Spent
+            → (promise_at key.now self.old.cache ≡ None) × (counter_of self.old.vault ≡ 2 ^ 48) }
+        ensures spent_or_no_memory { promise_at key.now self.old.cache ≡ None
+            → counter_of self.old.vault ≡ 2 ^ 48
+            → IsErrOf result VaultError.Spent ⊎ IsErrOf result VaultError.NoMemory }
         ensures not_foreign { IsNotForeign result }
-        ensures refused { OnErr result (self.new ≡ record self.old { vault = self.new.vault; down = self.new.down }) }
+        ensures refused { OnErr result (self.new ≡ record self.old {
+          vault = self.new.vault;
+          down = self.new.down;
+        }) }
         ensures same_vault { OnErr result (ShowsTheSame self.old.vault self.new.vault) }
         ensures down { IsErrOf result VaultError.VaultFault ↔ IsTrue self.new.down }
-        ensures cause { HasVaultCause result (V.fault_count (disk_of self.old.vault)) (V.fault_count (disk_of self.new.vault)) }
+        ensures cause { HasVaultCause result
+            (V.fault_count (disk_of self.old.vault)) (V.fault_count (disk_of self.new.vault)) }
     {
         let id = self.id;
         let Ok(own) = key.copy() else {
@@ -135,7 +160,8 @@ impl<V: Disk> Desk<V> {
         ensures desk { self.new ≡ record self.old { round = self.new.round } }
         ensures open { is_some self.new.round ≡ is_some self.old.round }
         ensures phase { is_in_prepare self.new.round ≡ is_in_prepare self.old.round }
-        ensures heard { (old : ARound) → self.old.round ≡ Some old → IsSomeAnd self.new.round (Hears old reply) }
+        ensures heard { (old : ARound)
+            → self.old.round ≡ Some old → IsSomeAnd self.new.round (Hears old reply) }
     {
         match &mut self.round {
             Some(round) => round.arrive(reply),
@@ -146,8 +172,10 @@ impl<V: Disk> Desk<V> {
     /// How the open phase ends, should no other reply arrive.
     pub fn verdict(&self) -> RoundVerdict
         requires { IsSome self.now.round }
-        ensures verdict { (round : ARound) → self.now.round ≡ Some round → IsVerdictOf round result }
-        ensures quorum { (round : ARound) → self.now.round ≡ Some round → ((result ≡ RoundVerdict.Quorum) ↔ (has_quorum round.phase ≡ true)) }
+        ensures verdict { (round : ARound)
+            → self.now.round ≡ Some round → IsVerdictOf round result }
+        ensures quorum { (round : ARound) → self.now.round ≡ Some round
+            → ((result ≡ RoundVerdict.Quorum) ↔ (has_quorum round.phase ≡ true)) }
     {
         match &self.round {
             Some(round) => round.verdict(),
@@ -158,8 +186,10 @@ impl<V: Disk> Desk<V> {
     /// The acceptors that confirmed in the open phase.
     pub fn confirmers(&self) -> Members
         requires { IsSome self.now.round }
-        ensures confirmers { (round : ARound) → self.now.round ≡ Some round → IsConfirmersOf round result }
-        ensures shown { (round : ARound) → self.now.round ≡ Some round → result ≡ confirmed_in round.phase }
+        ensures confirmers { (round : ARound)
+            → self.now.round ≡ Some round → IsConfirmersOf round result }
+        ensures shown { (round : ARound)
+            → self.now.round ≡ Some round → result ≡ confirmed_in round.phase }
     {
         match &self.round {
             Some(round) => round.confirmers(),
@@ -172,7 +202,8 @@ impl<V: Disk> Desk<V> {
     pub fn read(&mut self) -> Option<Accepted>
         requires { IsTrue (may_read self.old.round) }
         ensures desk { self.new ≡ record self.old { round = self.new.round } }
-        ensures turns { (old : ARound) → self.old.round ≡ Some old → IsSomeAnd self.new.round (TurnsToAccept old) }
+        ensures turns { (old : ARound)
+            → self.old.round ≡ Some old → IsSomeAnd self.new.round (TurnsToAccept old) }
         ensures may_ride { IsTrue (may_ride self.new.round) }
         ensures read { (old : ARound) → self.old.round ≡ Some old → IsReadOf old result }
     {
@@ -187,22 +218,34 @@ impl<V: Disk> Desk<V> {
     pub fn ride(&mut self) -> Result<Option<Ballot>, VaultError>
         requires up { self.old.down ≡ false }
         requires accepting { IsTrue (may_ride self.old.round) }
-        ensures none { result ≡ Ok None → ((self.old.id ≡ 0) ⊎ (counter_of self.old.vault ≡ 2 ^ 48)) × (self.new ≡ self.old) }
-        ensures drawn { (ballot : ABallot) → result ≡ Ok (Some ballot) → Draws self.old.id self.old.vault self.new.vault ballot }
-        ensures rides { (ballot : ABallot) → result ≡ Ok (Some ballot) → self.new ≡ record self.old { vault = self.new.vault; round = with_ride self.old.round ballot } }
-        ensures not_drawn { (self.old.id ≡ 0) ⊎ (counter_of self.old.vault ≡ 2 ^ 48) → result ≡ Ok None }
-        ensures stands { self.new.down ≡ false → VaultStands V.tells V.seen V.may_leave self.new.vault }
+        ensures none { result ≡ Ok None
+            → ((self.old.id ≡ 0) ⊎ (counter_of self.old.vault ≡ 2 ^ 48)) × (self.new ≡ self.old) }
+        ensures drawn { (ballot : ABallot)
+            → result ≡ Ok (Some ballot) → Draws self.old.id self.old.vault self.new.vault ballot }
+        ensures rides { (ballot : ABallot) → result ≡ Ok (Some ballot) → self.new
+            ≡ record self.old { vault = self.new.vault; round = with_ride self.old.round ballot } }
+        ensures not_drawn { (self.old.id ≡ 0)
+            ⊎ (counter_of self.old.vault ≡ 2 ^ 48) → result ≡ Ok None }
+        ensures stands { self.new.down ≡ false
+            → VaultStands V.tells V.seen V.may_leave self.new.vault }
 
         // The vault is then past the ballot that was drawn, and still past each number that it was past.
-        ensures past { V.tells → (ballot : ABallot) → result ≡ Ok (Some ballot) → IsPast V.may_leave ballot.counter self.new.vault }
-        ensures still_past { V.tells → (n : ℕ) → IsPast V.may_leave n self.old.vault → IsPast V.may_leave n self.new.vault }
-        ensures any_moment { V.tells → LeavesOnly V.moment V.left_since (disk_of self.old.vault) (disk_of self.new.vault) (KeepsBeforeOrAfter (kept_of self.old.vault) (kept_to_draw (counter_of self.old.vault) (kept_of self.old.vault))) }
+        ensures past { V.tells → (ballot : ABallot)
+            → result ≡ Ok (Some ballot) → IsPast V.may_leave ballot.counter self.new.vault }
+        ensures still_past { V.tells
+            → (n : ℕ) → IsPast V.may_leave n self.old.vault → IsPast V.may_leave n self.new.vault }
+        ensures any_moment { V.tells → LeavesOnly V.moment V.left_since (disk_of self.old.vault)
+            (disk_of self.new.vault) (KeepsBeforeOrAfter (kept_of self.old.vault)
+            (kept_to_draw (counter_of self.old.vault) (kept_of self.old.vault))) }
 
         ensures not_spent { IsErrOf result VaultError.Spent → ⊥ }
         ensures not_foreign { IsNotForeign result }
-        ensures no_memory { IsErrOf result VaultError.NoMemory → (self.new ≡ record self.old { vault = self.new.vault }) × ShowsTheSame self.old.vault self.new.vault }
+        ensures no_memory { IsErrOf result VaultError.NoMemory
+            → (self.new ≡ record self.old { vault = self.new.vault })
+            × ShowsTheSame self.old.vault self.new.vault }
         ensures fault { IsErrOf result VaultError.VaultFault → GoesDownInDraw self.old self.new }
-        ensures cause { HasVaultCause result (V.fault_count (disk_of self.old.vault)) (V.fault_count (disk_of self.new.vault)) }
+        ensures cause { HasVaultCause result
+            (V.fault_count (disk_of self.old.vault)) (V.fault_count (disk_of self.new.vault)) }
     {
         if self.id.number() == 0 || self.vault.counter() == LAST_COUNTER {
             return Ok(None);
@@ -220,12 +263,20 @@ impl<V: Disk> Desk<V> {
     /// prepare quorum. It takes no memory.
     pub fn end(&mut self, kept: Option<Ready>)
         requires { IsSome self.old.round }
-        ensures desk { (round : ARound) → self.old.round ≡ Some round → self.new ≡ record self.old { vault = self.new.vault; cache = cache_after round kept self.old.cache; round = None } }
-        ensures counter { counter_of self.new.vault ≡ counter_without self.old.round (counter_of self.old.vault) }
+        ensures desk { (round : ARound)
+            → self.old.round ≡ Some round → self.new ≡ record self.old {
+              vault = self.new.vault;
+              cache = cache_after round kept self.old.cache;
+              round = None;
+            } }
+        ensures counter { counter_of self.new.vault
+            ≡ counter_without self.old.round (counter_of self.old.vault) }
         ensures kept { kept_of self.new.vault ≡ kept_of self.old.vault }
         ensures disk { disk_of self.new.vault ≡ disk_of self.old.vault }
-        ensures stands { self.new.down ≡ false → VaultStands V.tells V.seen V.may_leave self.new.vault }
-        ensures still_past { (n : ℕ) → IsPast V.may_leave n self.old.vault → IsPast V.may_leave n self.new.vault }
+        ensures stands { self.new.down ≡ false
+            → VaultStands V.tells V.seen V.may_leave self.new.vault }
+        ensures still_past { (n : ℕ)
+            → IsPast V.may_leave n self.old.vault → IsPast V.may_leave n self.new.vault }
     {
         let Some(round) = self.round.take() else {
             unreachable!();
@@ -243,23 +294,35 @@ impl<V: Disk> Desk<V> {
         requires up { self.old.down ≡ false }
         requires within { tomb.counter ≤ 2 ^ 48 }
         ensures age { IfOk result (λ age. age ≡ (kept_of self.old.vault).age + 1) }
-        ensures desk { OnOk result (self.new ≡ record self.old { vault = self.new.vault; cache = without key.now (cache_without self.old.round self.old.cache); round = None }) }
-        ensures counter { IsErrOf result VaultError.Spent ⊎ (counter_of self.new.vault ≡ max (counter_of self.old.vault) tomb.counter) }
-        ensures kept { OnOk result (kept_of self.new.vault ≡ kept_one_older (max (counter_of self.old.vault) tomb.counter) (kept_of self.old.vault)) }
-        ensures stands { self.new.down ≡ false → VaultStands V.tells V.seen V.may_leave self.new.vault }
+        ensures desk { OnOk result (self.new ≡ record self.old {
+          vault = self.new.vault;
+          cache = without key.now (cache_without self.old.round self.old.cache);
+          round = None;
+        }) }
+        ensures counter { IsErrOf result VaultError.Spent
+            ⊎ (counter_of self.new.vault ≡ max (counter_of self.old.vault) tomb.counter) }
+        ensures kept { OnOk result (kept_of self.new.vault ≡ kept_one_older
+            (max (counter_of self.old.vault) tomb.counter) (kept_of self.old.vault)) }
+        ensures stands { self.new.down ≡ false
+            → VaultStands V.tells V.seen V.may_leave self.new.vault }
 
         // The vault is then past the tombstone, and still past each number that it was past.
         ensures past { V.tells → OnOk result (IsPast V.may_leave tomb.counter self.new.vault) }
-        ensures still_past { V.tells → (n : ℕ) → IsPast V.may_leave n self.old.vault → IsPast V.may_leave n self.new.vault }
-        ensures any_moment { V.tells → LeavesOnly V.moment V.left_since (disk_of self.old.vault) (disk_of self.new.vault) (KeepsBeforeOrAfter (kept_of self.old.vault) (kept_one_older (max (counter_of self.old.vault) tomb.counter) (kept_of self.old.vault))) }
+        ensures still_past { V.tells
+            → (n : ℕ) → IsPast V.may_leave n self.old.vault → IsPast V.may_leave n self.new.vault }
+        ensures any_moment { V.tells → LeavesOnly V.moment V.left_since (disk_of self.old.vault)
+            (disk_of self.new.vault) (KeepsBeforeOrAfter (kept_of self.old.vault) (kept_one_older
+            (max (counter_of self.old.vault) tomb.counter) (kept_of self.old.vault))) }
 
         ensures spent { IsErrOf result VaultError.Spent ↔ ((kept_of self.old.vault).age ≡ 2 ^ 48) }
         ensures after_spent { IsErrOf result VaultError.Spent → self.new ≡ self.old }
-        ensures no_memory { IsErrOf result VaultError.NoMemory → self.new ≡ record self.old { vault = self.new.vault } }
+        ensures no_memory { IsErrOf result VaultError.NoMemory
+            → self.new ≡ record self.old { vault = self.new.vault } }
         ensures fault { IsErrOf result VaultError.VaultFault → IsCrashed self.old self.new }
         ensures same_kept { OnErr result (kept_of self.new.vault ≡ kept_of self.old.vault) }
         ensures not_foreign { IsNotForeign result }
-        ensures cause { HasVaultCause result (V.fault_count (disk_of self.old.vault)) (V.fault_count (disk_of self.new.vault)) }
+        ensures cause { HasVaultCause result
+            (V.fault_count (disk_of self.old.vault)) (V.fault_count (disk_of self.new.vault)) }
     {
         if self.vault.age() == LAST_COUNTER {
             return Err(VaultError::Spent);
@@ -282,18 +345,29 @@ impl<V: Disk> Desk<V> {
     /// the desk is down, its round is closed and its cache is empty.
     pub fn move_to(&mut self, era: &Era) -> Result<(), VaultError>
         requires up { self.old.down ≡ false }
-        ensures desk { OnOk result (self.new ≡ record self.old { vault = self.new.vault; cache = []; round = None }) }
+        ensures desk { OnOk result (self.new ≡ record self.old {
+          vault = self.new.vault;
+          cache = [];
+          round = None;
+        }) }
         ensures counter { counter_of self.new.vault ≡ counter_of self.old.vault }
-        ensures kept { OnOk result (kept_of self.new.vault ≡ kept_in_era era.now.number (kept_of self.old.vault)) }
-        ensures stands { self.new.down ≡ false → VaultStands V.tells V.seen V.may_leave self.new.vault }
-        ensures still_past { V.tells → (n : ℕ) → IsPast V.may_leave n self.old.vault → IsPast V.may_leave n self.new.vault }
-        ensures any_moment { V.tells → LeavesOnly V.moment V.left_since (disk_of self.old.vault) (disk_of self.new.vault) (KeepsBeforeOrAfter (kept_of self.old.vault) (kept_in_era era.now.number (kept_of self.old.vault))) }
+        ensures kept { OnOk result
+            (kept_of self.new.vault ≡ kept_in_era era.now.number (kept_of self.old.vault)) }
+        ensures stands { self.new.down ≡ false
+            → VaultStands V.tells V.seen V.may_leave self.new.vault }
+        ensures still_past { V.tells
+            → (n : ℕ) → IsPast V.may_leave n self.old.vault → IsPast V.may_leave n self.new.vault }
+        ensures any_moment { V.tells → LeavesOnly V.moment V.left_since (disk_of self.old.vault)
+            (disk_of self.new.vault) (KeepsBeforeOrAfter (kept_of self.old.vault)
+            (kept_in_era era.now.number (kept_of self.old.vault))) }
         ensures not_spent { IsErrOf result VaultError.Spent → ⊥ }
         ensures not_foreign { IsNotForeign result }
-        ensures no_memory { IsErrOf result VaultError.NoMemory → self.new ≡ record self.old { vault = self.new.vault } }
+        ensures no_memory { IsErrOf result VaultError.NoMemory
+            → self.new ≡ record self.old { vault = self.new.vault } }
         ensures fault { IsErrOf result VaultError.VaultFault → IsCrashed self.old self.new }
         ensures same_kept { OnErr result (kept_of self.new.vault ≡ kept_of self.old.vault) }
-        ensures cause { HasVaultCause result (V.fault_count (disk_of self.old.vault)) (V.fault_count (disk_of self.new.vault)) }
+        ensures cause { HasVaultCause result
+            (V.fault_count (disk_of self.old.vault)) (V.fault_count (disk_of self.new.vault)) }
     {
         match self.vault.enter_era(era.number) {
             Ok(()) => {
@@ -315,19 +389,27 @@ impl<V: Disk> Desk<V> {
         requires up { self.old.down ≡ false }
         ensures drawn { IfOk result (Draws self.old.id self.old.vault self.new.vault) }
         ensures desk { OnOk result (self.new ≡ record self.old { vault = self.new.vault }) }
-        ensures stands { self.new.down ≡ false → VaultStands V.tells V.seen V.may_leave self.new.vault }
+        ensures stands { self.new.down ≡ false
+            → VaultStands V.tells V.seen V.may_leave self.new.vault }
 
         // The vault is then past the ballot that was drawn, and still past each number that it was past.
-        ensures past { V.tells → IfOk result (λ ballot. IsPast V.may_leave ballot.counter self.new.vault) }
-        ensures still_past { V.tells → (n : ℕ) → IsPast V.may_leave n self.old.vault → IsPast V.may_leave n self.new.vault }
-        ensures any_moment { V.tells → LeavesOnly V.moment V.left_since (disk_of self.old.vault) (disk_of self.new.vault) (KeepsBeforeOrAfter (kept_of self.old.vault) (kept_to_draw (counter_of self.old.vault) (kept_of self.old.vault))) }
+        ensures past { V.tells
+            → IfOk result (λ ballot. IsPast V.may_leave ballot.counter self.new.vault) }
+        ensures still_past { V.tells
+            → (n : ℕ) → IsPast V.may_leave n self.old.vault → IsPast V.may_leave n self.new.vault }
+        ensures any_moment { V.tells → LeavesOnly V.moment V.left_since (disk_of self.old.vault)
+            (disk_of self.new.vault) (KeepsBeforeOrAfter (kept_of self.old.vault)
+            (kept_to_draw (counter_of self.old.vault) (kept_of self.old.vault))) }
 
         ensures spent { IsErrOf result VaultError.Spent ↔ (counter_of self.old.vault ≡ 2 ^ 48) }
         ensures not_foreign { IsNotForeign result }
-        ensures refused { OnErr result (self.new.down ≡ false → (self.new ≡ record self.old { vault = self.new.vault }) × ShowsTheSame self.old.vault self.new.vault) }
+        ensures refused { OnErr result (self.new.down ≡ false
+            → (self.new ≡ record self.old { vault = self.new.vault })
+            × ShowsTheSame self.old.vault self.new.vault) }
         ensures fault { IsErrOf result VaultError.VaultFault → GoesDownInDraw self.old self.new }
         ensures down { IsErrOf result VaultError.VaultFault ↔ IsTrue self.new.down }
-        ensures cause { HasVaultCause result (V.fault_count (disk_of self.old.vault)) (V.fault_count (disk_of self.new.vault)) }
+        ensures cause { HasVaultCause result
+            (V.fault_count (disk_of self.old.vault)) (V.fault_count (disk_of self.new.vault)) }
     {
         match draw(&mut self.vault, self.id) {
             Err(VaultError::VaultFault) => {
@@ -344,11 +426,17 @@ impl<V: Disk> Desk<V> {
     pub fn crash(&mut self)
         ensures crashed { IsCrashed self.old self.new }
         ensures vault { ShowsTheSame self.old.vault self.new.vault }
-        ensures image { V.tells → V.may_leave (disk_of self.old.vault) (V.seen (disk_of self.new.vault)) }
-        ensures settled { V.tells → Only (V.seen (disk_of self.new.vault)) (V.may_leave (disk_of self.new.vault)) }
-        ensures time { V.tells → Elapses (V.moment (disk_of self.old.vault)) (V.moment (disk_of self.new.vault)) (V.left_since (disk_of self.old.vault)) (V.left_since (disk_of self.new.vault)) (V.may_leave (disk_of self.new.vault)) }
-        ensures still_past { V.tells → (n : ℕ) → IsPast V.may_leave n self.old.vault → IsPast V.may_leave n self.new.vault }
-        ensures never_falls { V.fault_count (disk_of self.old.vault) ≤ V.fault_count (disk_of self.new.vault) }
+        ensures image { V.tells
+            → V.may_leave (disk_of self.old.vault) (V.seen (disk_of self.new.vault)) }
+        ensures settled { V.tells
+            → Only (V.seen (disk_of self.new.vault)) (V.may_leave (disk_of self.new.vault)) }
+        ensures time { V.tells → Elapses (V.moment (disk_of self.old.vault))
+            (V.moment (disk_of self.new.vault)) (V.left_since (disk_of self.old.vault))
+            (V.left_since (disk_of self.new.vault)) (V.may_leave (disk_of self.new.vault)) }
+        ensures still_past { V.tells
+            → (n : ℕ) → IsPast V.may_leave n self.old.vault → IsPast V.may_leave n self.new.vault }
+        ensures never_falls { V.fault_count (disk_of self.old.vault)
+            ≤ V.fault_count (disk_of self.new.vault) }
     {
         self.vault.crash();
         fall(&mut self.cache, &mut self.round, &mut self.down);
@@ -359,18 +447,30 @@ impl<V: Disk> Desk<V> {
     /// is not as a vault's format demands.
     pub fn restart(&mut self) -> Result<(), VaultError>
         ensures up { self.old.down ≡ false → (result ≡ Ok tt) × (self.new ≡ self.old) }
-        ensures desk { OnOk result (self.new ≡ record self.old { vault = self.new.vault; down = false }) }
-        ensures stands { self.new.down ≡ false → VaultStands V.tells V.seen V.may_leave self.new.vault }
-        ensures counter { IsTrue self.old.down → OnOk result (counter_of self.new.vault ≡ (kept_of self.new.vault).bound) }
-        ensures image { V.tells → IsTrue self.old.down → V.may_leave (disk_of self.old.vault) (V.seen (disk_of self.new.vault)) }
-        ensures reopened { V.tells → IsTrue self.old.down → OnOk result (KeptOn (kept_of self.new.vault) (V.seen (disk_of self.new.vault))) }
-        ensures any_moment { V.tells → IsTrue self.old.down → LeavesOnly V.moment V.left_since (disk_of self.old.vault) (disk_of self.new.vault) (V.may_leave (disk_of self.old.vault)) }
-        ensures still_past { V.tells → (n : ℕ) → IsPast V.may_leave n self.old.vault → IsPast V.may_leave n self.new.vault }
-        ensures foreign { V.tells → (at : ℕ) → IsErrOf result (VaultError.Foreign at) → IsForeignAt (V.seen (disk_of self.new.vault)) at }
+        ensures desk { OnOk result (self.new ≡ record self.old {
+          vault = self.new.vault;
+          down = false;
+        }) }
+        ensures stands { self.new.down ≡ false
+            → VaultStands V.tells V.seen V.may_leave self.new.vault }
+        ensures counter { IsTrue self.old.down
+            → OnOk result (counter_of self.new.vault ≡ (kept_of self.new.vault).bound) }
+        ensures image { V.tells → IsTrue self.old.down
+            → V.may_leave (disk_of self.old.vault) (V.seen (disk_of self.new.vault)) }
+        ensures reopened { V.tells → IsTrue self.old.down
+            → OnOk result (KeptOn (kept_of self.new.vault) (V.seen (disk_of self.new.vault))) }
+        ensures any_moment { V.tells
+            → IsTrue self.old.down → LeavesOnly V.moment V.left_since (disk_of self.old.vault)
+            (disk_of self.new.vault) (V.may_leave (disk_of self.old.vault)) }
+        ensures still_past { V.tells
+            → (n : ℕ) → IsPast V.may_leave n self.old.vault → IsPast V.may_leave n self.new.vault }
+        ensures foreign { V.tells → (at : ℕ) → IsErrOf result (VaultError.Foreign at)
+            → IsForeignAt (V.seen (disk_of self.new.vault)) at }
         ensures not_spent { IsErrOf result VaultError.Spent → ⊥ }
         ensures refused { OnErr result (self.new ≡ record self.old { vault = self.new.vault }) }
         ensures same_vault { OnErr result (ShowsTheSame self.old.vault self.new.vault) }
-        ensures cause { HasVaultCause result (V.fault_count (disk_of self.old.vault)) (V.fault_count (disk_of self.new.vault)) }
+        ensures cause { HasVaultCause result
+            (V.fault_count (disk_of self.old.vault)) (V.fault_count (disk_of self.new.vault)) }
     {
         if !self.down {
             return Ok(());
@@ -382,7 +482,8 @@ impl<V: Disk> Desk<V> {
 
     /// The open round. `None` comes exactly where none is open.
     pub fn round(&self) -> Option<&Round>
-        ensures { MatchOption result (self.now.round ≡ None) (λ round. self.now.round ≡ Some round.now) }
+        ensures { MatchOption result
+            (self.now.round ≡ None) (λ round. self.now.round ≡ Some round.now) }
     {
         self.round.as_ref()
     }
@@ -397,7 +498,8 @@ impl<V: Disk> Desk<V> {
     /// How often it was renewed. While the desk is up, whatever a crash leaves of its vault was renewed as often.
     pub fn age(&self) -> u64
         ensures age { result ≡ (kept_of self.now.vault).age }
-        ensures stands { self.now.down ≡ false → VaultStands V.tells V.seen V.may_leave self.now.vault }
+        ensures stands { self.now.down ≡ false
+            → VaultStands V.tells V.seen V.may_leave self.now.vault }
     {
         self.vault.age()
     }
@@ -432,13 +534,18 @@ fn draw<V: Disk>(vault: &mut Vault<V>, id: ProposerId) -> Result<Ballot, VaultEr
     ensures drawn { IfOk result (Draws id vault.old vault.new) }
     ensures stands { OnOk result (VaultStands V.tells V.seen V.may_leave vault.new) }
     ensures past { V.tells → IfOk result (λ ballot. IsPast V.may_leave ballot.counter vault.new) }
-    ensures still_past { V.tells → (n : ℕ) → IsPast V.may_leave n vault.old → IsPast V.may_leave n vault.new }
-    ensures any_moment { V.tells → LeavesOnly V.moment V.left_since (disk_of vault.old) (disk_of vault.new) (KeepsBeforeOrAfter (kept_of vault.old) (kept_to_draw (counter_of vault.old) (kept_of vault.old))) }
+    ensures still_past { V.tells
+        → (n : ℕ) → IsPast V.may_leave n vault.old → IsPast V.may_leave n vault.new }
+    ensures any_moment { V.tells → LeavesOnly V.moment V.left_since
+        (disk_of vault.old) (disk_of vault.new) (KeepsBeforeOrAfter (kept_of vault.old)
+        (kept_to_draw (counter_of vault.old) (kept_of vault.old))) }
     ensures spent { IsErrOf result VaultError.Spent ↔ (counter_of vault.old ≡ 2 ^ 48) }
-    ensures stands_still { OnErr result (IsErrOf result VaultError.VaultFault ⊎ VaultStands V.tells V.seen V.may_leave vault.new) }
+    ensures stands_still { OnErr result (IsErrOf result VaultError.VaultFault
+        ⊎ VaultStands V.tells V.seen V.may_leave vault.new) }
     ensures not_foreign { IsNotForeign result }
     ensures same { OnErr result (ShowsTheSame vault.old vault.new) }
-    ensures cause { HasVaultCause result (V.fault_count (disk_of vault.old)) (V.fault_count (disk_of vault.new)) }
+    ensures cause { HasVaultCause result
+        (V.fault_count (disk_of vault.old)) (V.fault_count (disk_of vault.new)) }
 {
     let counter = vault.draw()?;
     Ok(Ballot {
@@ -453,16 +560,22 @@ fn grow_older<V: Disk>(vault: &mut Vault<V>, counter: u64) -> Result<u64, VaultE
     requires within { counter ≤ 2 ^ 48 }
     ensures age { IfOk result (λ age. age ≡ (kept_of vault.old).age + 1) }
     ensures counter { counter_of vault.new ≡ max (counter_of vault.old) counter }
-    ensures kept { OnOk result (kept_of vault.new ≡ kept_one_older (max (counter_of vault.old) counter) (kept_of vault.old)) }
+    ensures kept { OnOk result (kept_of vault.new
+        ≡ kept_one_older (max (counter_of vault.old) counter) (kept_of vault.old)) }
     ensures stands { OnOk result (VaultStands V.tells V.seen V.may_leave vault.new) }
     ensures past { V.tells → OnOk result (IsPast V.may_leave counter vault.new) }
-    ensures still_past { V.tells → (n : ℕ) → IsPast V.may_leave n vault.old → IsPast V.may_leave n vault.new }
-    ensures any_moment { V.tells → LeavesOnly V.moment V.left_since (disk_of vault.old) (disk_of vault.new) (KeepsBeforeOrAfter (kept_of vault.old) (kept_one_older (max (counter_of vault.old) counter) (kept_of vault.old))) }
+    ensures still_past { V.tells
+        → (n : ℕ) → IsPast V.may_leave n vault.old → IsPast V.may_leave n vault.new }
+    ensures any_moment { V.tells → LeavesOnly V.moment V.left_since
+        (disk_of vault.old) (disk_of vault.new) (KeepsBeforeOrAfter (kept_of vault.old)
+        (kept_one_older (max (counter_of vault.old) counter) (kept_of vault.old))) }
     ensures spent { IsErrOf result VaultError.Spent → (kept_of vault.old).age ≡ 2 ^ 48 }
-    ensures after_no_memory { IsErrOf result VaultError.NoMemory → VaultStands V.tells V.seen V.may_leave vault.new }
+    ensures after_no_memory { IsErrOf result VaultError.NoMemory
+        → VaultStands V.tells V.seen V.may_leave vault.new }
     ensures not_foreign { IsNotForeign result }
     ensures same { OnErr result (kept_of vault.new ≡ kept_of vault.old) }
-    ensures cause { HasVaultCause result (V.fault_count (disk_of vault.old)) (V.fault_count (disk_of vault.new)) }
+    ensures cause { HasVaultCause result
+        (V.fault_count (disk_of vault.old)) (V.fault_count (disk_of vault.new)) }
 {
     vault.forward(counter);
     vault.raise_age()
@@ -471,7 +584,8 @@ fn grow_older<V: Disk>(vault: &mut Vault<V>, counter: u64) -> Result<u64, VaultE
 // Closes the round, if one is open, and takes the key's promise out.
 fn close(cache: &mut Cache, round: &Option<Round>, key: &Key)
     requires { place_of cache.old ≡ key_of round.now }
-    ensures promises { promises_of cache.new ≡ without key.now (cache_without round.now (promises_of cache.old)) }
+    ensures promises { promises_of cache.new
+        ≡ without key.now (cache_without round.now (promises_of cache.old)) }
     ensures place { place_of cache.new ≡ None }
 {
     match round {
@@ -522,7 +636,8 @@ fn finish<V: Disk>(vault: &mut Vault<V>, cache: &mut Cache, round: Round, kept: 
     ensures counter { counter_of vault.new ≡ counter_after (counter_of vault.old) round.met }
     ensures kept { kept_of vault.new ≡ kept_of vault.old }
     ensures disk { disk_of vault.new ≡ disk_of vault.old }
-    ensures stands { VaultStands V.tells V.seen V.may_leave vault.old → VaultStands V.tells V.seen V.may_leave vault.new }
+    ensures stands { VaultStands V.tells V.seen V.may_leave vault.old
+        → VaultStands V.tells V.seen V.may_leave vault.new }
     ensures still_past { (n : ℕ) → IsPast V.may_leave n vault.old → IsPast V.may_leave n vault.new }
 {
     if let Some(met) = round.met {

@@ -69,7 +69,14 @@ impl Round {
 
     /// A round in that phase, at which no ballot was met.
     fn in_phase(key: Key, era: &Era, ballot: Ballot, phase: OpenPhase) -> Round
-        ensures { result ≡ record { key = key; era = era.now; ballot = ballot; ride = None; met = None; phase = phase } }
+        ensures { result ≡ record {
+          key = key;
+          era = era.now;
+          ballot = ballot;
+          ride = None;
+          met = None;
+          phase = phase;
+        } }
     {
         Round {
             key,

@@ -11,7 +11,8 @@ use std::hash::Hash;
 /// so that a look beforehand would cost more.
 pub fn keep_first<K: Eq + Hash + Copy, V: Drop>(map: &mut IndexMap<K, V>, key: K, value: V)
     requires { 1 < spare map.old }
-    ensures kept { (q : K) → get K.eq map.new q ≡ option_or (get K.eq map.old q) (if K.eq key q then Some value else None) }
+    ensures kept { (q : K) → get K.eq map.new q
+        ≡ option_or (get K.eq map.old q) (if K.eq key q then Some value else None) }
     ensures room { spare map.old ≤ spare map.new + 2 }
 {
     if let Ok(Some(first)) = map.insert(key, value) {

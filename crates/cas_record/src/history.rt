@@ -36,7 +36,8 @@ fn later_if(taken: bool, ballot: Ballot, so_far: Ballot) -> Ballot
 }
 
 fn floor_after(floor: Ballot, key: &Key, ballot: Ballot, mark: &Mark) -> Ballot
-    ensures { (older : List Mark) → floor ≡ floor_below key.now ballot older → result ≡ floor_below key.now ballot (mark.now ∷ older) }
+    ensures { (older : List Mark) → floor ≡ floor_below key.now ballot older
+        → result ≡ floor_below key.now ballot (mark.now ∷ older) }
 {
     match mark {
         Mark::Floor {
@@ -86,7 +87,8 @@ fn program_at(alloc: Global, marks: &[Mark], begun: Option<usize>) -> Result<Pro
 /// The entry of the proposal to which the link belongs.
 pub(crate) fn entry_at(alloc: Global, marks: &[Mark], link: Link) -> Result<Entry, AllocError>
     requires { IsLinkIn marks.now link }
-    ensures { IfOk result (λ entry. (p : Proposal) (older : List Mark) → At (Proposed p) older (reverse marks.now) → link ≡ link_by p older → entry ≡ entry_of older p) }
+    ensures { IfOk result (λ entry. (p : Proposal) (older : List Mark) → At (Proposed p) older
+        (reverse marks.now) → link ≡ link_by p older → entry ≡ entry_of older p) }
 {
     match &marks[link.place] {
         Mark::Proposed(proposal) => Ok(Entry {

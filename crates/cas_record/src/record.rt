@@ -108,8 +108,10 @@ impl Record {
     /// The least key after this one, or the least of all where none is given, that has an entry that stands or a floor. `None` where
     /// there is none. It takes no memory.
     pub fn next_key(&self, after: Option<&Key>) -> Option<&Key>
-        ensures next { IfSome result (λ key. HasEntryOrFloor key.now (reverse self.now.marks) × IsAfter (option_copied after.entry) key.now) }
-        ensures least { (key : List ℕ) → HasEntryOrFloor key (reverse self.now.marks) → IsAfter (option_copied after.entry) key
+        ensures next { IfSome result (λ key. HasEntryOrFloor key.now (reverse self.now.marks)
+            × IsAfter (option_copied after.entry) key.now) }
+        ensures least { (key : List ℕ)
+            → HasEntryOrFloor key (reverse self.now.marks) → IsAfter (option_copied after.entry) key
             → MatchOption result ⊥ (λ next. KeyLess key next.now → ⊥) }
     {
         let from = first_after(&self.tables.rows, &self.marks, after, &self.tables.hints);
@@ -123,7 +125,8 @@ impl Record {
     /// made a floor goes on from, and its entry. It is empty where there is none such, and where that is the floor with
     /// which the key opens. In memory from the record's allocator; an `Err` comes where there is none.
     pub fn settled(&self, key: &Key) -> Result<Vec<Entry>, AllocError>
-        ensures { IfOk result (λ entries. entries.items ≡ settled_of key.now (reverse self.now.marks)) }
+        ensures { IfOk result
+            (λ entries. entries.items ≡ settled_of key.now (reverse self.now.marks)) }
     {
         self.tables
             .settled(*self.marks.allocator(), &self.marks, key)

@@ -69,7 +69,8 @@ pub fn later_of(ballot: Ballot, so_far: Option<Ballot>) -> Ballot
 }
 
 fn top_after(top: Option<Ballot>, key: &Key, mark: &Mark) -> Option<Ballot>
-    ensures { (older : List Mark) → top ≡ top_at key.now older → result ≡ top_at key.now (mark.now ∷ older) }
+    ensures { (older : List Mark)
+        → top ≡ top_at key.now older → result ≡ top_at key.now (mark.now ∷ older) }
 {
     match mark {
         Mark::Acked(acknowledgment) if acknowledgment.key == *key => {
@@ -85,7 +86,8 @@ fn top_after(top: Option<Ballot>, key: &Key, mark: &Mark) -> Option<Ballot>
 }
 
 fn floor_after(floor: Option<Ballot>, key: &Key, mark: &Mark) -> Option<Ballot>
-    ensures { (older : List Mark) → floor ≡ floor_at key.now older → result ≡ floor_at key.now (mark.now ∷ older) }
+    ensures { (older : List Mark)
+        → floor ≡ floor_at key.now older → result ≡ floor_at key.now (mark.now ∷ older) }
 {
     match mark {
         Mark::Floor {
@@ -104,7 +106,8 @@ fn opening_after(
     begun: bool,
     place: usize,
 ) -> Option<usize>
-    ensures { (older : List Mark) → length older ≡ place → has_calls older ≡ begun → opening ≡ opening_at key.now older → result ≡ opening_at key.now (mark.now ∷ older) }
+    ensures { (older : List Mark) → length older ≡ place → has_calls older ≡ begun
+        → opening ≡ opening_at key.now older → result ≡ opening_at key.now (mark.now ∷ older) }
 {
     match mark {
         Mark::Floor { key: other, .. } if other == key && !begun => Some(place),
@@ -127,7 +130,8 @@ pub fn empty_row(home: usize) -> Row
 /// The row after one mark more, which stands at this place; `begun` says whether a call began before it.
 pub fn row_after(row: Row, key: &Key, mark: &Mark, begun: bool, place: usize) -> Row
     ensures home { result.home ≡ row.home }
-    ensures told { (older : List Mark) → length older ≡ place → has_calls older ≡ begun → TellsOf key.now older row → TellsOf key.now (mark.now ∷ older) result }
+    ensures told { (older : List Mark) → length older ≡ place → has_calls older ≡ begun
+        → TellsOf key.now older row → TellsOf key.now (mark.now ∷ older) result }
 {
     Row {
         home: row.home,

@@ -79,7 +79,8 @@ pub fn search(rows: &[Row], marks: &[Mark], key: &Key, hint: usize) -> Result<us
 
 /// The row that a search found.
 pub fn row_at(rows: &[Row], found: Result<usize, usize>) -> Option<Row>
-    ensures { (key : List ℕ) (marks : List Mark) → IsSearched key rows.now marks found → IsRowFor key marks result }
+    ensures { (key : List ℕ) (marks : List Mark)
+        → IsSearched key rows.now marks found → IsRowFor key marks result }
 {
     match found {
         Ok(at) => rows.get(at).copied(),
@@ -103,7 +104,8 @@ pub fn note_key(
     requires room { vec_len rows.old < vec_capacity rows.old }
     ensures rows { HasRows rows.new.items (marks.now ++ mark.now ∷ []) }
     ensures home { home_of key.now (mark.now ∷ reverse marks.now) ≡ Some result }
-    ensures room { (n : ℕ) → vec_len rows.old + (n + 1) ≤ vec_capacity rows.old → vec_len rows.new + n ≤ vec_capacity rows.new }
+    ensures room { (n : ℕ) → vec_len rows.old + (n + 1) ≤ vec_capacity rows.old
+        → vec_len rows.new + n ≤ vec_capacity rows.new }
 {
     match found {
         Ok(at) => {

@@ -23,7 +23,8 @@ use std::alloc::{AllocError, Global};
 
 /// The greatest floor of the row's key.
 fn floor_of(row: Option<Row>) -> Option<Ballot>
-    ensures { (key : List ℕ) (marks : List Mark) → IsRowFor key marks row → result ≡ floor_at key (reverse marks) }
+    ensures { (key : List ℕ) (marks : List Mark)
+        → IsRowFor key marks row → result ≡ floor_at key (reverse marks) }
 {
     match row {
         Some(row) => row.floor,
@@ -110,7 +111,8 @@ impl Tables {
 
     /// The ballot, where the history of the row's key up to it has an entry.
     pub fn standing(&self, row: Option<Row>, ballot: Ballot) -> Option<Ballot>
-        ensures { (key : List ℕ) (marks : List Mark) → IsTablesOf self.now marks → IsRowFor key marks row → result ≡ standing_at key ballot (reverse marks) }
+        ensures { (key : List ℕ) (marks : List Mark) → IsTablesOf self.now marks
+            → IsRowFor key marks row → result ≡ standing_at key ballot (reverse marks) }
     {
         let Some(row) = row else {
             return None;
@@ -139,7 +141,8 @@ impl Tables {
     fn note_call(&mut self, marks: &[Mark], mark: &Mark, caller: u8, call: u32)
         requires tables { IsTablesOf self.old marks.now }
         requires room { HasRoomFor 1 self.old }
-        requires mark { (key : List ℕ) × ((program : List Clause) × (mark.now ≡ Mark.Begun caller call key program)) }
+        requires mark { (key : List ℕ)
+            × ((program : List Clause) × (mark.now ≡ Mark.Begun caller call key program)) }
         ensures tables { IsTablesOf self.new (marks.now ++ mark.now ∷ []) }
         ensures room { (n : ℕ) → HasRoomFor (n + 1) self.old → HasRoomFor n self.new }
     {
@@ -217,7 +220,8 @@ impl Tables {
 
     /// The link at a ballot of the row's key, where there is one.
     fn link_at(&self, row: Row, from: Option<Ballot>) -> Option<Link>
-        ensures { (key : List ℕ) (marks : List Mark) → IsTablesOf self.now marks → IsRowOf key (reverse marks) row → result ≡ next_at key from (reverse marks) }
+        ensures { (key : List ℕ) (marks : List Mark) → IsTablesOf self.now marks
+            → IsRowOf key (reverse marks) row → result ≡ next_at key from (reverse marks) }
     {
         match from {
             Some(ballot) => self.links.get(&(row.home, ballot)).copied(),
@@ -251,7 +255,8 @@ impl Tables {
 
     /// Whether the row's key has an entry that stands, or a floor.
     fn is_listed(&self, row: Row) -> bool
-        ensures { (key : List ℕ) (marks : List Mark) → IsTablesOf self.now marks → IsRowOf key (reverse marks) row → IsTrue result ↔ HasEntryOrFloor key (reverse marks) }
+        ensures { (key : List ℕ) (marks : List Mark) → IsTablesOf self.now marks → IsRowOf key
+            (reverse marks) row → IsTrue result ↔ HasEntryOrFloor key (reverse marks) }
     {
         let top = row.top.unwrap_or(Ballot::ZERO);
         row.floor.is_some() || self.standing(Some(row), top).is_some()
@@ -260,7 +265,8 @@ impl Tables {
     /// The place of the first row from this one on whose key has an entry that stands, or a floor.
     pub fn next_listed(&self, from: usize) -> Option<usize>
         ensures { (marks : List Mark) → IsTablesOf self.now marks
-            → MatchOption result (AreUnlisted self.now.rows.items marks from (length self.now.rows.items)) (IsNextListed self.now.rows.items marks from) }
+            → MatchOption result (AreUnlisted self.now.rows.items marks from
+            (length self.now.rows.items)) (IsNextListed self.now.rows.items marks from) }
     {
         for at in from..self.rows.len() {
             if self.is_listed(self.rows[at]) {

@@ -40,10 +40,12 @@ impl PrepareRound {
 
     /// One more reply arrived.
     pub fn arrive(&mut self, reply: Reply)
-        ensures after { (era : AnEra) (ballot : ABallot) (replies : List AReply) → IsPrepareAfter era ballot replies self.old
+        ensures after { (era : AnEra) (ballot : ABallot) (replies : List AReply)
+            → IsPrepareAfter era ballot replies self.old
             → IsPrepareAfter era ballot (reply ∷ replies) self.new }
         // A reply of another phase or another ballot changes nothing.
-        ensures other { (era : AnEra) (ballot : ABallot) (replies : List AReply) → IsPrepareAfter era ballot replies self.old
+        ensures other { (era : AnEra) (ballot : ABallot) (replies : List AReply)
+            → IsPrepareAfter era ballot replies self.old
             → is_heard is_prepare ballot reply ≡ false → self.new ≡ self.old }
     {
         if reply.phase != Phase::Prepare || reply.tag != self.ballot {
@@ -59,7 +61,8 @@ impl PrepareRound {
 
     /// How the phase ends, should no other reply arrive.
     pub fn verdict(&self) -> RoundVerdict
-        ensures verdict { (era : AnEra) (ballot : ABallot) (replies : List AReply) → IsPrepareAfter era ballot replies self.now
+        ensures verdict { (era : AnEra) (ballot : ABallot) (replies : List AReply)
+            → IsPrepareAfter era ballot replies self.now
             → IsPrepareVerdict era ballot replies result }
         ensures quorum { (result ≡ RoundVerdict.Quorum) ↔ (is_promised self.now ≡ true) }
     {
@@ -70,8 +73,8 @@ impl PrepareRound {
 
     /// The acceptors that confirmed.
     pub fn confirmers(&self) -> Members
-        ensures confirmers { (era : AnEra) (ballot : ABallot) (replies : List AReply) → IsPrepareAfter era ballot replies self.now
-            → result ≡ promisers_of ballot replies }
+        ensures confirmers { (era : AnEra) (ballot : ABallot) (replies : List AReply)
+            → IsPrepareAfter era ballot replies self.now → result ≡ promisers_of ballot replies }
         ensures shown { result ≡ promised_in self.now }
     {
         self.tally.confirmed
@@ -79,7 +82,8 @@ impl PrepareRound {
 
     /// What would be read, should no other reply arrive, as [`PrepareRound::into_read`] tells it.
     pub fn latest(&self) -> Option<&Accepted>
-        ensures read { (era : AnEra) (ballot : ABallot) (replies : List AReply) → IsPrepareAfter era ballot replies self.now
+        ensures read { (era : AnEra) (ballot : ABallot) (replies : List AReply)
+            → IsPrepareAfter era ballot replies self.now
             → IsRead ballot replies (option_copied result) }
         ensures shown { option_copied result ≡ read_in self.now }
     {
@@ -89,8 +93,8 @@ impl PrepareRound {
     /// What was read: of all that the confirmations told as accepted, that of the greatest ballot. `None` where none of
     /// them told any.
     pub fn into_read(self) -> Option<Accepted>
-        ensures { (era : AnEra) (ballot : ABallot) (replies : List AReply) → IsPrepareAfter era ballot replies self
-            → IsRead ballot replies result }
+        ensures { (era : AnEra) (ballot : ABallot) (replies : List AReply)
+            → IsPrepareAfter era ballot replies self → IsRead ballot replies result }
     {
         self.read
     }
@@ -121,10 +125,12 @@ impl AcceptRound {
 
     /// One more reply arrived.
     pub fn arrive(&mut self, reply: Reply)
-        ensures after { (era : AnEra) (ballot : ABallot) (replies : List AReply) → IsAcceptAfter era ballot replies self.old
+        ensures after { (era : AnEra) (ballot : ABallot) (replies : List AReply)
+            → IsAcceptAfter era ballot replies self.old
             → IsAcceptAfter era ballot (reply ∷ replies) self.new }
         // A reply of another phase or another ballot changes nothing.
-        ensures other { (era : AnEra) (ballot : ABallot) (replies : List AReply) → IsAcceptAfter era ballot replies self.old
+        ensures other { (era : AnEra) (ballot : ABallot) (replies : List AReply)
+            → IsAcceptAfter era ballot replies self.old
             → is_heard is_accept ballot reply ≡ false → self.new ≡ self.old }
     {
         if reply.phase != Phase::Accept || reply.tag != self.ballot {
@@ -139,7 +145,8 @@ impl AcceptRound {
 
     /// How the phase ends, should no other reply arrive.
     pub fn verdict(&self) -> RoundVerdict
-        ensures verdict { (era : AnEra) (ballot : ABallot) (replies : List AReply) → IsAcceptAfter era ballot replies self.now
+        ensures verdict { (era : AnEra) (ballot : ABallot) (replies : List AReply)
+            → IsAcceptAfter era ballot replies self.now
             → IsAcceptVerdict era ballot replies result }
         ensures quorum { (result ≡ RoundVerdict.Quorum) ↔ (is_accepted self.now ≡ true) }
     {
@@ -149,8 +156,8 @@ impl AcceptRound {
 
     /// The acceptors that confirmed.
     pub fn confirmers(&self) -> Members
-        ensures confirmers { (era : AnEra) (ballot : ABallot) (replies : List AReply) → IsAcceptAfter era ballot replies self.now
-            → result ≡ accepters_of ballot replies }
+        ensures confirmers { (era : AnEra) (ballot : ABallot) (replies : List AReply)
+            → IsAcceptAfter era ballot replies self.now → result ≡ accepters_of ballot replies }
         ensures shown { result ≡ accepted_in self.now }
     {
         self.tally.confirmed

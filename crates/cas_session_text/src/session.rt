@@ -92,9 +92,9 @@ impl Session {
     /// The session that this text tells. `Ok(None)` comes exactly where no session has this text. Only memory can fail.
     pub fn read(alloc: Global, text: &[u8]) -> Result<Option<Session>, AllocError>
         // What was read has this text, and is all that has it.
-        ensures found { IfOk result (λ read. MatchOption read
-            ((contents : SessionContents) → IsContents contents → contents_text contents ≡ text.now → ⊥)
-            (λ session. IsContents session × (contents_text session ≡ text.now))) }
+        ensures found { IfOk result (λ read. MatchOption read ((contents : SessionContents)
+            → IsContents contents → contents_text contents ≡ text.now
+            → ⊥) (λ session. IsContents session × (contents_text session ≡ text.now))) }
     {
         let Some(session) = read_loosely(alloc, text)? else {
             return Ok(None);
@@ -244,8 +244,8 @@ fn find_reply(replies: &[LastReply], caller: u8) -> Option<LastReply>
 fn tell_words(session: &mut Session, text: &[u8]) -> Result<bool, AllocError>
     ensures { IfOk result (λ all. (replies : List LastReply)
         → flat_map next_reply_text replies ≡ text.now
-        → IsContents (record session.old { replies = session.old.replies ++ replies })
-        → IsTrue all × (session.new ≡ record session.old { replies = session.old.replies ++ replies })) }
+        → IsContents (record session.old { replies = session.old.replies ++ replies }) → IsTrue all
+        × (session.new ≡ record session.old { replies = session.old.replies ++ replies })) }
 {
     let mut rest = text;
     while !rest.is_empty() {

@@ -150,7 +150,8 @@ pub fn keys_after(
     after: Option<&Key>,
     most: usize,
 ) -> Result<Vec<Key>, AllocError>
-    ensures { IfOk result (λ found. found.items ≡ take most (keys_above (map.from_entries slots.now.entries) (option_copied after.entry))) }
+    ensures { IfOk result (λ found. found.items ≡ take most
+        (keys_above (map.from_entries slots.now.entries) (option_copied after.entry))) }
 {
     let start = match after {
         Some(key) => Bound::Excluded(key),

@@ -58,9 +58,11 @@ pub trait Shelf {
     fn reopen(&mut self) -> Result<(), ShelfFault>
         ensures reopened { tells → OnOk result (may_leave self.old (Ok (contents self.new))) }
         ensures err { OnErr result (contents self.new ≡ contents self.old) }
-        ensures foreign { tells → (at : ℕ) → IsErrOf result (ShelfFault.Foreign at) → may_leave self.old (Err at) }
+        ensures foreign { tells
+            → (at : ℕ) → IsErrOf result (ShelfFault.Foreign at) → may_leave self.old (Err at) }
         ensures up { OnOk result (is_up self.new) }
-        ensures any_moment { tells → ShelfLeavesOnly moment left_since self.old self.new (may_leave self.old) }
+        ensures any_moment { tells
+            → ShelfLeavesOnly moment left_since self.old self.new (may_leave self.old) }
         ensures not_full { IsErrOf result ShelfFault.Full → ⊥ }
         ensures cause { HasShelfCause result (fault_count self.old) (fault_count self.new) };
 
@@ -68,7 +70,8 @@ pub trait Shelf {
     /// The shelf is reopened before it is changed.
     fn crash(&mut self)
         ensures settled { tells → NothingIsPending (may_leave self.old) (may_leave self.new) }
-        ensures any_moment { tells → ShelfLeavesOnly moment left_since self.old self.new (may_leave self.old) }
+        ensures any_moment { tells
+            → ShelfLeavesOnly moment left_since self.old self.new (may_leave self.old) }
         ensures never_falls { fault_count self.old ≤ fault_count self.new };
 
     /// A copy of the slot of the key, if there is one.
@@ -81,7 +84,8 @@ pub trait Shelf {
 
     /// The first `most` keys above this one that have a slot, or the first `most` of all, in the order of their bytes.
     fn keys_after(&self, after: Option<&Key>, most: usize) -> Result<Vec<Key>, AllocError>
-        ensures { IfOk result (λ keys. keys.items ≡ take most (keys_above (contents self.now).slots (option_copied after.entry))) };
+        ensures { IfOk result (λ keys. keys.items ≡ take most
+            (keys_above (contents self.now).slots (option_copied after.entry))) };
 
     /// Puts the slot, whose ballots have counters up to 2^48 and proposers up to 16, at the key, in the place of the one that
     /// was there. A crash within the call leaves what was there before or what is there after it, and after `Ok` only the
@@ -94,11 +98,15 @@ pub trait Shelf {
         ensures err { OnErr result (contents self.new ≡ contents self.old) }
         ensures up { OnOk result (is_up self.new) }
         ensures up_still { IsErrOf result ShelfFault.NoMemory → is_up self.new }
-        ensures full { IsErrOf result ShelfFault.Full ↔ IsFullFor (contents self.old).slots key.now }
+        ensures full { IsErrOf result ShelfFault.Full ↔ IsFullFor
+            (contents self.old).slots key.now }
         ensures up_when_full { IsErrOf result ShelfFault.Full → is_up self.new }
-        ensures untouched_when_full { tells → IsErrOf result ShelfFault.Full → ShelfLeavesOnly moment left_since self.old self.new (λ left. left ≡ Ok (contents self.old)) }
+        ensures untouched_when_full { tells
+            → IsErrOf result ShelfFault.Full → ShelfLeavesOnly moment left_since self.old self.new
+            (λ left. left ≡ Ok (contents self.old)) }
         ensures not_foreign { (at : ℕ) → IsErrOf result (ShelfFault.Foreign at) → ⊥ }
-        ensures any_moment { tells → ShelfLeavesOnly moment left_since self.old self.new (IsOldOrNew (contents self.old) (with_kept (contents self.old) key.now slot)) }
+        ensures any_moment { tells → ShelfLeavesOnly moment left_since self.old self.new
+            (IsOldOrNew (contents self.old) (with_kept (contents self.old) key.now slot)) }
         ensures cause { HasShelfCause result (fault_count self.old) (fault_count self.new) };
 
     /// Removes the slot of the key; where there is none, nothing changes. A crash within the call leaves what was there before
@@ -111,7 +119,8 @@ pub trait Shelf {
         ensures up { OnOk result (is_up self.new) }
         ensures up_still { IsErrOf result ShelfFault.NoMemory → is_up self.new }
         ensures other { IsNeitherFullNorForeign result }
-        ensures any_moment { tells → ShelfLeavesOnly moment left_since self.old self.new (IsOldOrNew (contents self.old) (without_kept (contents self.old) key.now)) }
+        ensures any_moment { tells → ShelfLeavesOnly moment left_since self.old self.new
+            (IsOldOrNew (contents self.old) (without_kept (contents self.old) key.now)) }
         ensures cause { HasShelfCause result (fault_count self.old) (fault_count self.new) };
 
     /// Raises each proposer's least age to the greater of the two. A crash within the call leaves what was there before or
@@ -124,7 +133,8 @@ pub trait Shelf {
         ensures up { OnOk result (is_up self.new) }
         ensures up_still { IsErrOf result ShelfFault.NoMemory → is_up self.new }
         ensures other { IsNeitherFullNorForeign result }
-        ensures any_moment { tells → ShelfLeavesOnly moment left_since self.old self.new (IsOldOrNew (contents self.old) (with_raised (contents self.old) least.now)) }
+        ensures any_moment { tells → ShelfLeavesOnly moment left_since self.old self.new
+            (IsOldOrNew (contents self.old) (with_raised (contents self.old) least.now)) }
         ensures cause { HasShelfCause result (fault_count self.old) (fault_count self.new) };
 
     /// How often the shelf's disk has failed.

@@ -46,7 +46,8 @@ impl<D: Disk> Rack<D> {
         requires acceptors { vec_len self.old.acceptors ≡ 64 }
         requires vaults { vec_len self.old.vaults ≡ 17 }
         ensures ok { OnOk result (IsAllEmpty (rack_meaning D.Disk) self.old self.new) }
-        ensures err { IfErr result (λ fault. IsNotEmpty (rack_meaning D.Disk) self.old fault self.new) }
+        ensures err { IfErr result
+            (λ fault. IsNotEmpty (rack_meaning D.Disk) self.old fault self.new) }
         ensures all_acceptors { vec_len self.new.acceptors ≡ 64 }
         ensures all_vaults { vec_len self.new.vaults ≡ 17 }
     {
@@ -59,8 +60,10 @@ impl<D: Disk> Rack<D> {
 fn expect_all_empty<D: Disk>(disks: &mut Vec<D>, first: u8, count: u8) -> Result<(), RackFault>
     requires all { vec_len disks.old ≡ count }
     requires numbers { first + count ≤ 81 }
-    ensures ok { OnOk result (AreFoundEmptyBelow (rack_meaning D.Disk) disks.old.items count disks.new.items) }
-    ensures err { IfErr result (λ fault. OneIsNot (rack_meaning D.Disk) first disks.old.items fault disks.new.items) }
+    ensures ok { OnOk result
+        (AreFoundEmptyBelow (rack_meaning D.Disk) disks.old.items count disks.new.items) }
+    ensures err { IfErr result
+        (λ fault. OneIsNot (rack_meaning D.Disk) first disks.old.items fault disks.new.items) }
 {
     for place in 0..count {
         expect_one_empty(&mut disks[usize::from(place)], first + place)?;
@@ -71,7 +74,8 @@ fn expect_all_empty<D: Disk>(disks: &mut Vec<D>, first: u8, count: u8) -> Result
 /// Asks the disk of this number for its length.
 fn expect_one_empty<D: Disk>(disk: &mut D, number: u8) -> Result<(), RackFault>
     ensures ok { OnOk result (IsFoundEmpty (rack_meaning D.Disk) disk.old disk.new) }
-    ensures err { IfErr result (λ fault. IsWhyNot (rack_meaning D.Disk) number disk.old fault disk.new) }
+    ensures err { IfErr result
+        (λ fault. IsWhyNot (rack_meaning D.Disk) number disk.old fault disk.new) }
 {
     match disk.len() {
         Ok(length) => {

@@ -53,14 +53,23 @@ impl<D: Disk> Store<D> {
         requires proposers { config.proposers ≤ 16 }
         requires acceptors { vec_len rack.acceptors ≡ 64 }
         requires vaults { vec_len rack.vaults ≡ 17 }
-        ensures opening { IfOk result (λ store. IsOpening (meaning ⟦<DiskShelf<D> as Shelf>⟧ D.Disk) (members_to config.acceptors) store.world) }
+        ensures opening { IfOk result (λ store. IsOpening (meaning ⟦<DiskShelf<D> as Shelf>⟧ D.Disk)
+            (members_to config.acceptors) store.world) }
         ensures places { IfOk result (λ store. HasPlaces store.world) }
-        ensures up { IfOk result (λ store. (id : ℕ) (acceptor : AcceptorView (DiskShelf D)) → IsAt store.world.acceptors id acceptor → has_member (members_to config.acceptors) id ≡ true → acceptor.down ≡ false) }
-        ensures last_proposer { IfOk result (λ store. store.world.last_proposer ≡ config.proposers) }
-        ensures acceptors { IfOk result (λ store. AreReached D.fault_count 1 (config.acceptors + 1) rack.acceptors.items (acceptor_disks store.world.acceptors)) }
-        ensures vaults { IfOk result (λ store. AreDesksBelow (disk_meaning D.Disk) D.fault_count rack.vaults.items (config.proposers + 1) store.world.desks) }
-        ensures fault { IfErr result (λ back. StaysClosed D.fault_count config.acceptors config.proposers rack.acceptors.items rack.vaults.items back.0 back.1.acceptors.items back.1.vaults.items) }
-        ensures back { IfErr result (λ back. (vec_len back.1.acceptors ≡ 64) × (vec_len back.1.vaults ≡ 17)) }
+        ensures up { IfOk result (λ store. (id : ℕ) (acceptor : AcceptorView (DiskShelf D))
+            → IsAt store.world.acceptors id acceptor
+            → has_member (members_to config.acceptors) id ≡ true → acceptor.down ≡ false) }
+        ensures last_proposer { IfOk result
+            (λ store. store.world.last_proposer ≡ config.proposers) }
+        ensures acceptors { IfOk result (λ store. AreReached D.fault_count 1
+            (config.acceptors + 1) rack.acceptors.items (acceptor_disks store.world.acceptors)) }
+        ensures vaults { IfOk result (λ store. AreDesksBelow (disk_meaning D.Disk)
+            D.fault_count rack.vaults.items (config.proposers + 1) store.world.desks) }
+        ensures fault { IfErr result (λ back.
+            StaysClosed D.fault_count config.acceptors config.proposers rack.acceptors.items
+            rack.vaults.items back.0 back.1.acceptors.items back.1.vaults.items) }
+        ensures back { IfErr result (λ back. (vec_len back.1.acceptors ≡ 64)
+            × (vec_len back.1.vaults ≡ 17)) }
     {
         let Rack {
             mut acceptors,
@@ -89,9 +98,11 @@ impl<D: Disk> Store<D> {
     pub fn close(self) -> (Record, Rack<D>)
         ensures marks { result.0.marks ≡ self.world.marks }
         ensures legal { D.tells → IsLegal (reverse result.0.marks) }
-        ensures kept { D.tells → AreKept D.may_leave (reverse result.0.marks) result.1.acceptors.items }
+        ensures kept { D.tells
+            → AreKept D.may_leave (reverse result.0.marks) result.1.acceptors.items }
         ensures acceptors { result.1.acceptors.items ≡ acceptor_disks self.world.acceptors }
-        ensures vaults { take (self.world.last_proposer + 1) result.1.vaults.items ≡ disks_of self.world.desks }
+        ensures vaults { take (self.world.last_proposer + 1) result.1.vaults.items
+            ≡ disks_of self.world.desks }
         ensures all_acceptors { vec_len result.1.acceptors ≡ 64 }
         ensures all_vaults { vec_len result.1.vaults ≡ 17 }
     {

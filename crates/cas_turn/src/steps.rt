@@ -84,10 +84,15 @@ fn measure<V: Grows>(top: &Top<V>, place: &mut Place<V>) -> u64
 /// Publishes the items that the value in the slot has more than the value that was taken.
 fn publish<V: Grows>(top: &Top<V>, place: &mut Place<V>, added: u64)
     requires table { IsPlaceOf top.now.table_id place.old }
-    requires grew { (v : V) × (w : V) × IsHolding place.old.me v (Some w) × Grew V.list V.owner V.part V.seats (known_of place.old.me.0).number v w × (added + length (V.list v) ≡ length (V.list w)) × (length (V.list w) < 2 ^ 64) }
+    requires grew { (v : V) × (w : V) × IsHolding place.old.me v (Some w)
+        × Grew V.list V.owner V.part V.seats (known_of place.old.me.0).number v w
+        × (added + length (V.list v) ≡ length (V.list w)) × (length (V.list w) < 2 ^ 64) }
     ensures same { IsSamePlace place.old place.new }
-    ensures holds { (w : V) → place.old.me.1 ≡ (0, Some w) ∷ [] → place.new.me ≡ holding (known_from V.list V.owner V.part V.seats (known_of place.old.me.0) w) (ticket_in place.old.me) w (Some w) }
-    ensures seats { (w : V) → place.old.me.1 ≡ (0, Some w) ∷ [] → V.seats w ≡ (known_of place.old.me.0).seats }
+    ensures holds { (w : V) → place.old.me.1 ≡ (0, Some w) ∷ []
+        → place.new.me ≡ holding (known_from V.list V.owner V.part V.seats
+        (known_of place.old.me.0) w) (ticket_in place.old.me) w (Some w) }
+    ensures seats { (w : V)
+        → place.old.me.1 ≡ (0, Some w) ∷ [] → V.seats w ≡ (known_of place.old.me.0).seats }
     ensures home { (w : V) × IsHolding place.new.me w (Some w) }
 {
     top.fetch_add::<Publish>(place, FRONT, added);
@@ -109,8 +114,10 @@ pub(crate) fn take_turn<V: Grows, R: Wait>(rt: &R, top: &Top<V>, place: &mut Pla
     requires few { top.now.key < 2 ^ 32 }
     requires idle { place.old.me ≡ idle (known_of place.old.me.0) }
     ensures same { IsSamePlace place.old place.new }
-    ensures holds { place.new.me ≡ holding (known_from V.list V.owner V.part V.seats (known_of place.old.me.0) result) (ticket_in place.new.me) result None }
-    ensures seen { HasSeenOwn V.owner (known_of place.old.me.0).number (known_of place.old.me.0).seen (V.list result) }
+    ensures holds { place.new.me ≡ holding (known_from V.list V.owner V.part V.seats
+        (known_of place.old.me.0) result) (ticket_in place.new.me) result None }
+    ensures seen { HasSeenOwn V.owner
+        (known_of place.old.me.0).number (known_of place.old.me.0).seen (V.list result) }
     ensures own { V.part result (known_of place.old.me.0).number ≡ (known_of place.old.me.0).own }
     ensures seats { V.seats result ≡ (known_of place.old.me.0).seats }
 {
@@ -122,9 +129,11 @@ pub(crate) fn take_turn<V: Grows, R: Wait>(rt: &R, top: &Top<V>, place: &mut Pla
 /// Puts the value home, publishes what it has more, and serves the next.
 pub(crate) fn give_turn<V: Grows>(top: &Top<V>, place: &mut Place<V>, value: V)
     requires table { IsPlaceOf top.now.table_id place.old }
-    requires grew { (v : V) × IsHolding place.old.me v None × Grew V.list V.owner V.part V.seats (known_of place.old.me.0).number v value }
+    requires grew { (v : V) × IsHolding place.old.me v None
+        × Grew V.list V.owner V.part V.seats (known_of place.old.me.0).number v value }
     ensures same { IsSamePlace place.old place.new }
-    ensures idle { place.new.me ≡ idle (known_from V.list V.owner V.part V.seats (known_of place.old.me.0) value) }
+    ensures idle { place.new.me
+        ≡ idle (known_from V.list V.owner V.part V.seats (known_of place.old.me.0) value) }
     ensures seats { V.seats value ≡ (known_of place.old.me.0).seats }
 {
     let added = value.items() - measure(top, place);
@@ -139,7 +148,8 @@ pub(crate) fn tell<V: Grows>(top: &Top<V>, from: &mut Place<V>, to: &mut Place<V
     requires seats { IsSettled from.old.me × IsSettled to.old.me }
     ensures same { IsSamePlace from.old from.new × IsSamePlace to.old to.new }
     ensures from { from.new.me ≡ from.old.me }
-    ensures to { Heard V.list V.owner V.part V.seats (known_of from.old.me.0).seen to.old.me to.new.me }
+    ensures to { Heard V.list V.owner V.part V.seats
+        (known_of from.old.me.0).seen to.old.me to.new.me }
 {
     let note = top.split_seat::<Note>(from);
     top.join_seat::<Note>(to, note);

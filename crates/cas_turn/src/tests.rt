@@ -52,7 +52,9 @@ impl Tally {
 
     /// Counts a hold, unless there is no memory for it.
     fn add(&mut self, number: u32)
-        ensures { (added : List ℕ) × (self.new.log.items ≡ self.old.log.items ++ added) × (length added ≤ 1) × All (λ n. n ≡ number) added × (self.new.threads ≡ self.old.threads) }
+        ensures { (added : List ℕ)
+            × (self.new.log.items ≡ self.old.log.items ++ added) × (length added ≤ 1)
+            × All (λ n. n ≡ number) added × (self.new.threads ≡ self.old.threads) }
     {
         if self.log.push(number).is_ok() {
             let count = &mut self.counts[number as usize % 4];
@@ -65,7 +67,8 @@ impl Tally {
 fn hold_once<R: Wait>(rt: &R, turn: &Turn<Tally>, seat: &mut Seat<Tally>)
     requires turn { seat.old.turn ≡ turn.now.id }
     requires idle { seat.old.holds ≡ None }
-    ensures { (seat.new.turn ≡ seat.old.turn) × (seat.new.holds ≡ None) × (seat.new.number ≡ seat.old.number) }
+    ensures { (seat.new.turn ≡ seat.old.turn)
+        × (seat.new.holds ≡ None) × (seat.new.number ≡ seat.old.number) }
 {
     let mut tally = turn.hold(rt, seat);
     tally.add(seat.number());
@@ -76,7 +79,8 @@ fn hold_once<R: Wait>(rt: &R, turn: &Turn<Tally>, seat: &mut Seat<Tally>)
 fn hold_often<R: Wait>(rt: &R, turn: &Turn<Tally>, seat: &mut Seat<Tally>, holds: u32)
     requires turn { seat.old.turn ≡ turn.now.id }
     requires idle { seat.old.holds ≡ None }
-    ensures { (seat.new.turn ≡ seat.old.turn) × (seat.new.holds ≡ None) × (seat.new.number ≡ seat.old.number) }
+    ensures { (seat.new.turn ≡ seat.old.turn)
+        × (seat.new.holds ≡ None) × (seat.new.number ≡ seat.old.number) }
 {
     for _ in 0..holds {
         hold_once(rt, turn, seat);
@@ -160,7 +164,8 @@ fn length_of<V: Grows, R: Wait>(rt: &R, turn: &Turn<V>, seat: &mut Seat<V>) -> u
     requires turn { seat.old.turn ≡ turn.now.id }
     requires idle { seat.old.holds ≡ None }
     requires lawful { V.may_add [] }
-    ensures seat { (seat.new.turn ≡ seat.old.turn) × (seat.new.holds ≡ None) × (seat.new.number ≡ seat.old.number) }
+    ensures seat { (seat.new.turn ≡ seat.old.turn)
+        × (seat.new.holds ≡ None) × (seat.new.number ≡ seat.old.number) }
     ensures seen { HasSeenOwn V.owner seat.old.number seat.old.seen seat.new.seen }
     ensures length { result ≡ length seat.new.seen }
 {

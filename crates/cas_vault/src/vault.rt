@@ -64,7 +64,8 @@ impl<V: Disk> Vault<V> {
         ensures stands { OnOk result (VaultStands V.tells V.seen V.may_leave self.new) }
         ensures not_spent { IsErrOf result VaultError.Spent → ⊥ }
         ensures not_foreign { IsNotForeign result }
-        ensures cause { HasVaultCause result (V.fault_count (disk_of self.old)) (V.fault_count (disk_of self.new)) }
+        ensures cause { HasVaultCause result
+            (V.fault_count (disk_of self.old)) (V.fault_count (disk_of self.new)) }
     {
         let kept = Kept {
             bound: 0,
@@ -84,19 +85,25 @@ impl<V: Disk> Vault<V> {
     pub fn reopen(&mut self) -> Result<(), VaultError>
         // A crash at any moment leaves what a crash might leave before, and what is read is one of these.
         ensures image { V.tells → V.may_leave (disk_of self.old) (V.seen (disk_of self.new)) }
-        ensures any_moment { V.tells → LeavesOnly V.moment V.left_since (disk_of self.old) (disk_of self.new) (V.may_leave (disk_of self.old)) }
-        ensures settled { V.tells → Only (V.seen (disk_of self.new)) (V.may_leave (disk_of self.new)) }
+        ensures any_moment { V.tells → LeavesOnly V.moment V.left_since
+            (disk_of self.old) (disk_of self.new) (V.may_leave (disk_of self.old)) }
+        ensures settled { V.tells
+            → Only (V.seen (disk_of self.new)) (V.may_leave (disk_of self.new)) }
 
         ensures counter { OnOk result (counter_of self.new ≡ (kept_of self.new).bound) }
-        ensures reopened { V.tells → OnOk result (KeptOn (kept_of self.new) (V.seen (disk_of self.new))) }
+        ensures reopened { V.tells
+            → OnOk result (KeptOn (kept_of self.new) (V.seen (disk_of self.new))) }
         ensures stands { OnOk result (VaultStands V.tells V.seen V.may_leave self.new) }
-        ensures past { V.tells → (n : ℕ) → IsPast V.may_leave n self.old → IsPast V.may_leave n self.new }
+        ensures past { V.tells
+            → (n : ℕ) → IsPast V.may_leave n self.old → IsPast V.may_leave n self.new }
 
-        ensures foreign { V.tells → (at : ℕ) → IsErrOf result (VaultError.Foreign at) → IsForeignAt (V.seen (disk_of self.new)) at }
+        ensures foreign { V.tells → (at : ℕ)
+            → IsErrOf result (VaultError.Foreign at) → IsForeignAt (V.seen (disk_of self.new)) at }
         ensures not_spent { IsErrOf result VaultError.Spent → ⊥ }
         ensures same_counter { OnErr result (counter_of self.new ≡ counter_of self.old) }
         ensures same { OnErr result (kept_of self.new ≡ kept_of self.old) }
-        ensures cause { HasVaultCause result (V.fault_count (disk_of self.old)) (V.fault_count (disk_of self.new)) }
+        ensures cause { HasVaultCause result
+            (V.fault_count (disk_of self.old)) (V.fault_count (disk_of self.new)) }
     {
         self.cells.forget_past();
         self.cells.crash();
@@ -126,21 +133,28 @@ impl<V: Disk> Vault<V> {
         requires { VaultStands V.tells V.seen V.may_leave self.old }
         ensures number { IfOk result (λ n. n ≡ counter_of self.old + 1) }
         ensures counter { OnOk result (counter_of self.new ≡ counter_of self.old + 1) }
-        ensures kept { OnOk result (kept_of self.new ≡ kept_to_draw (counter_of self.old) (kept_of self.old)) }
+        ensures kept { OnOk result
+            (kept_of self.new ≡ kept_to_draw (counter_of self.old) (kept_of self.old)) }
         ensures stands { OnOk result (VaultStands V.tells V.seen V.may_leave self.new) }
 
         // The vault is then past the number, and still past each number that it was past.
         ensures past { V.tells → IfOk result (λ n. IsPast V.may_leave n self.new) }
-        ensures still_past { V.tells → (n : ℕ) → IsPast V.may_leave n self.old → IsPast V.may_leave n self.new }
-        ensures any_moment { V.tells → LeavesOnly V.moment V.left_since (disk_of self.old) (disk_of self.new) (KeepsBeforeOrAfter (kept_of self.old) (kept_to_draw (counter_of self.old) (kept_of self.old))) }
+        ensures still_past { V.tells
+            → (n : ℕ) → IsPast V.may_leave n self.old → IsPast V.may_leave n self.new }
+        ensures any_moment { V.tells → LeavesOnly V.moment V.left_since
+            (disk_of self.old) (disk_of self.new) (KeepsBeforeOrAfter (kept_of self.old)
+            (kept_to_draw (counter_of self.old) (kept_of self.old))) }
 
         ensures spent { IsErrOf result VaultError.Spent ↔ (counter_of self.old ≡ 2 ^ 48) }
-        ensures after_spent { IsErrOf result VaultError.Spent → VaultStands V.tells V.seen V.may_leave self.new }
-        ensures after_no_memory { IsErrOf result VaultError.NoMemory → VaultStands V.tells V.seen V.may_leave self.new }
+        ensures after_spent { IsErrOf result VaultError.Spent
+            → VaultStands V.tells V.seen V.may_leave self.new }
+        ensures after_no_memory { IsErrOf result VaultError.NoMemory
+            → VaultStands V.tells V.seen V.may_leave self.new }
         ensures not_foreign { IsNotForeign result }
         ensures same_counter { OnErr result (counter_of self.new ≡ counter_of self.old) }
         ensures same { OnErr result (kept_of self.new ≡ kept_of self.old) }
-        ensures cause { HasVaultCause result (V.fault_count (disk_of self.old)) (V.fault_count (disk_of self.new)) }
+        ensures cause { HasVaultCause result
+            (V.fault_count (disk_of self.old)) (V.fault_count (disk_of self.new)) }
     {
         if self.counter == LAST_COUNTER {
             return Err(VaultError::Spent);
@@ -157,8 +171,10 @@ impl<V: Disk> Vault<V> {
         ensures counter { counter_of self.new ≡ max (counter_of self.old) counter }
         ensures kept { kept_of self.new ≡ kept_of self.old }
         ensures disk { disk_of self.new ≡ disk_of self.old }
-        ensures stands { VaultStands V.tells V.seen V.may_leave self.old → VaultStands V.tells V.seen V.may_leave self.new }
-        ensures still_past { (n : ℕ) → IsPast V.may_leave n self.old → IsPast V.may_leave n self.new }
+        ensures stands { VaultStands V.tells V.seen V.may_leave self.old
+            → VaultStands V.tells V.seen V.may_leave self.new }
+        ensures still_past { (n : ℕ)
+            → IsPast V.may_leave n self.old → IsPast V.may_leave n self.new }
     {
         self.counter = self.counter.max(counter);
     }
@@ -168,21 +184,28 @@ impl<V: Disk> Vault<V> {
     pub fn raise_age(&mut self) -> Result<u64, VaultError>
         requires { VaultStands V.tells V.seen V.may_leave self.old }
         ensures age { IfOk result (λ age. age ≡ (kept_of self.old).age + 1) }
-        ensures kept { OnOk result (kept_of self.new ≡ kept_one_older (counter_of self.old) (kept_of self.old)) }
+        ensures kept { OnOk result
+            (kept_of self.new ≡ kept_one_older (counter_of self.old) (kept_of self.old)) }
         ensures counter { counter_of self.new ≡ counter_of self.old }
         ensures stands { OnOk result (VaultStands V.tells V.seen V.may_leave self.new) }
 
         // The vault is then past its counter, and still past each number that it was past.
         ensures past { V.tells → OnOk result (IsPast V.may_leave (counter_of self.old) self.new) }
-        ensures still_past { V.tells → (n : ℕ) → IsPast V.may_leave n self.old → IsPast V.may_leave n self.new }
-        ensures any_moment { V.tells → LeavesOnly V.moment V.left_since (disk_of self.old) (disk_of self.new) (KeepsBeforeOrAfter (kept_of self.old) (kept_one_older (counter_of self.old) (kept_of self.old))) }
+        ensures still_past { V.tells
+            → (n : ℕ) → IsPast V.may_leave n self.old → IsPast V.may_leave n self.new }
+        ensures any_moment { V.tells → LeavesOnly V.moment V.left_since
+            (disk_of self.old) (disk_of self.new) (KeepsBeforeOrAfter (kept_of self.old)
+            (kept_one_older (counter_of self.old) (kept_of self.old))) }
 
         ensures spent { IsErrOf result VaultError.Spent ↔ ((kept_of self.old).age ≡ 2 ^ 48) }
-        ensures after_spent { IsErrOf result VaultError.Spent → VaultStands V.tells V.seen V.may_leave self.new }
-        ensures after_no_memory { IsErrOf result VaultError.NoMemory → VaultStands V.tells V.seen V.may_leave self.new }
+        ensures after_spent { IsErrOf result VaultError.Spent
+            → VaultStands V.tells V.seen V.may_leave self.new }
+        ensures after_no_memory { IsErrOf result VaultError.NoMemory
+            → VaultStands V.tells V.seen V.may_leave self.new }
         ensures not_foreign { IsNotForeign result }
         ensures same { OnErr result (kept_of self.new ≡ kept_of self.old) }
-        ensures cause { HasVaultCause result (V.fault_count (disk_of self.old)) (V.fault_count (disk_of self.new)) }
+        ensures cause { HasVaultCause result
+            (V.fault_count (disk_of self.old)) (V.fault_count (disk_of self.new)) }
     {
         if self.kept.age == LAST_COUNTER {
             return Err(VaultError::Spent);
@@ -202,13 +225,18 @@ impl<V: Disk> Vault<V> {
         ensures kept { OnOk result (kept_of self.new ≡ kept_in_era number (kept_of self.old)) }
         ensures counter { counter_of self.new ≡ counter_of self.old }
         ensures stands { OnOk result (VaultStands V.tells V.seen V.may_leave self.new) }
-        ensures still_past { V.tells → (n : ℕ) → IsPast V.may_leave n self.old → IsPast V.may_leave n self.new }
-        ensures any_moment { V.tells → LeavesOnly V.moment V.left_since (disk_of self.old) (disk_of self.new) (KeepsBeforeOrAfter (kept_of self.old) (kept_in_era number (kept_of self.old))) }
+        ensures still_past { V.tells
+            → (n : ℕ) → IsPast V.may_leave n self.old → IsPast V.may_leave n self.new }
+        ensures any_moment { V.tells
+            → LeavesOnly V.moment V.left_since (disk_of self.old) (disk_of self.new)
+            (KeepsBeforeOrAfter (kept_of self.old) (kept_in_era number (kept_of self.old))) }
         ensures not_spent { IsErrOf result VaultError.Spent → ⊥ }
-        ensures after_no_memory { IsErrOf result VaultError.NoMemory → VaultStands V.tells V.seen V.may_leave self.new }
+        ensures after_no_memory { IsErrOf result VaultError.NoMemory
+            → VaultStands V.tells V.seen V.may_leave self.new }
         ensures not_foreign { IsNotForeign result }
         ensures same { OnErr result (kept_of self.new ≡ kept_of self.old) }
-        ensures cause { HasVaultCause result (V.fault_count (disk_of self.old)) (V.fault_count (disk_of self.new)) }
+        ensures cause { HasVaultCause result
+            (V.fault_count (disk_of self.old)) (V.fault_count (disk_of self.new)) }
     {
         let kept = Kept {
             era: number,
@@ -220,9 +248,13 @@ impl<V: Disk> Vault<V> {
     /// Crashes the disk. The vault is reopened before it is used again.
     pub fn crash(&mut self)
         ensures image { V.tells → V.may_leave (disk_of self.old) (V.seen (disk_of self.new)) }
-        ensures settled { V.tells → Only (V.seen (disk_of self.new)) (V.may_leave (disk_of self.new)) }
-        ensures time { V.tells → Elapses (V.moment (disk_of self.old)) (V.moment (disk_of self.new)) (V.left_since (disk_of self.old)) (V.left_since (disk_of self.new)) (V.may_leave (disk_of self.new)) }
-        ensures still_past { V.tells → (n : ℕ) → IsPast V.may_leave n self.old → IsPast V.may_leave n self.new }
+        ensures settled { V.tells
+            → Only (V.seen (disk_of self.new)) (V.may_leave (disk_of self.new)) }
+        ensures time { V.tells → Elapses (V.moment (disk_of self.old))
+            (V.moment (disk_of self.new)) (V.left_since (disk_of self.old))
+            (V.left_since (disk_of self.new)) (V.may_leave (disk_of self.new)) }
+        ensures still_past { V.tells
+            → (n : ℕ) → IsPast V.may_leave n self.old → IsPast V.may_leave n self.new }
         ensures counter { counter_of self.new ≡ counter_of self.old }
         ensures kept { kept_of self.new ≡ kept_of self.old }
         ensures never_falls { V.fault_count (disk_of self.old) ≤ V.fault_count (disk_of self.new) }
@@ -270,15 +302,20 @@ impl<V: Disk> Vault<V> {
         requires stands { VaultStands V.tells V.seen V.may_leave self.old }
         requires next { number ≡ counter_of self.old + 1 }
         requires fits { number ≤ 2 ^ 48 }
-        ensures kept { OnOk result (kept_of self.new ≡ kept_to_draw (counter_of self.old) (kept_of self.old)) }
+        ensures kept { OnOk result
+            (kept_of self.new ≡ kept_to_draw (counter_of self.old) (kept_of self.old)) }
         ensures counter { counter_of self.new ≡ counter_of self.old }
         ensures stands { OnOk result (VaultStands V.tells V.seen V.may_leave self.new) }
-        ensures any_moment { V.tells → LeavesOnly V.moment V.left_since (disk_of self.old) (disk_of self.new) (KeepsBeforeOrAfter (kept_of self.old) (kept_to_draw (counter_of self.old) (kept_of self.old))) }
-        ensures after_no_memory { IsErrOf result VaultError.NoMemory → VaultStands V.tells V.seen V.may_leave self.new }
+        ensures any_moment { V.tells → LeavesOnly V.moment V.left_since
+            (disk_of self.old) (disk_of self.new) (KeepsBeforeOrAfter (kept_of self.old)
+            (kept_to_draw (counter_of self.old) (kept_of self.old))) }
+        ensures after_no_memory { IsErrOf result VaultError.NoMemory
+            → VaultStands V.tells V.seen V.may_leave self.new }
         ensures not_spent { IsErrOf result VaultError.Spent → ⊥ }
         ensures not_foreign { IsNotForeign result }
         ensures same { OnErr result (kept_of self.new ≡ kept_of self.old) }
-        ensures cause { HasVaultCause result (V.fault_count (disk_of self.old)) (V.fault_count (disk_of self.new)) }
+        ensures cause { HasVaultCause result
+            (V.fault_count (disk_of self.old)) (V.fault_count (disk_of self.new)) }
     {
         if number <= self.kept.bound {
             return Ok(());
@@ -297,12 +334,15 @@ impl<V: Disk> Vault<V> {
         ensures kept { OnOk result (kept_of self.new ≡ kept) }
         ensures counter { counter_of self.new ≡ counter_of self.old }
         ensures stands { OnOk result (VaultStands V.tells V.seen V.may_leave self.new) }
-        ensures any_moment { V.tells → LeavesOnly V.moment V.left_since (disk_of self.old) (disk_of self.new) (KeepsBeforeOrAfter (kept_of self.old) kept) }
-        ensures after_no_memory { IsErrOf result VaultError.NoMemory → VaultStands V.tells V.seen V.may_leave self.new }
+        ensures any_moment { V.tells → LeavesOnly V.moment V.left_since
+            (disk_of self.old) (disk_of self.new) (KeepsBeforeOrAfter (kept_of self.old) kept) }
+        ensures after_no_memory { IsErrOf result VaultError.NoMemory
+            → VaultStands V.tells V.seen V.may_leave self.new }
         ensures not_spent { IsErrOf result VaultError.Spent → ⊥ }
         ensures not_foreign { IsNotForeign result }
         ensures same { OnErr result (kept_of self.new ≡ kept_of self.old) }
-        ensures cause { HasVaultCause result (V.fault_count (disk_of self.old)) (V.fault_count (disk_of self.new)) }
+        ensures cause { HasVaultCause result
+            (V.fault_count (disk_of self.old)) (V.fault_count (disk_of self.new)) }
     {
         self.cells.forget_past();
         self.write(kept)
@@ -315,12 +355,15 @@ impl<V: Disk> Vault<V> {
         ensures kept { OnOk result (kept_of self.new ≡ kept) }
         ensures counter { counter_of self.new ≡ counter_of self.old }
         ensures stands { OnOk result (VaultStands V.tells V.seen V.may_leave self.new) }
-        ensures any_moment { V.tells → ContinuesOnly V.moment V.left_since (disk_of self.old) (disk_of self.new) (KeepsBeforeOrAfter (kept_of self.old) kept) }
-        ensures after_no_memory { IsErrOf result VaultError.NoMemory → VaultStands V.tells V.seen V.may_leave self.new }
+        ensures any_moment { V.tells → ContinuesOnly V.moment V.left_since
+            (disk_of self.old) (disk_of self.new) (KeepsBeforeOrAfter (kept_of self.old) kept) }
+        ensures after_no_memory { IsErrOf result VaultError.NoMemory
+            → VaultStands V.tells V.seen V.may_leave self.new }
         ensures not_spent { IsErrOf result VaultError.Spent → ⊥ }
         ensures not_foreign { IsNotForeign result }
         ensures same { OnErr result (kept_of self.new ≡ kept_of self.old) }
-        ensures cause { HasVaultCause result (V.fault_count (disk_of self.old)) (V.fault_count (disk_of self.new)) }
+        ensures cause { HasVaultCause result
+            (V.fault_count (disk_of self.old)) (V.fault_count (disk_of self.new)) }
     {
         self.cells.close_spare(0)?;
         self.cells.write_spare(0, &spell(&kept))?;

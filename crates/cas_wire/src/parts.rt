@@ -50,7 +50,8 @@ pub fn push_ballot(out: &mut Vec<u8>, ballot: Ballot) -> Result<(), AllocError>
 /// Appends the spelling of what was accepted, if anything was. After an `Err` the bytes are as before.
 pub fn push_accepted(out: &mut Vec<u8>, accepted: Option<&Accepted>) -> Result<(), AllocError>
     requires { IfSome (option_copied accepted) (λ a. FitsBallot a.ballot) }
-    ensures ok { OnOk result (out.new.items ≡ out.old.items ++ optional_spelling accepted_spelling (option_copied accepted.entry)) }
+    ensures ok { OnOk result (out.new.items ≡ out.old.items ++ optional_spelling accepted_spelling
+        (option_copied accepted.entry)) }
     ensures fits { OnOk result (IfSome (option_copied accepted.entry) FitsAccepted) }
     ensures err { OnErr result (out.new.items ≡ out.old.items) }
 {
@@ -97,9 +98,11 @@ pub fn take_ballot(bytes: &[u8]) -> Part<Ballot>
 
 /// What was accepted, if anything was, at the front.
 pub fn take_accepted(alloc: Global, bytes: &[u8]) -> Result<Part<Option<Accepted>>, AllocError>
-    ensures spelled { IfOk result (IsSpelledPart (optional_spelling accepted_spelling) (λ accepted. IfSome accepted FitsAccepted) bytes.now) }
+    ensures spelled { IfOk result (IsSpelledPart (optional_spelling accepted_spelling)
+        (λ accepted. IfSome accepted FitsAccepted) bytes.now) }
     ensures place { IfOk result (IsPart (optional_at accepted_at bytes.now) bytes.now) }
-    ensures first { IfOk result (StopsAtFirst (optional_spelling accepted_spelling) (λ accepted. IfSome accepted FitsAccepted) bytes.now) }
+    ensures first { IfOk result (StopsAtFirst (optional_spelling accepted_spelling)
+        (λ accepted. IfSome accepted FitsAccepted) bytes.now) }
 {
     match reading::accepted_or_none_at(alloc, bytes) {
         Ok((value, rest)) => Ok(Part::Read {

@@ -126,7 +126,8 @@ fn is_listing(after: Option<&Key>, keys: &[Key], more: bool) -> bool
 
 #[tactic(auto, unfolding(crate::specs::FrameReading::listing_at))]
 fn listing_at(alloc: Global, bytes: &[u8]) -> Result<(Listing, &[u8]), ReadError>
-    ensures { Gives (λ x. ((x.0.after, (x.0.keys, x.0.more)), x.1.now)) result (listing_at bytes.now) }
+    ensures { Gives (λ x. ((x.0.after, (x.0.keys, x.0.more)), x.1.now)) result
+        (listing_at bytes.now) }
 {
     let (after, rest) = reading::key_or_none_at(alloc, bytes)?;
     let (keys, rest) = keys_at(alloc, rest)?;
@@ -222,7 +223,8 @@ fn reply_at(alloc: Global, bytes: &[u8]) -> Result<(Reply, &[u8]), ReadError>
 /// The reply whose frame these bytes are. `None` comes exactly where they are no reply's frame.
 pub fn decode_reply(alloc: Global, bytes: &[u8]) -> Result<Option<Reply>, AllocError>
     ensures found { IfOk result (λ found. IfSome found (IsReplyFrame bytes.now)) }
-    ensures only { (reply : Reply) → IsReplyFrame bytes.now reply → IfOk result (λ found. found ≡ Some reply) }
+    ensures only { (reply : Reply)
+        → IsReplyFrame bytes.now reply → IfOk result (λ found. found ≡ Some reply) }
 {
     match reply_at(alloc, bytes) {
         Ok((reply, rest)) => Ok(whole(reply, rest)),
@@ -236,7 +238,8 @@ fn put_listing(out: &mut Vec<u8>, after: Option<&Key>, keys: &[Key], more: bool)
     requires room { vec_len out.old + 328 ≤ vec_capacity out.old }
     requires few { length keys.now ≤ 4 }
     requires listed { CanBeListed (option_copied after) keys.now more }
-    ensures spelling { Puts out.old out.new (listing_spelling (option_copied after.entry) keys.now more) 328 }
+    ensures spelling { Puts out.old out.new
+        (listing_spelling (option_copied after.entry) keys.now more) 328 }
     ensures fits { FitsListing (option_copied after.entry) keys.now more }
 {
     writing::put_key_or_none(out, after);
@@ -288,7 +291,8 @@ pub fn encode_reply(alloc: Global, reply: &Reply) -> Result<Vec<u8>, AllocError>
     requires { CanBeTold reply.now }
     ensures frame { IfOk result (λ frame. IsReplyFrame frame.items reply.now) }
     ensures short { IfOk result (λ frame. length frame.items ≤ LONGEST_FRAME) }
-    ensures alone { IfOk result (λ frame. (more : List ℕ) (other : Reply) → IsReplyFrame (frame.items ++ more) other → (more ≡ []) × (other ≡ reply.now)) }
+    ensures alone { IfOk result (λ frame. (more : List ℕ) (other : Reply)
+        → IsReplyFrame (frame.items ++ more) other → (more ≡ []) × (other ≡ reply.now)) }
 {
     let mut frame = Vec::with_capacity(alloc, LONGEST_FRAME)?;
     put_reply(&mut frame, reply);
@@ -302,7 +306,8 @@ pub fn encode_reply_into(reply: &Reply, out: &mut Vec<u8>)
     requires room { LONGEST_FRAME ≤ vec_capacity out.old }
     ensures frame { IsReplyFrame out.new.items reply.now }
     ensures short { length out.new.items ≤ LONGEST_FRAME }
-    ensures alone { (more : List ℕ) (other : Reply) → IsReplyFrame (out.new.items ++ more) other → (more ≡ []) × (other ≡ reply.now) }
+    ensures alone { (more : List ℕ) (other : Reply)
+        → IsReplyFrame (out.new.items ++ more) other → (more ≡ []) × (other ≡ reply.now) }
     ensures room_stays { vec_capacity out.old ≤ vec_capacity out.new }
 {
     put_reply(out, reply);

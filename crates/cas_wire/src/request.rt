@@ -149,7 +149,8 @@ fn request_at<'a>(
 /// The request whose frame these bytes are. `None` comes exactly where they are no request's frame.
 pub fn decode_request(alloc: Global, bytes: &[u8]) -> Result<Option<Request>, AllocError>
     ensures found { IfOk result (λ found. IfSome found (IsRequestFrame bytes.now)) }
-    ensures only { (request : Request) → IsRequestFrame bytes.now request → IfOk result (λ found. found ≡ Some request) }
+    ensures only { (request : Request)
+        → IsRequestFrame bytes.now request → IfOk result (λ found. found ≡ Some request) }
 {
     decode_request_knowing(alloc, bytes, None)
 }
@@ -161,7 +162,8 @@ pub fn decode_request_knowing(
     known: Option<&Key>,
 ) -> Result<Option<Request>, AllocError>
     ensures found { IfOk result (λ found. IfSome found (IsRequestFrame bytes.now)) }
-    ensures only { (request : Request) → IsRequestFrame bytes.now request → IfOk result (λ found. found ≡ Some request) }
+    ensures only { (request : Request)
+        → IsRequestFrame bytes.now request → IfOk result (λ found. found ≡ Some request) }
 {
     match request_at(alloc, bytes, known) {
         Ok((request, rest)) => Ok(whole(request, rest)),
@@ -233,7 +235,8 @@ fn put_ask(out: &mut Vec<u8>, ask: &Ask)
 fn put_request(out: &mut Vec<u8>, request: &Request)
     requires room { vec_len out.old + (157 + ask_room request.now.ask) ≤ vec_capacity out.old }
     requires ask { CanBeAsked request.now }
-    ensures spelling { Puts out.old out.new (request_spelling request.now) (157 + ask_room request.now.ask) }
+    ensures spelling { Puts out.old out.new
+        (request_spelling request.now) (157 + ask_room request.now.ask) }
     ensures fits { FitsRequest request.now }
 {
     writing::put_byte(out, FORMAT);
@@ -249,7 +252,8 @@ pub fn encode_request(alloc: Global, request: &Request) -> Result<Vec<u8>, Alloc
     requires { CanBeAsked request.now }
     ensures frame { IfOk result (λ frame. IsRequestFrame frame.items request.now) }
     ensures short { IfOk result (λ frame. length frame.items ≤ LONGEST_FRAME) }
-    ensures alone { IfOk result (λ frame. (more : List ℕ) (other : Request) → IsRequestFrame (frame.items ++ more) other → (more ≡ []) × (other ≡ request.now)) }
+    ensures alone { IfOk result (λ frame. (more : List ℕ) (other : Request)
+        → IsRequestFrame (frame.items ++ more) other → (more ≡ []) × (other ≡ request.now)) }
 {
     let mut frame = Vec::with_capacity(alloc, 157 + ask_room(&request.ask))?;
     put_request(&mut frame, request);
@@ -263,7 +267,8 @@ pub fn encode_request_into(request: &Request, out: &mut Vec<u8>)
     requires room { LONGEST_FRAME ≤ vec_capacity out.old }
     ensures frame { IsRequestFrame out.new.items request.now }
     ensures short { length out.new.items ≤ LONGEST_FRAME }
-    ensures alone { (more : List ℕ) (other : Request) → IsRequestFrame (out.new.items ++ more) other → (more ≡ []) × (other ≡ request.now) }
+    ensures alone { (more : List ℕ) (other : Request)
+        → IsRequestFrame (out.new.items ++ more) other → (more ≡ []) × (other ≡ request.now) }
     ensures room_stays { vec_capacity out.old ≤ vec_capacity out.new }
 {
     put_request(out, request);

@@ -164,7 +164,8 @@ pub(crate) fn put_state(out: &mut Vec<u8>, state: &State)
 #[tactic(auto, unfolding(crate::specs::Spelling::accepted_spelling))]
 pub(crate) fn put_accepted(out: &mut Vec<u8>, accepted: &Accepted)
     requires { vec_len out.old + (30 + state_room accepted.now.state) ≤ vec_capacity out.old }
-    ensures spelling { Puts out.old out.new (accepted_spelling accepted.now) (30 + state_room accepted.now.state) }
+    ensures spelling { Puts out.old out.new
+        (accepted_spelling accepted.now) (30 + state_room accepted.now.state) }
     ensures fits { FitsBallot accepted.now.ballot → FitsAccepted accepted.now }
 {
     put_ballot(out, accepted.ballot);
@@ -173,9 +174,12 @@ pub(crate) fn put_accepted(out: &mut Vec<u8>, accepted: &Accepted)
 }
 
 pub(crate) fn put_accepted_or_none(out: &mut Vec<u8>, accepted: Option<&Accepted>)
-    requires { vec_len out.old + (31 + accepted_room (option_copied accepted)) ≤ vec_capacity out.old }
-    ensures spelling { Puts out.old out.new (optional_spelling accepted_spelling (option_copied accepted.entry)) (31 + accepted_room (option_copied accepted.entry)) }
-    ensures fits { IfSome (option_copied accepted.entry) (λ a. FitsBallot a.ballot → FitsAccepted a) }
+    requires { vec_len out.old + (31 + accepted_room (option_copied accepted))
+        ≤ vec_capacity out.old }
+    ensures spelling { Puts out.old out.new (optional_spelling accepted_spelling
+        (option_copied accepted.entry)) (31 + accepted_room (option_copied accepted.entry)) }
+    ensures fits { IfSome (option_copied accepted.entry) (λ a. FitsBallot a.ballot
+        → FitsAccepted a) }
 {
     match accepted {
         Some(accepted) => {
@@ -201,7 +205,8 @@ pub(crate) fn put_ballot_or_none(out: &mut Vec<u8>, ballot: Option<Ballot>)
 
 pub(crate) fn put_key_or_none(out: &mut Vec<u8>, key: Option<&Key>)
     requires { vec_len out.old + 66 ≤ vec_capacity out.old }
-    ensures spelling { Puts out.old out.new (optional_spelling key_spelling (option_copied key.entry)) 66 }
+    ensures spelling { Puts out.old out.new
+        (optional_spelling key_spelling (option_copied key.entry)) 66 }
     ensures fits { IfSome (option_copied key.entry) IsKey }
 {
     match key {
@@ -216,7 +221,8 @@ pub(crate) fn put_key_or_none(out: &mut Vec<u8>, key: Option<&Key>)
 /// Each key, one behind the other.
 pub(crate) fn put_keys(out: &mut Vec<u8>, keys: &[Key])
     requires { vec_len out.old + 65 * length keys.now ≤ vec_capacity out.old }
-    ensures spelling { Puts out.old out.new (flat_map key_spelling keys.now) (65 * length keys.now) }
+    ensures spelling { Puts out.old out.new
+        (flat_map key_spelling keys.now) (65 * length keys.now) }
     ensures fits { AllByRecursion IsKey keys.now }
 {
     for key in keys {
@@ -227,7 +233,8 @@ pub(crate) fn put_keys(out: &mut Vec<u8>, keys: &[Key])
 /// Each number, one behind the other.
 pub(crate) fn put_numbers(out: &mut Vec<u8>, numbers: &[u64])
     requires { vec_len out.old + 8 * length numbers.now ≤ vec_capacity out.old }
-    ensures spelling { Puts out.old out.new (flat_map (to_be_bytes w64) numbers.now) (8 * length numbers.now) }
+    ensures spelling { Puts out.old out.new
+        (flat_map (to_be_bytes w64) numbers.now) (8 * length numbers.now) }
     ensures fits { AllByRecursion (λ number. number < 2 ^ 64) numbers.now }
 {
     for number in numbers {

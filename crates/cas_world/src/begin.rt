@@ -59,8 +59,10 @@ impl<S: Shelf, V: Disk> World<S, V> {
         requires may { MayBegin self.old caller call key.now program.now }
         ensures full { IsErrOf result Answer.RecordFull ↔ IsFull self.old caller }
         ensures long { IsErrOf result Answer.RecordFull → 999000 < length self.old.marks }
-        ensures cause { IfErr result (λ told. BeginsBy (meaning S.Shelf V.Disk) self.old caller key.now told self.new) }
-        ensures step { BeginsOrNot (meaning S.Shelf V.Disk) self.old caller call key.now program.now result self.new }
+        ensures cause { IfErr result
+            (λ told. BeginsBy (meaning S.Shelf V.Disk) self.old caller key.now told self.new) }
+        ensures step { BeginsOrNot (meaning S.Shelf V.Disk)
+            self.old caller call key.now program.now result self.new }
     {
         let alloc = *self.acceptors.allocator();
         let place = usize::from(caller);
@@ -95,7 +97,8 @@ impl<S: Shelf, V: Disk> World<S, V> {
 /// A round was refused before it began. Where that was to be a new call which proposes anew the key that is due, the operator's call is
 /// told so.
 fn heed(asking: &Caller, council: &mut Council, caller: u8, key: &Key, refusal: &Answer)
-    ensures heeds { Heeds asking.now.call (council_view council.old) caller key.now refusal.now (council_view council.new) }
+    ensures heeds { Heeds asking.now.call
+        (council_view council.old) caller key.now refusal.now (council_view council.new) }
     ensures eras { council.new.eras ≡ council.old.eras }
 {
     if asking.call.is_none() {
@@ -111,7 +114,8 @@ fn heed_loss(
     key: &Key,
     begun: &Result<Option<Proposing>, Answer>,
 )
-    ensures heeds { HeedsLoss asking.now.call (council_view council.old) caller key.now begun.now (council_view council.new) }
+    ensures heeds { HeedsLoss asking.now.call
+        (council_view council.old) caller key.now begun.now (council_view council.new) }
     ensures eras { council.new.eras ≡ council.old.eras }
 {
     match begun {
@@ -185,11 +189,17 @@ fn make_room(
     requires place { author.caller < length callers.now }
     requires marks { marks ≤ 1000 }
     requires few { length «record».old.marks + sum_by reserved_of callers.now + beside ≤ 1000000 }
-    ensures full { IsErrOf result Answer.RecordFull ↔ (1000000 < length «record».old.marks + reserved_beside callers.now author.caller + beside + marks) }
-    ensures refused { IfErr result (λ refusal. (refusal ≡ Answer.RecordFull) ⊎ (refusal ≡ Answer.NoMemory false)) }
-    ensures first { (caller : ACaller) → slice_get callers.now author.caller ≡ Some caller → caller.call ≡ None → IfOk result (λ opening. opening ≡ Some (opening_of author key.now program.now)) }
-    ensures again { (caller : ACaller) → slice_get callers.now author.caller ≡ Some caller → IsSome caller.call → IfOk result (λ opening. opening ≡ None) }
-    ensures room { OnOk result (reserved_beside callers.now author.caller + beside + marks ≤ «record».new.room) }
+    ensures full { IsErrOf result Answer.RecordFull ↔ (1000000 < length
+        «record».old.marks + reserved_beside callers.now author.caller + beside + marks) }
+    ensures refused { IfErr result (λ refusal. (refusal ≡ Answer.RecordFull)
+        ⊎ (refusal ≡ Answer.NoMemory false)) }
+    ensures first { (caller : ACaller)
+        → slice_get callers.now author.caller ≡ Some caller → caller.call ≡ None
+        → IfOk result (λ opening. opening ≡ Some (opening_of author key.now program.now)) }
+    ensures again { (caller : ACaller) → slice_get callers.now author.caller ≡ Some caller
+        → IsSome caller.call → IfOk result (λ opening. opening ≡ None) }
+    ensures room { OnOk result
+        (reserved_beside callers.now author.caller + beside + marks ≤ «record».new.room) }
     ensures made { «record».new.marks ≡ «record».old.marks }
     ensures grows { «record».old.room ≤ «record».new.room }
 {
@@ -229,7 +239,8 @@ fn new_opening(
     key: &Key,
     program: &Program,
 ) -> Result<Option<Opening>, AllocError>
-    ensures opening { IfOk result (λ opening. opening ≡ Some (opening_of author key.now program.now)) }
+    ensures opening { IfOk result
+        (λ opening. opening ≡ Some (opening_of author key.now program.now)) }
     ensures room { OnOk result (marks ≤ «record».new.room) }
     ensures marks { «record».new.marks ≡ «record».old.marks }
     ensures grows { «record».old.room ≤ «record».new.room }
@@ -297,8 +308,10 @@ fn open_round<V: Disk>(
     requires proposer { desk.old.id ≤ 16 }
     requires caller { author.caller ≤ 16 }
     requires queue { author.caller < length flow.old.own }
-    requires promise { IfSome (promise_at key.now desk.old.cache) (λ ready. FitsBallot ready.ballot) }
-    ensures opens { IfOk result (OpensRound (disk_meaning V.Disk) era.now key.now program.now author desk.old desk.new flow.old flow.new) }
+    requires promise { IfSome (promise_at key.now desk.old.cache)
+        (λ ready. FitsBallot ready.ballot) }
+    ensures opens { IfOk result (OpensRound (disk_meaning V.Disk)
+        era.now key.now program.now author desk.old desk.new flow.old flow.new) }
     ensures refused { IfErr result (FailsToOpen (disk_meaning V.Disk) key.now desk.old desk.new) }
     ensures not_sent { OnErr result (flow.new ≡ flow.old) }
 {
@@ -342,7 +355,8 @@ fn ask_to_prepare(
     requires proposer { proposer ≤ 16 }
     requires queue { proposer < length flow.old.own }
     requires ballot { FitsBallot ballot }
-    ensures sent { OnOk result (Sends flow.old proposer (prepares_to proposer age key.now ballot era.now.prep) flow.new) }
+    ensures sent { OnOk result
+        (Sends flow.old proposer (prepares_to proposer age key.now ballot era.now.prep) flow.new) }
     ensures not_sent { OnErr result (flow.new ≡ flow.old) }
 {
     let ask = Ask::Prepare {

@@ -63,7 +63,8 @@ impl<S: Shelf, V: Disk> World<S, V> {
 
     /// How many members removed their slot for the collection that is under way, or had none, and how many kept it for a later change.
     pub fn removals(&self) -> (u32, u32)
-        ensures { IfSome self.now.council.collection (λ c. (result.0 ≡ c.removed) × (result.1 ≡ c.kept)) }
+        ensures { IfSome self.now.council.collection (λ c. (result.0 ≡ c.removed)
+            × (result.1 ≡ c.kept)) }
     {
         match &self.council.collection {
             Some(collection) => collection.removals(),
@@ -85,7 +86,8 @@ impl<S: Shelf, V: Disk> World<S, V> {
         ensures step { Step (meaning S.Shelf V.Disk) self.old (BeginCollect key.now) self.new }
         ensures ok { OnOk result (HasCollected self.new call key.now) }
         ensures err { IfErr result (CollectsNot self.old self.new call key.now) }
-        ensures long { IsErrOf result (OpAnswer.Stopped Answer.RecordFull) → 999000 < length self.old.marks }
+        ensures long { IsErrOf result (OpAnswer.Stopped Answer.RecordFull)
+            → 999000 < length self.old.marks }
     {
         if self.callers[0].call.is_some() {
             let begun = self.begin(0, call, key, program);
@@ -109,7 +111,8 @@ impl<S: Shelf, V: Disk> World<S, V> {
 
     /// Why no collection may begin, if it may not.
     fn refusal_to_collect(&self) -> Option<OpAnswer>
-        ensures { (desk : DeskView V) → IsAt self.now.desks 0 desk → RefusesCollection self.now desk result }
+        ensures { (desk : DeskView V)
+            → IsAt self.now.desks 0 desk → RefusesCollection self.now desk result }
     {
         if self.desks[0].is_down() {
             return Some(OpAnswer::Stopped(Answer::Down));
@@ -140,11 +143,15 @@ impl<S: Shelf, V: Disk> World<S, V> {
     pub fn propose_tombstone(&mut self) -> Result<Reading, Answer>
         requires preparing { IsInPhase self.old 0 true }
         requires calling { IsCollectingCall self.old }
-        ensures empty { result ≡ Ok Reading.Empty → Step (meaning S.Shelf V.Disk) self.old (Propose 0) self.new × HasProposed self.new 0 }
-        ensures held { (version : ℕ) → result ≡ Ok (Reading.Held version) → Step (meaning S.Shelf V.Disk) self.old ReadHeld self.new }
+        ensures empty { result ≡ Ok Reading.Empty
+            → Step (meaning S.Shelf V.Disk) self.old (Propose 0) self.new × HasProposed self.new 0 }
+        ensures held { (version : ℕ) → result ≡ Ok (Reading.Held version)
+            → Step (meaning S.Shelf V.Disk) self.old ReadHeld self.new }
         ensures err { OnErr result (Step (meaning S.Shelf V.Disk) self.old (Propose 0) self.new) }
-        ensures reads { (version : ℕ) (desk : DeskView V) → IsAt self.old.desks 0 desk → ((result ≡ Ok (Reading.Held version)) ↔ FindsHeld desk version) }
-        ensures told { (caller : CallerView) → IsAt self.old.callers 0 caller → IfErr result (WasTold self.new 0 caller.number) }
+        ensures reads { (version : ℕ) (desk : DeskView V) → IsAt self.old.desks 0 desk
+            → ((result ≡ Ok (Reading.Held version)) ↔ FindsHeld desk version) }
+        ensures told { (caller : CallerView)
+            → IsAt self.old.callers 0 caller → IfErr result (WasTold self.new 0 caller.number) }
     {
         if let Some(version) = held_version(&self.desks[0]) {
             self.read_held(version);
@@ -174,7 +181,8 @@ impl<S: Shelf, V: Disk> World<S, V> {
         requires counting { IsInPhase self.old 0 false }
         requires calling { IsCollectingCall self.old }
         ensures step { CountsTombstone (meaning S.Shelf V.Disk) self.old result self.new }
-        ensures told { (caller : CallerView) → IsAt self.old.callers 0 caller → WasTold self.new 0 caller.number result }
+        ensures told { (caller : CallerView)
+            → IsAt self.old.callers 0 caller → WasTold self.new 0 caller.number result }
     {
         if cause_by(self.desks[0].verdict()).is_some() {
             return self.count(0);

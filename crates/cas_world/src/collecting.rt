@@ -22,7 +22,8 @@ impl<S: Shelf, V: Disk> World<S, V> {
         ensures ok { OnOk result (IsSome self.new.council.exchange) }
         ensures none { OnErr result (self.new.council.exchange ≡ None) }
         ensures err { IfErr result (WasToldOrder self.new) }
-        ensures long { IsErrOf result (OpAnswer.Stopped Answer.RecordFull) → 999000 < length self.old.marks }
+        ensures long { IsErrOf result (OpAnswer.Stopped Answer.RecordFull)
+            → 999000 < length self.old.marks }
     {
         if self.desks[0].is_down() {
             return Err(self.refuse(OpAnswer::Stopped(Answer::Down)));
@@ -68,7 +69,8 @@ impl<S: Shelf, V: Disk> World<S, V> {
     pub(crate) fn gather_collection(&mut self) -> Result<Gathered, OpAnswer>
         requires { MayGatherCollected self.old }
         ensures step { Step (meaning S.Shelf V.Disk) self.old GatherCollect self.new }
-        ensures removed { S.tells → V.tells → AreRemovalsDone (meaning S.Shelf V.Disk) self.old self.new }
+        ensures removed { S.tells
+            → V.tells → AreRemovalsDone (meaning S.Shelf V.Disk) self.old self.new }
         ensures ok { IfOk result (λ found. HasGathered self.old found self.new) }
         ensures err { IfErr result (WasToldOrder self.new) }
     {

@@ -44,7 +44,8 @@ impl<S: Shelf, V: Disk> World<S, V> {
 /// Closes the round of the desk, if one is open.
 fn close<V: Disk>(desk: &mut Desk<V>)
     ensures idle { desk.old.round ≡ None → desk.new ≡ desk.old }
-    ensures ends { (round : Round) → desk.old.round ≡ Some round → EndsRound (disk_meaning V.Disk) desk.old desk.new round None }
+    ensures ends { (round : Round) → desk.old.round ≡ Some round
+        → EndsRound (disk_meaning V.Disk) desk.old desk.new round None }
 {
     if desk.round().is_some() {
         desk.end(None);

@@ -61,10 +61,13 @@ impl<S: Shelf, V: Disk> World<S, V> {
     /// then more than 999,000 are made; [`Answer::NoMemory`] alone comes beside it. After an `Err` all is as before.
     pub fn order(&mut self, asked: &Asked) -> Result<(), Answer>
         requires { self.old.council.order ≡ None }
-        ensures full { IsErrOf result Answer.RecordFull ↔ (length self.old.marks + reserved_in_all self.old ≡ 1000000) }
+        ensures full { IsErrOf result Answer.RecordFull ↔
+            (length self.old.marks + reserved_in_all self.old ≡ 1000000) }
         ensures long { IsErrOf result Answer.RecordFull → 999000 < length self.old.marks }
-        ensures cause { IfErr result (λ told. (told ≡ Answer.RecordFull) ⊎ (told ≡ Answer.NoMemory false)) }
-        ensures ok { OnOk result (Step (meaning S.Shelf V.Disk) self.old (Orders asked.now) self.new) }
+        ensures cause { IfErr result (λ told. (told ≡ Answer.RecordFull)
+            ⊎ (told ≡ Answer.NoMemory false)) }
+        ensures ok { OnOk result
+            (Step (meaning S.Shelf V.Disk) self.old (Orders asked.now) self.new) }
         ensures err { OnErr result (Step (meaning S.Shelf V.Disk) self.old RefuseOrder self.new) }
     {
         let reserved = reserved_in_all(&self.callers, &self.council);
@@ -90,8 +93,10 @@ impl<S: Shelf, V: Disk> World<S, V> {
         requires { MayTell self.old answer }
         ensures same { result ≡ answer }
         ensures step { Step (meaning S.Shelf V.Disk) self.old (Tell answer) self.new }
-        ensures floor { S.tells → V.tells → HasCollectedAll self.old answer → HasItsFloor answer (reverse self.old.marks) }
-        ensures entered { HasFinished self.old answer → HaveEnteredIts self.old.last_proposer answer (reverse self.old.marks) }
+        ensures floor { S.tells → V.tells
+            → HasCollectedAll self.old answer → HasItsFloor answer (reverse self.old.marks) }
+        ensures entered { HasFinished self.old answer
+            → HaveEnteredIts self.old.last_proposer answer (reverse self.old.marks) }
     {
         self.flow.abandon(EXCHANGE_PLACE);
         let EndedOrder {
@@ -118,7 +123,8 @@ impl<S: Shelf, V: Disk> World<S, V> {
         ensures ok { OnOk result (IsSome self.new.council.exchange) }
         ensures none { OnErr result (self.new.council.exchange ≡ None) }
         ensures err { IfErr result (WasToldOrder self.new) }
-        ensures long { IsErrOf result (OpAnswer.Stopped Answer.RecordFull) → 999000 < length self.old.marks }
+        ensures long { IsErrOf result (OpAnswer.Stopped Answer.RecordFull)
+            → 999000 < length self.old.marks }
     {
         match what {
             Exchange::Ages | Exchange::Remove => self.ask_collect(),
@@ -130,11 +136,13 @@ impl<S: Shelf, V: Disk> World<S, V> {
     /// Proposer 0 asks this of all members, or of those whose listing has not ended.
     fn ask_members(&mut self, what: Query) -> Result<(), OpAnswer>
         requires { MayAskMembers self.old (question_in self.old what) }
-        ensures step { Step (meaning S.Shelf V.Disk) self.old (AskAll (question_in self.old what)) self.new }
+        ensures step { Step (meaning S.Shelf V.Disk) self.old
+            (AskAll (question_in self.old what)) self.new }
         ensures ok { OnOk result (IsSome self.new.council.exchange) }
         ensures none { OnErr result (self.new.council.exchange ≡ None) }
         ensures err { IfErr result (WasToldOrder self.new) }
-        ensures long { IsErrOf result (OpAnswer.Stopped Answer.RecordFull) → 999000 < length self.old.marks }
+        ensures long { IsErrOf result (OpAnswer.Stopped Answer.RecordFull)
+            → 999000 < length self.old.marks }
     {
         let alloc = *self.acceptors.allocator();
         let everyone = self.era().everyone();
@@ -176,9 +184,11 @@ impl<S: Shelf, V: Disk> World<S, V> {
     pub fn gather(&mut self) -> Result<Gathered, OpAnswer>
         requires { MayGather self.old }
         ensures step { Step (meaning S.Shelf V.Disk) self.old (gathering_of self.old) self.new }
-        ensures removed { S.tells → V.tells → AreRemovalsDone (meaning S.Shelf V.Disk) self.old self.new }
+        ensures removed { S.tells
+            → V.tells → AreRemovalsDone (meaning S.Shelf V.Disk) self.old self.new }
         ensures ok { IfOk result (λ found. HasGathered self.old found self.new) }
-        ensures less { result ≡ Ok Gathered.More → left_to_list self.new.council.plan < left_to_list self.old.council.plan }
+        ensures less { result ≡ Ok Gathered.More
+            → left_to_list self.new.council.plan < left_to_list self.old.council.plan }
         ensures err { IfErr result (WasToldOrder self.new) }
     {
         if self.council.exchange.is_none() {
@@ -195,7 +205,8 @@ impl<S: Shelf, V: Disk> World<S, V> {
         requires may { MayGatherMembers self.old }
         ensures step { Step (meaning S.Shelf V.Disk) self.old Gather self.new }
         ensures ok { IfOk result (λ found. HasGathered self.old found self.new) }
-        ensures less { result ≡ Ok Gathered.More → left_to_list self.new.council.plan < left_to_list self.old.council.plan }
+        ensures less { result ≡ Ok Gathered.More
+            → left_to_list self.new.council.plan < left_to_list self.old.council.plan }
         ensures err { IfErr result (WasToldOrder self.new) }
     {
         self.council.gather()
@@ -205,8 +216,10 @@ impl<S: Shelf, V: Disk> World<S, V> {
     pub(crate) fn turn_exchange(&mut self, verdict: Verdict) -> Result<(), AllocError>
         requires open { IsSome self.old.council.exchange }
         requires waits { (queue_at self.old.flow exchange_place).messages ≢ [] }
-        ensures ok { OnOk result (Step (meaning S.Shelf V.Disk) self.old (TurnExchange verdict) self.new) }
-        ensures err { OnErr result (Step (meaning S.Shelf V.Disk) self.old RefuseTurnExchange self.new) }
+        ensures ok { OnOk result
+            (Step (meaning S.Shelf V.Disk) self.old (TurnExchange verdict) self.new) }
+        ensures err { OnErr result
+            (Step (meaning S.Shelf V.Disk) self.old RefuseTurnExchange self.new) }
     {
         match self.flow.falls(EXCHANGE_PLACE, verdict) {
             Fall::Held => Ok(()),
@@ -240,8 +253,10 @@ impl<S: Shelf, V: Disk> World<S, V> {
     fn handle_asked(&mut self, verdict: Verdict) -> Result<(), AllocError>
         requires open { IsSome self.old.council.exchange }
         requires waits { (queue_at self.old.flow exchange_place).messages ≢ [] }
-        requires handled { fall_of (queue_at self.old.flow exchange_place).again verdict ≡ Fall.Handle }
-        ensures ok { OnOk result (Step (meaning S.Shelf V.Disk) self.old (TurnExchange verdict) self.new) }
+        requires handled { fall_of (queue_at self.old.flow exchange_place).again verdict
+            ≡ Fall.Handle }
+        ensures ok { OnOk result
+            (Step (meaning S.Shelf V.Disk) self.old (TurnExchange verdict) self.new) }
         ensures err { OnErr result (FindsNoRoom (meaning S.Shelf V.Disk) self.old self.new) }
     {
         let alloc = *self.acceptors.allocator();
@@ -259,9 +274,11 @@ impl<S: Shelf, V: Disk> World<S, V> {
     fn serve_asked(&mut self, verdict: Verdict, request: &Request) -> Result<(), AllocError>
         requires open { IsSome self.old.council.exchange }
         requires waits { IsAsked self.old request.now }
-        requires handled { fall_of (queue_at self.old.flow exchange_place).again verdict ≡ Fall.Handle }
+        requires handled { fall_of (queue_at self.old.flow exchange_place).again verdict
+            ≡ Fall.Handle }
         requires sent { CanBeSent (message.Request request.now) }
-        ensures ok { OnOk result (Step (meaning S.Shelf V.Disk) self.old (TurnExchange verdict) self.new) }
+        ensures ok { OnOk result
+            (Step (meaning S.Shelf V.Disk) self.old (TurnExchange verdict) self.new) }
         ensures err { OnErr result (FindsNoRoom (meaning S.Shelf V.Disk) self.old self.new) }
     {
         let alloc = *self.acceptors.allocator();
@@ -324,10 +341,16 @@ fn open_exchange<V: Disk>(
     requires queue { exchange_place < length flow.old.own }
     requires few { length «record».old.marks + reserved ≤ 1000000 }
     requires tag { IfSome (option_copied goes_on) (λ listing. FitsBallot listing.tag) }
-    ensures ok { IfOk result (λ opened. OpensExchange (disk_meaning V.Disk) desk.old desk.new flow.old flow.new everyone (option_copied goes_on.entry) what (length «record».old.marks) opened) }
-    ensures room { OnOk result (reserved + length (asked_from everyone (option_copied goes_on.entry)) ≤ «record».new.room) }
-    ensures fits { OnOk result (length «record».old.marks + reserved + length (asked_from everyone (option_copied goes_on.entry)) ≤ 1000000) }
-    ensures refused { IfErr result (FailsToAsk (disk_meaning V.Disk) desk.old desk.new (option_copied goes_on.entry) (length «record».old.marks + reserved + length (asked_from everyone (option_copied goes_on.entry)))) }
+    ensures ok { IfOk result
+        (λ opened. OpensExchange (disk_meaning V.Disk) desk.old desk.new flow.old flow.new everyone
+        (option_copied goes_on.entry) what (length «record».old.marks) opened) }
+    ensures room { OnOk result (reserved + length
+        (asked_from everyone (option_copied goes_on.entry)) ≤ «record».new.room) }
+    ensures fits { OnOk result (length «record».old.marks + reserved + length
+        (asked_from everyone (option_copied goes_on.entry)) ≤ 1000000) }
+    ensures refused { IfErr result (FailsToAsk (disk_meaning V.Disk) desk.old desk.new
+        (option_copied goes_on.entry) (length «record».old.marks + reserved + length
+        (asked_from everyone (option_copied goes_on.entry)))) }
     ensures not_sent { OnErr result (flow.new ≡ flow.old) }
     ensures marks { «record».new.marks ≡ «record».old.marks }
     ensures grows { «record».old.room ≤ «record».new.room }
@@ -380,9 +403,14 @@ fn ask_members(
 ) -> Result<Opened, AllocError>
     requires queue { exchange_place < length flow.old.own }
     requires tag { FitsBallot tag }
-    ensures exchange { IfOk result (λ opened. exchange_view opened.exchange ≡ new_exchange (question_from everyone (option_copied goes_on.entry) what) tag (asked_from everyone (option_copied goes_on.entry)) since) }
-    ensures begun { IfOk result (λ opened. opened.begun ≡ begins_with everyone (option_copied goes_on.entry) what tag) }
-    ensures sent { OnOk result (Sends flow.old exchange_place (questions_to age tag (question_from everyone (option_copied goes_on.entry) what) (asked_from everyone (option_copied goes_on.entry))) flow.new) }
+    ensures exchange { IfOk result (λ opened. exchange_view opened.exchange
+        ≡ new_exchange (question_from everyone (option_copied goes_on.entry) what) tag
+        (asked_from everyone (option_copied goes_on.entry)) since) }
+    ensures begun { IfOk result
+        (λ opened. opened.begun ≡ begins_with everyone (option_copied goes_on.entry) what tag) }
+    ensures sent { OnOk result (Sends flow.old exchange_place
+        (questions_to age tag (question_from everyone (option_copied goes_on.entry) what)
+        (asked_from everyone (option_copied goes_on.entry))) flow.new) }
     ensures not_sent { OnErr result (flow.new ≡ flow.old) }
 {
     let members = members_asked(everyone, goes_on);
@@ -404,8 +432,10 @@ pub(crate) fn ask_each(
 ) -> Result<OpenExchange, AllocError>
     requires queue { exchange_place < length flow.old.own }
     requires tag { FitsBallot tag }
-    ensures exchange { IfOk result (λ exchange. exchange_view exchange ≡ new_exchange (question_view question) tag members since) }
-    ensures sent { OnOk result (Sends flow.old exchange_place (questions_to age tag (question_view question) members) flow.new) }
+    ensures exchange { IfOk result (λ exchange. exchange_view exchange
+        ≡ new_exchange (question_view question) tag members since) }
+    ensures sent { OnOk result (Sends flow.old exchange_place
+        (questions_to age tag (question_view question) members) flow.new) }
     ensures not_sent { OnErr result (flow.new ≡ flow.old) }
 {
     let told = unanswered(alloc, &members)?;
@@ -429,7 +459,8 @@ fn question_for(
     goes_on: Option<&Listing>,
     what: Query,
 ) -> Result<Question, AllocError>
-    ensures { IfOk result (λ question. question_view question ≡ question_from everyone.now (option_copied goes_on.entry) what) }
+    ensures { IfOk result (λ question. question_view question
+        ≡ question_from everyone.now (option_copied goes_on.entry) what) }
 {
     match (what, goes_on) {
         (Query::Probe(key), _) => Ok(Question::Probe(key)),
@@ -446,7 +477,8 @@ fn begin_listing(
     goes_on: Option<&Listing>,
     what: &Query,
 ) -> Result<Option<Listing>, AllocError>
-    ensures { IfOk result (λ begun. begun ≡ begins_with everyone.now (option_copied goes_on.entry) what.now tag) }
+    ensures { IfOk result
+        (λ begun. begun ≡ begins_with everyone.now (option_copied goes_on.entry) what.now tag) }
 {
     match (what, goes_on) {
         (Query::List, None) => {
@@ -463,9 +495,11 @@ fn tag_for<V: Disk>(desk: &mut Desk<V>, goes_on: Option<&Listing>) -> Result<Bal
     requires idle { desk.old.round ≡ None }
     requires proposer { desk.old.id ≤ 16 }
     requires fits { IfSome (option_copied goes_on) (λ listing. FitsBallot listing.tag) }
-    ensures tag { IfOk result (λ tag. HasTag (disk_meaning V.Disk) (option_copied goes_on.entry) desk.old desk.new tag × FitsBallot tag) }
+    ensures tag { IfOk result (λ tag. HasTag (disk_meaning V.Disk)
+        (option_copied goes_on.entry) desk.old desk.new tag × FitsBallot tag) }
     ensures desk { OnOk result (desk.new ≡ record desk.old { vault = desk.new.vault }) }
-    ensures failed { IfErr result (FailsToTag (disk_meaning V.Disk) (option_copied goes_on.entry) desk.old desk.new) }
+    ensures failed { IfErr result
+        (FailsToTag (disk_meaning V.Disk) (option_copied goes_on.entry) desk.old desk.new) }
 {
     match goes_on {
         Some(listing) => Ok(listing.tag()),

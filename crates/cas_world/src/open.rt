@@ -52,7 +52,8 @@ impl<S: Shelf, V: Disk> Lists<S, V> {
         ensures acceptor_room { IfOk result (λ lists. 64 ≤ vec_capacity lists.acceptors) }
         ensures desks { IfOk result (λ lists. lists.desks.items ≡ []) }
         ensures desk_room { IfOk result (λ lists. proposers + 1 ≤ vec_capacity lists.desks) }
-        ensures callers { IfOk result (λ lists. lists.callers.items ≡ replicate (proposers + 1) unbegun) }
+        ensures callers { IfOk result
+            (λ lists. lists.callers.items ≡ replicate (proposers + 1) unbegun) }
         ensures flow { IfOk result (λ lists. lists.flow ≡ empty_flow) }
     {
         let flow = Flow::new(alloc)?;
@@ -155,8 +156,12 @@ pub(crate) fn start<S: Shelf, V: Disk>(
     requires disks { config.proposers < vec_len disks.old }
     requires none { desks.old.items ≡ [] }
     requires room { config.proposers + 1 ≤ vec_capacity desks.old }
-    ensures ok { OnOk result (AllStart (meaning S.Shelf V.Disk) S.fault_count V.fault_count config.acceptors config.proposers acceptors.old.items (reverse disks.old.items) acceptors.new.items desks.new.items (reverse disks.new.items)) }
-    ensures err { IfErr result (λ fault. SomeDiskFails (meaning S.Shelf V.Disk) S.fault_count V.fault_count config.acceptors config.proposers acceptors.old.items (reverse disks.old.items) fault acceptors.new.items desks.new.items (reverse disks.new.items)) }
+    ensures ok { OnOk result (AllStart (meaning S.Shelf V.Disk)
+        S.fault_count V.fault_count config.acceptors config.proposers acceptors.old.items
+        (reverse disks.old.items) acceptors.new.items desks.new.items (reverse disks.new.items)) }
+    ensures err { IfErr result (λ fault. SomeDiskFails (meaning S.Shelf V.Disk)
+        S.fault_count V.fault_count config.acceptors config.proposers acceptors.old.items (reverse
+        disks.old.items) fault acceptors.new.items desks.new.items (reverse disks.new.items)) }
     ensures capacity { vec_capacity disks.new ≡ vec_capacity disks.old }
 {
     start_members(acceptors, config.acceptors)?;
@@ -168,8 +173,10 @@ fn start_members<S: Shelf>(acceptors: &mut Vec<Acceptor<S>>, count: u8) -> Resul
     requires few { count < vec_len acceptors.old }
     requires identities { vec_len acceptors.old ≤ 64 }
     requires fresh { NoneStarted acceptors.old.items }
-    ensures ok { OnOk result (AreStartedBelow (shelf_meaning S.Shelf) S.fault_count acceptors.old.items (count + 1) acceptors.new.items) }
-    ensures err { IfErr result (λ fault. AMemberFails (shelf_meaning S.Shelf) S.fault_count acceptors.old.items count fault acceptors.new.items) }
+    ensures ok { OnOk result (AreStartedBelow (shelf_meaning S.Shelf)
+        S.fault_count acceptors.old.items (count + 1) acceptors.new.items) }
+    ensures err { IfErr result (λ fault. AMemberFails (shelf_meaning S.Shelf)
+        S.fault_count acceptors.old.items count fault acceptors.new.items) }
 {
     for number in 1..=count {
         match acceptors[usize::from(number)].restart() {
@@ -201,9 +208,12 @@ fn start_desks<V: Disk>(
     requires disks { proposers < vec_len disks.old }
     requires none { desks.old.items ≡ [] }
     requires room { proposers + 1 ≤ vec_capacity desks.old }
-    ensures ok { OnOk result (AreDesksBelow (disk_meaning V.Disk) V.fault_count (reverse disks.old.items) (proposers + 1) desks.new.items) }
-    ensures left { OnOk result (reverse disks.new.items ≡ drop (proposers + 1) (reverse disks.old.items)) }
-    ensures err { IfErr result (λ fault. AVaultFails (disk_meaning V.Disk) V.fault_count (reverse disks.old.items) proposers fault desks.new.items (reverse disks.new.items)) }
+    ensures ok { OnOk result (AreDesksBelow (disk_meaning V.Disk) V.fault_count
+        (reverse disks.old.items) (proposers + 1) desks.new.items) }
+    ensures left { OnOk result
+        (reverse disks.new.items ≡ drop (proposers + 1) (reverse disks.old.items)) }
+    ensures err { IfErr result (λ fault. AVaultFails (disk_meaning V.Disk) V.fault_count
+        (reverse disks.old.items) proposers fault desks.new.items (reverse disks.new.items)) }
     ensures capacity { vec_capacity disks.new ≡ vec_capacity disks.old }
 {
     for number in 0..=proposers {
@@ -224,7 +234,8 @@ fn start_desks<V: Disk>(
 /// comes only where its count of faults rose.
 fn start_desk<V: Disk>(alloc: Global, id: ProposerId, disk: V) -> Result<Desk<V>, (OpenFault, V)>
     ensures desk { IfOk result (IsDeskOver (disk_meaning V.Disk) V.fault_count id disk) }
-    ensures fault { IfErr result (λ back. IsFaultOf (64 + id) (V.fault_count disk) (V.fault_count back.1) back.0) }
+    ensures fault { IfErr result
+        (λ back. IsFaultOf (64 + id) (V.fault_count disk) (V.fault_count back.1) back.0) }
     ensures never_falls { IfErr result (λ back. V.fault_count disk ≤ V.fault_count back.1) }
 {
     let mut vault = Vault::over(alloc, disk);

@@ -42,7 +42,9 @@ impl<S: Shelf, V: Disk> World<S, V> {
     /// bytes that are no shelf from that place on, and [`ShelfFault::Full`] never.
     pub fn restart_acceptor(&mut self, id: AcceptorId) -> Result<(), ShelfFault>
         ensures step { Step (meaning S.Shelf V.Disk) self.old (RestartAcceptor id) self.new }
-        ensures tells { (was now : AcceptorView S) → IsAt self.old.acceptors id was → IsAt self.new.acceptors id now → TellsOfAcceptor (shelf_meaning S.Shelf) was now result }
+        ensures tells { (was now : AcceptorView S)
+            → IsAt self.old.acceptors id was → IsAt self.new.acceptors id now
+            → TellsOfAcceptor (shelf_meaning S.Shelf) was now result }
     {
         self.acceptors[usize::from(id.number())].restart()
     }
@@ -90,7 +92,8 @@ impl<S: Shelf, V: Disk> World<S, V> {
     pub fn restart_proposer(&mut self, proposer: u8) -> Result<(), VaultError>
         requires { proposer ≤ self.old.last_proposer }
         ensures step { Step (meaning S.Shelf V.Disk) self.old (RestartProposer proposer) self.new }
-        ensures tells { (was now : DeskView V) → IsAt self.old.desks proposer was → IsAt self.new.desks proposer now → TellsOfDesk (disk_meaning V.Disk) was now result }
+        ensures tells { (was now : DeskView V) → IsAt self.old.desks proposer was
+            → IsAt self.new.desks proposer now → TellsOfDesk (disk_meaning V.Disk) was now result }
     {
         let desk = &mut self.desks[usize::from(proposer)];
         let was_down = desk.is_down();

@@ -179,8 +179,10 @@ impl<S: Shelf, V: Disk> World<S, V> {
     /// then, beside those that were.
     fn welcome(&mut self, kind: PlanKind, id: AcceptorId) -> Result<Members, AllocError>
         ensures welcomes { Welcomes (meaning S.Shelf V.Disk) self.old (asked_to kind id) self.new }
-        ensures used { IfOk result (λ used. used ≡ used_with (asked_to kind id) self.old.council.used) }
-        ensures faulted { OnOk result (FailsByFaults (meaning S.Shelf V.Disk) self.old (asked_to kind id) self.new) }
+        ensures used { IfOk result
+            (λ used. used ≡ used_with (asked_to kind id) self.old.council.used) }
+        ensures faulted { OnOk result
+            (FailsByFaults (meaning S.Shelf V.Disk) self.old (asked_to kind id) self.new) }
     {
         let mut used = self.council.used;
         match kind {
@@ -207,7 +209,8 @@ impl<S: Shelf, V: Disk> World<S, V> {
     pub fn enter_era(&mut self, proposer: u8) -> Result<(), OpAnswer>
         requires { MayEnterNext self.old proposer }
         ensures step { Step (meaning S.Shelf V.Disk) self.old (EntersNext proposer) self.new }
-        ensures ok { OnOk result ((order : OrderView) → self.old.council.order ≡ Some order → IsUnderWay self.new order.asked) }
+        ensures ok { OnOk result ((order : OrderView)
+            → self.old.council.order ≡ Some order → IsUnderWay self.new order.asked) }
         ensures err { IfErr result (WasToldOrder self.new) }
     {
         let reserved = reserved_in_all(&self.callers, &self.council);
@@ -263,10 +266,16 @@ fn move_on<V: Disk>(
     requires up { desk.old.down ≡ false }
     requires proposer { proposer ≤ 16 }
     requires open { IsSome desk.old.round → IsSome caller.old.call }
-    ensures ok { OnOk result (LeavesDesk (EntersEra (disk_meaning V.Disk) next.now) (closed_with (λ proposed. moved_answer proposed next.now.number)) proposer desk.old desk.new caller.old caller.new flow.old flow.new) }
-    ensures fault { IsErrOf result VaultError.VaultFault → LeavesDesk (FailsToEnter (disk_meaning V.Disk) next.now) (closed_with crash_answer) proposer desk.old desk.new caller.old caller.new flow.old flow.new }
-    ensures no_memory { IsErrOf result VaultError.NoMemory → Stays (disk_meaning V.Disk) desk.old desk.new caller.old caller.new flow.old flow.new }
-    ensures cause { IfErr result (λ error. (error ≡ VaultError.VaultFault) ⊎ (error ≡ VaultError.NoMemory)) }
+    ensures ok { OnOk result (LeavesDesk (EntersEra (disk_meaning V.Disk) next.now)
+        (closed_with (λ proposed. moved_answer proposed next.now.number))
+        proposer desk.old desk.new caller.old caller.new flow.old flow.new) }
+    ensures fault { IsErrOf result VaultError.VaultFault
+        → LeavesDesk (FailsToEnter (disk_meaning V.Disk) next.now) (closed_with crash_answer)
+        proposer desk.old desk.new caller.old caller.new flow.old flow.new }
+    ensures no_memory { IsErrOf result VaultError.NoMemory
+        → Stays (disk_meaning V.Disk) desk.old desk.new caller.old caller.new flow.old flow.new }
+    ensures cause { IfErr result (λ error. (error ≡ VaultError.VaultFault)
+        ⊎ (error ≡ VaultError.NoMemory)) }
 {
     let closes = has_round(desk);
     let proposed = caller.has_proposed();
@@ -301,7 +310,8 @@ pub(crate) fn leave(caller: &mut Caller, flow: &mut Flow, proposer: u8, closes: 
     requires proposer { proposer ≤ 16 }
     requires open { closes ≡ true → IsSome caller.old.call }
     ensures flow { flow.new ≡ abandoned flow.old proposer }
-    ensures closed { closes ≡ true → IfSome caller.old.call (λ call. caller.new ≡ record caller.old { call = Some (record (over call told) { is_closed = true }) }) }
+    ensures closed { closes ≡ true → IfSome caller.old.call (λ call. caller.new
+        ≡ record caller.old { call = Some (record (over call told) { is_closed = true }) }) }
     ensures stays { closes ≡ false → caller.new ≡ caller.old }
 {
     flow.abandon(proposer);
@@ -321,11 +331,15 @@ fn mark_move(
     next: Era,
     moved: Result<(), VaultError>,
 ) -> Result<(), OpAnswer>
-    requires plan { IsSomeAnd council.old.plan (λ plan. (entering plan.plan.left ≡ Some next) × (plan.entered ≡ proposer)) }
+    requires plan { IsSomeAnd council.old.plan (λ plan. (entering plan.plan.left ≡ Some next)
+        × (plan.entered ≡ proposer)) }
     requires proposer { proposer ≤ 16 }
     requires room { 0 < «record».old.room }
-    requires cause { IfErr moved (λ error. (error ≡ VaultError.VaultFault) ⊎ (error ≡ VaultError.NoMemory)) }
-    ensures moves { MarksMove last_proposer proposer next moved (council_view council.old) (council_view council.new) council.old.eras.0 council.new.eras.0 flow.old flow.new «record».old «record».new result }
+    requires cause { IfErr moved (λ error. (error ≡ VaultError.VaultFault)
+        ⊎ (error ≡ VaultError.NoMemory)) }
+    ensures moves { MarksMove last_proposer proposer next moved
+        (council_view council.old) (council_view council.new)
+        council.old.eras.0 council.new.eras.0 flow.old flow.new «record».old «record».new result }
 {
     match moved {
         Ok(()) => {

@@ -52,8 +52,10 @@ impl<S: Shelf, V: Disk> World<S, V> {
         requires preparing { IsInPhase self.old proposer true }
         ensures step { Step (meaning S.Shelf V.Disk) self.old (Propose proposer) self.new }
         ensures proposed { OnOk result (HasProposed self.new proposer) }
-        ensures told { (caller : CallerView) → slice_get self.old.callers proposer ≡ Some caller → IfErr result (WasTold self.new proposer caller.number) }
-        ensures cause { IfErr result (λ told. PreparesBy (meaning S.Shelf V.Disk) self.old proposer told self.new) }
+        ensures told { (caller : CallerView) → slice_get self.old.callers proposer ≡ Some caller
+            → IfErr result (WasTold self.new proposer caller.number) }
+        ensures cause { IfErr result
+            (λ told. PreparesBy (meaning S.Shelf V.Disk) self.old proposer told self.new) }
         ensures above { S.tells → V.tells → IfErr result (TellsAbove self.old proposer) }
     {
         let alloc = *self.acceptors.allocator();
@@ -81,10 +83,13 @@ impl<S: Shelf, V: Disk> World<S, V> {
         requires known { proposer ≤ self.old.last_proposer }
         requires counting { IsInPhase self.old proposer false }
         ensures step { Step (meaning S.Shelf V.Disk) self.old (Count proposer) self.new }
-        ensures told { (caller : CallerView) → slice_get self.old.callers proposer ≡ Some caller → WasTold self.new proposer caller.number result }
+        ensures told { (caller : CallerView) → slice_get self.old.callers proposer ≡ Some caller
+            → WasTold self.new proposer caller.number result }
         ensures cause { AcceptsBy self.old proposer result }
         ensures above { S.tells → V.tells → TellsAbove self.old proposer result }
-        ensures kept { S.tells → V.tells → (a : AnAcknowledgment) → Stands (Acked a) (reverse self.new.marks) → IsAboveFloors (reverse self.new.marks) a.key a.ballot → AcknowledgedIsKept (meaning S.Shelf V.Disk) self.new a }
+        ensures kept { S.tells → V.tells → (a : AnAcknowledgment) → Stands (Acked a)
+            (reverse self.new.marks) → IsAboveFloors (reverse self.new.marks) a.key a.ballot
+            → AcknowledgedIsKept (meaning S.Shelf V.Disk) self.new a }
     {
         let place = usize::from(proposer);
         let desk = &mut self.desks[place];
@@ -105,8 +110,10 @@ impl<S: Shelf, V: Disk> World<S, V> {
     /// Whether the caller's open call has proposed something. An open round of it is in its accept phase exactly then.
     pub fn has_proposed(&self, caller: u8) -> bool
         requires { caller ≤ self.now.last_proposer }
-        ensures proposed { (seen : CallerView) → slice_get self.now.callers caller ≡ Some seen → IfSome seen.call (λ call. result ≡ is_some call.proposed) }
-        ensures phase { (desk : DeskView V) → slice_get self.now.desks caller ≡ Some desk → IfSome desk.round (λ round. is_preparing round.phase ≡ not result) }
+        ensures proposed { (seen : CallerView) → slice_get self.now.callers caller ≡ Some seen
+            → IfSome seen.call (λ call. result ≡ is_some call.proposed) }
+        ensures phase { (desk : DeskView V) → slice_get self.now.desks caller ≡ Some desk
+            → IfSome desk.round (λ round. is_preparing round.phase ≡ not result) }
     {
         self.callers[usize::from(caller)].has_proposed()
     }
@@ -121,8 +128,11 @@ fn end_prepare<V: Disk>(
     proposer: u8,
 ) -> Result<Proposing, Answer>
     requires { MayEndPrepare desk.old caller.now flow.old proposer }
-    ensures proposes { (round : Round) → desk.old.round ≡ Some round → (call : OpenCall) → caller.now.call ≡ Some call → IfOk result (Proposes (disk_meaning V.Disk) proposer caller.now.number round call desk.old desk.new flow.old flow.new) }
-    ensures ends { (round : Round) → desk.old.round ≡ Some round → IfErr result (EndsShort (disk_meaning V.Disk) round desk.old desk.new) }
+    ensures proposes { (round : Round) → desk.old.round ≡ Some round → (call : OpenCall)
+        → caller.now.call ≡ Some call → IfOk result (Proposes (disk_meaning V.Disk)
+        proposer caller.now.number round call desk.old desk.new flow.old flow.new) }
+    ensures ends { (round : Round) → desk.old.round ≡ Some round
+        → IfErr result (EndsShort (disk_meaning V.Disk) round desk.old desk.new) }
     ensures not_sent { OnErr result (flow.new ≡ flow.old) }
 {
     match refusal_by(desk.verdict()) {
@@ -144,8 +154,11 @@ fn propose_read<V: Disk>(
 ) -> Result<Proposing, Answer>
     requires may { MayEndPrepare desk.old caller.now flow.old proposer }
     requires quorum { IsTrue (may_read desk.old.round) }
-    ensures proposes { (round : Round) → desk.old.round ≡ Some round → (call : OpenCall) → caller.now.call ≡ Some call → IfOk result (Proposes (disk_meaning V.Disk) proposer caller.now.number round call desk.old desk.new flow.old flow.new) }
-    ensures refused { (round : Round) → desk.old.round ≡ Some round → IfErr result (FailsToPropose (disk_meaning V.Disk) round.key desk.old desk.new) }
+    ensures proposes { (round : Round) → desk.old.round ≡ Some round → (call : OpenCall)
+        → caller.now.call ≡ Some call → IfOk result (Proposes (disk_meaning V.Disk)
+        proposer caller.now.number round call desk.old desk.new flow.old flow.new) }
+    ensures refused { (round : Round) → desk.old.round ≡ Some round
+        → IfErr result (FailsToPropose (disk_meaning V.Disk) round.key desk.old desk.new) }
     ensures not_sent { OnErr result (flow.new ≡ flow.old) }
 {
     let Some(call) = &caller.call else {
@@ -173,9 +186,11 @@ fn propose_read<V: Disk>(
 fn read<V: Disk>(desk: &mut Desk<V>) -> (Era, Ready)
     requires { IsTrue (may_read desk.old.round) }
     ensures desk { desk.new ≡ record desk.old { round = desk.new.round } }
-    ensures turns { (round : Round) → desk.old.round ≡ Some round → IsSomeAnd desk.new.round (TurnsToAccept round) }
+    ensures turns { (round : Round)
+        → desk.old.round ≡ Some round → IsSomeAnd desk.new.round (TurnsToAccept round) }
     ensures may_ride { IsTrue (may_ride desk.new.round) }
-    ensures reads { (round : Round) → desk.old.round ≡ Some round → ReadsRound round result.0 result.1 }
+    ensures reads { (round : Round)
+        → desk.old.round ≡ Some round → ReadsRound round result.0 result.1 }
 {
     let by = desk.confirmers();
     let (era, ballot) = match desk.round() {
@@ -210,8 +225,10 @@ pub(crate) fn acknowledge<V: Disk>(
     record: &mut Record,
 ) -> Answer
     requires { MayCount desk.old caller.old «record».old.room }
-    ensures { (round : Round) → desk.old.round ≡ Some round → (call : OpenCall) → caller.old.call ≡ Some call → (outcome : Outcome) → call.proposed ≡ Some outcome
-        → Counts (disk_meaning V.Disk) desk.old desk.new round caller.old caller.new call outcome «record».old «record».new result }
+    ensures { (round : Round)
+        → desk.old.round ≡ Some round → (call : OpenCall) → caller.old.call ≡ Some call
+        → (outcome : Outcome) → call.proposed ≡ Some outcome → Counts (disk_meaning V.Disk) desk.old
+        desk.new round caller.old caller.new call outcome «record».old «record».new result }
 {
     let by = desk.confirmers();
     let (ballot, era, ride) = match desk.round() {
@@ -255,9 +272,12 @@ struct Copied {
 /// What the accept phase of the caller's call kept for its end.
 fn take_copies(caller: &mut Caller) -> Copied
     requires { IsSomeAnd caller.old.call (λ call. IsSome call.copies × IsSome call.proposed) }
-    ensures copies { IfSome caller.old.call (λ call. IfSome call.copies (λ copies. result.copies ≡ copies)) }
-    ensures took { IfSome caller.old.call (λ call. IfSome call.proposed (λ outcome. result.took ≡ outcome.took)) }
-    ensures caller { IfSome caller.old.call (λ call. caller.new ≡ record caller.old { call = Some (record call { copies = None }) }) }
+    ensures copies { IfSome caller.old.call
+        (λ call. IfSome call.copies (λ copies. result.copies ≡ copies)) }
+    ensures took { IfSome caller.old.call
+        (λ call. IfSome call.proposed (λ outcome. result.took ≡ outcome.took)) }
+    ensures caller { IfSome caller.old.call
+        (λ call. caller.new ≡ record caller.old { call = Some (record call { copies = None }) }) }
 {
     match &mut caller.call {
         Some(call) => match (call.copies.take(), &call.proposed) {

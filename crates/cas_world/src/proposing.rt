@@ -42,9 +42,13 @@ pub(crate) fn propose_on<V: Disk>(
     requires caller { author.caller ≤ 16 }
     requires queue { author.caller < length flow.old.own }
     requires ballot { FitsBallot ready.now.ballot }
-    ensures made { IfOk result (λ proposing. proposing ≡ proposing_of author key.now era.now.number program.now ready.now) }
-    ensures sent { (round : Round) → desk.old.round ≡ Some round → OnOk result (ProposesOn (disk_meaning V.Disk) round desk.old desk.new author.caller key.now era.now (outcome_of program.now ready.now.state).state ready.now.ballot flow.old flow.new) }
-    ensures refused { (round : Round) → desk.old.round ≡ Some round → IfErr result (FailsToPropose (disk_meaning V.Disk) round.key desk.old desk.new) }
+    ensures made { IfOk result (λ proposing.
+        proposing ≡ proposing_of author key.now era.now.number program.now ready.now) }
+    ensures sent { (round : Round) → desk.old.round ≡ Some round → OnOk result
+        (ProposesOn (disk_meaning V.Disk) round desk.old desk.new author.caller key.now era.now
+        (outcome_of program.now ready.now.state).state ready.now.ballot flow.old flow.new) }
+    ensures refused { (round : Round) → desk.old.round ≡ Some round
+        → IfErr result (FailsToPropose (disk_meaning V.Disk) round.key desk.old desk.new) }
     ensures not_sent { OnErr result (flow.new ≡ flow.old) }
 {
     let ride = ride_on(desk)?;
@@ -64,8 +68,10 @@ fn ride_on<V: Disk>(desk: &mut Desk<V>) -> Result<Option<Ballot>, Answer>
     requires up { desk.old.down ≡ false }
     requires accepting { IsTrue (may_ride desk.old.round) }
     requires proposer { desk.old.id ≤ 16 }
-    ensures rides { (round : Round) → desk.old.round ≡ Some round → IfOk result (RidesOn (disk_meaning V.Disk) round desk.old desk.new) }
-    ensures refused { (round : Round) → desk.old.round ≡ Some round → IfErr result (FailsToPropose (disk_meaning V.Disk) round.key desk.old desk.new) }
+    ensures rides { (round : Round) → desk.old.round ≡ Some round
+        → IfOk result (RidesOn (disk_meaning V.Disk) round desk.old desk.new) }
+    ensures refused { (round : Round) → desk.old.round ≡ Some round
+        → IfErr result (FailsToPropose (disk_meaning V.Disk) round.key desk.old desk.new) }
 {
     match desk.ride() {
         Ok(ride) => Ok(ride),
@@ -95,8 +101,11 @@ fn proposal(
     requires queue { author.caller < length flow.old.own }
     requires ballot { FitsBallot ready.now.ballot }
     requires ride { IfSome ride FitsBallot }
-    ensures made { IfOk result (λ proposing. proposing ≡ proposing_of author key.now era.now.number program.now ready.now) }
-    ensures sent { OnOk result (Sends flow.old author.caller (accepts_to author.caller age key.now ready.now.ballot era.now.number ride (outcome_of program.now ready.now.state).state era.now.acc) flow.new) }
+    ensures made { IfOk result (λ proposing.
+        proposing ≡ proposing_of author key.now era.now.number program.now ready.now) }
+    ensures sent { OnOk result (Sends flow.old author.caller
+        (accepts_to author.caller age key.now ready.now.ballot era.now.number ride
+        (outcome_of program.now ready.now.state).state era.now.acc) flow.new) }
     ensures not_sent { OnErr result (flow.new ≡ flow.old) }
 {
     let outcome = apply(program, &ready.state)?;

@@ -103,12 +103,20 @@ fn grow_older<V: Disk>(
     requires proposer { proposer ≤ 16 }
     requires tomb { FitsBallot tomb }
     requires open { IsSome desk.old.round → IsSome caller.old.call }
-    ensures ok { IfOk result (λ age. LeavesDesk (Renews (disk_meaning V.Disk) key.now tomb age) (closed_with (λ proposed. aged_answer proposed age)) proposer desk.old desk.new caller.old caller.new flow.old flow.new) }
-    ensures fault { IsErrOf result VaultError.VaultFault → LeavesDesk (FailsToRenew (disk_meaning V.Disk)) (closed_with crash_answer) proposer desk.old desk.new caller.old caller.new flow.old flow.new }
-    ensures spent { IsErrOf result VaultError.Spent → ((kept_of desk.old.vault).age ≡ 2 ^ 48) × (desk.new ≡ desk.old) }
-    ensures no_memory { IsErrOf result VaultError.NoMemory → FindsNoAge (disk_meaning V.Disk) tomb desk.old desk.new }
-    ensures stays { (IsErrOf result VaultError.VaultFault → ⊥) → IfErr result (λ error. (caller.new ≡ caller.old) × (flow.new ≡ flow.old)) }
-    ensures cause { IfErr result (λ error. (error ≡ VaultError.VaultFault) ⊎ ((error ≡ VaultError.Spent) ⊎ (error ≡ VaultError.NoMemory))) }
+    ensures ok { IfOk result (λ age. LeavesDesk (Renews (disk_meaning V.Disk) key.now tomb age)
+        (closed_with (λ proposed. aged_answer proposed age))
+        proposer desk.old desk.new caller.old caller.new flow.old flow.new) }
+    ensures fault { IsErrOf result VaultError.VaultFault
+        → LeavesDesk (FailsToRenew (disk_meaning V.Disk)) (closed_with crash_answer)
+        proposer desk.old desk.new caller.old caller.new flow.old flow.new }
+    ensures spent { IsErrOf result VaultError.Spent
+        → ((kept_of desk.old.vault).age ≡ 2 ^ 48) × (desk.new ≡ desk.old) }
+    ensures no_memory { IsErrOf result VaultError.NoMemory
+        → FindsNoAge (disk_meaning V.Disk) tomb desk.old desk.new }
+    ensures stays { (IsErrOf result VaultError.VaultFault → ⊥)
+        → IfErr result (λ error. (caller.new ≡ caller.old) × (flow.new ≡ flow.old)) }
+    ensures cause { IfErr result (λ error. (error ≡ VaultError.VaultFault)
+        ⊎ ((error ≡ VaultError.Spent) ⊎ (error ≡ VaultError.NoMemory))) }
 {
     let closes = has_round(desk);
     let proposed = caller.has_proposed();
@@ -135,8 +143,10 @@ fn mark_renewal(
 ) -> Result<u64, OpAnswer>
     requires proposer { proposer ≤ 16 }
     requires ages { IfSome council.old.collection (λ c. length c.ages ≤ 16) }
-    requires cause { IfErr renewed (λ error. (error ≡ VaultError.VaultFault) ⊎ ((error ≡ VaultError.Spent) ⊎ (error ≡ VaultError.NoMemory))) }
-    ensures marks { MarksRenewal proposer renewed (council_view council.old) (council_view council.new) flow.old flow.new result }
+    requires cause { IfErr renewed (λ error. (error ≡ VaultError.VaultFault)
+        ⊎ ((error ≡ VaultError.Spent) ⊎ (error ≡ VaultError.NoMemory))) }
+    ensures marks { MarksRenewal proposer renewed
+        (council_view council.old) (council_view council.new) flow.old flow.new result }
     ensures eras { council.new.eras ≡ council.old.eras }
 {
     match renewed {

@@ -39,7 +39,8 @@ pub(crate) fn place_shelves<S: Shelf>(
     requires none { acceptors.old.items ≡ [] }
     requires few { vec_len shelves.old ≤ 64 }
     requires room { 64 ≤ vec_capacity acceptors.old }
-    requires up { (id : ℕ) (shelf : S) → has_member members id ≡ true → IsAt shelves.old.items id shelf → S.is_up shelf }
+    requires up { (id : ℕ) (shelf : S)
+        → has_member members id ≡ true → IsAt shelves.old.items id shelf → S.is_up shelf }
     ensures acceptors { acceptors.new.items ≡ placed members 0 shelves.old.items }
     ensures taken { vec_len shelves.new ≡ 0 }
     ensures capacity { vec_capacity shelves.new ≡ vec_capacity shelves.old }
@@ -76,7 +77,8 @@ pub(crate) fn greatest_counter(floors: &[OpeningFloor]) -> u64
 
 /// A record that begins with a mark for each floor, in their order.
 pub(crate) fn record_of(alloc: Global, mut floors: Vec<OpeningFloor>) -> Result<Record, AllocError>
-    ensures { IfOk result (λ book. book.marks ≡ map (λ floor. mark_of (opening_of floor)) floors.items) }
+    ensures { IfOk result
+        (λ book. book.marks ≡ map (λ floor. mark_of (opening_of floor)) floors.items) }
 {
     let mut record = Record::new(alloc);
     record.reserve(floors.len())?;
@@ -104,9 +106,13 @@ pub(crate) fn take_up_desks<V: Disk>(
     requires disks { proposers < vec_len disks.old }
     requires none { desks.old.items ≡ [] }
     requires room { proposers + 1 ≤ vec_capacity desks.old }
-    ensures ok { OnOk result (AreTakenUpBelow (disk_meaning V.Disk) V.fault_count past (reverse disks.old.items) (proposers + 1) desks.new.items) }
-    ensures left { OnOk result (reverse disks.new.items ≡ drop (proposers + 1) (reverse disks.old.items)) }
-    ensures err { IfErr result (λ fault. AVaultIsNotTakenUp (disk_meaning V.Disk) V.seen V.fault_count past (reverse disks.old.items) proposers fault desks.new.items (reverse disks.new.items)) }
+    ensures ok { OnOk result (AreTakenUpBelow (disk_meaning V.Disk) V.fault_count past
+        (reverse disks.old.items) (proposers + 1) desks.new.items) }
+    ensures left { OnOk result
+        (reverse disks.new.items ≡ drop (proposers + 1) (reverse disks.old.items)) }
+    ensures err { IfErr result
+        (λ fault. AVaultIsNotTakenUp (disk_meaning V.Disk) V.seen V.fault_count past
+        (reverse disks.old.items) proposers fault desks.new.items (reverse disks.new.items)) }
     ensures capacity { vec_capacity disks.new ≡ vec_capacity disks.old }
 {
     for number in 0..=proposers {
@@ -133,7 +139,8 @@ fn take_up_desk<V: Disk>(
 ) -> Result<Desk<V>, (OpenFault, V)>
     requires { past ≤ 2 ^ 48 }
     ensures desk { IfOk result (IsTakenUpOver (disk_meaning V.Disk) V.fault_count past id disk) }
-    ensures fault { IfErr result (λ back. IsFaultOfVault (disk_meaning V.Disk) V.seen (64 + id) (V.fault_count disk) (V.fault_count back.1) back.1 back.0) }
+    ensures fault { IfErr result (λ back. IsFaultOfVault (disk_meaning V.Disk) V.seen
+        (64 + id) (V.fault_count disk) (V.fault_count back.1) back.1 back.0) }
     ensures never_falls { IfErr result (λ back. V.fault_count disk ≤ V.fault_count back.1) }
 {
     let number = ACCEPTORS + id.number();
@@ -159,7 +166,8 @@ fn take_up<V: Disk>(vault: &mut Vault<V>, is_new: bool, past: u64) -> Result<(),
     ensures ok { OnOk result (VaultIsTakenUp (disk_meaning V.Disk) past vault.new) }
     ensures stands { OnOk result (VaultStands V.tells V.seen V.may_leave vault.new) }
     ensures err { IfErr result (VaultIsRefused (disk_meaning V.Disk) V.seen vault.new) }
-    ensures cause { HasVaultCause result (V.fault_count (disk_of vault.old)) (V.fault_count (disk_of vault.new)) }
+    ensures cause { HasVaultCause result
+        (V.fault_count (disk_of vault.old)) (V.fault_count (disk_of vault.new)) }
 {
     if is_new {
         vault.start()?;

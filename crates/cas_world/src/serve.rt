@@ -31,8 +31,10 @@ pub(crate) fn serve_by<S: Shelf>(
     requires numbered { AreNumbered acceptors.old.items (length acceptors.old.items) }
     requires asked { CanBeSent (message.Request request.now) }
     requires blank { frame ≡ None }
-    ensures ok { IfOk result (λ served. Serves (shelf_meaning S.Shelf) acceptors.old.items request.now served acceptors.new.items) }
-    ensures err { OnErr result (KeepsAll (shelf_meaning S.Shelf) acceptors.old.items acceptors.new.items) }
+    ensures ok { IfOk result (λ served.
+        Serves (shelf_meaning S.Shelf) acceptors.old.items request.now served acceptors.new.items) }
+    ensures err { OnErr result
+        (KeepsAll (shelf_meaning S.Shelf) acceptors.old.items acceptors.new.items) }
 {
     let key = key_to_vote(&request.ask)?;
     match acceptors[usize::from(request.to.number())].handle(request) {
@@ -54,8 +56,10 @@ pub(crate) fn serve<S: Shelf>(
 ) -> Result<Served, AllocError>
     requires numbered { AreNumbered acceptors.old.items (length acceptors.old.items) }
     requires asked { CanBeSent (message.Request request.now) }
-    ensures ok { IfOk result (λ served. Serves (shelf_meaning S.Shelf) acceptors.old.items request.now served acceptors.new.items) }
-    ensures err { OnErr result (KeepsAll (shelf_meaning S.Shelf) acceptors.old.items acceptors.new.items) }
+    ensures ok { IfOk result (λ served.
+        Serves (shelf_meaning S.Shelf) acceptors.old.items request.now served acceptors.new.items) }
+    ensures err { OnErr result
+        (KeepsAll (shelf_meaning S.Shelf) acceptors.old.items acceptors.new.items) }
 {
     let frame = Frame::blank(alloc)?;
     serve_by(acceptors, request, frame)

@@ -41,8 +41,10 @@ impl<S: Shelf, V: Disk> World<S, V> {
     pub fn stray(&mut self, index: usize) -> Result<AcceptorId, StrayFault>
         requires { index < length self.old.flow.late }
         ensures ok { OnOk result (Step (meaning S.Shelf V.Disk) self.old (Stray index) self.new) }
-        ensures peer { IfOk result (λ peer. IfSome (slice_get self.old.flow.late index) (λ late. peer ≡ (head_of late).1)) }
-        ensures full { IsErrOf result StrayFault.RecordFull ↔ (length self.old.marks + seen_in_all self.old ≡ most_marks) }
+        ensures peer { IfOk result (λ peer. IfSome (slice_get self.old.flow.late index)
+            (λ late. peer ≡ (head_of late).1)) }
+        ensures full { IsErrOf result StrayFault.RecordFull ↔
+            (length self.old.marks + seen_in_all self.old ≡ most_marks) }
         ensures unchanged { IsErrOf result StrayFault.RecordFull → self.new ≡ self.old }
         ensures err { OnErr result (Step (meaning S.Shelf V.Disk) self.old RefuseStray self.new) }
     {
@@ -81,9 +83,13 @@ fn let_in<S: Shelf, V: Disk>(
     requires numbered { AreNumbered acceptors.old.items (length acceptors.old.items) }
     requires late { index < length flow.old.late }
     requires marks { 0 < marks }
-    ensures ok { IfOk result (λ peer. LetsIn (shelf_meaning S.Shelf) index marks peer acceptors.old.items acceptors.new.items desks.old.items desks.new.items flow.old flow.new «record».old «record».new) }
-    ensures err { OnErr result (KeepsAll (shelf_meaning S.Shelf) acceptors.old.items acceptors.new.items) }
-    ensures same { OnErr result ((desks.new.items ≡ desks.old.items) × (flow.new ≡ flow.old) × («record».new.marks ≡ «record».old.marks) × («record».old.room ≤ «record».new.room)) }
+    ensures ok { IfOk result (λ peer.
+        LetsIn (shelf_meaning S.Shelf) index marks peer acceptors.old.items acceptors.new.items
+        desks.old.items desks.new.items flow.old flow.new «record».old «record».new) }
+    ensures err { OnErr result
+        (KeepsAll (shelf_meaning S.Shelf) acceptors.old.items acceptors.new.items) }
+    ensures same { OnErr result ((desks.new.items ≡ desks.old.items) × (flow.new ≡ flow.old)
+        × («record».new.marks ≡ «record».old.marks) × («record».old.room ≤ «record».new.room)) }
 {
     record.reserve(marks)?;
     match flow.look_late(index).read(alloc)? {
@@ -113,8 +119,10 @@ fn ask<S: Shelf>(
     requires asked { CanBeSent (message.Request request.now) }
     requires late { index < length flow.old.late }
     requires room { 0 < «record».old.room }
-    ensures ok { OnOk result (AsksLate (shelf_meaning S.Shelf) index request.now acceptors.old.items acceptors.new.items flow.old flow.new «record».old «record».new) }
-    ensures err { OnErr result (KeepsAll (shelf_meaning S.Shelf) acceptors.old.items acceptors.new.items) }
+    ensures ok { OnOk result (AsksLate (shelf_meaning S.Shelf) index request.now
+        acceptors.old.items acceptors.new.items flow.old flow.new «record».old «record».new) }
+    ensures err { OnErr result
+        (KeepsAll (shelf_meaning S.Shelf) acceptors.old.items acceptors.new.items) }
     ensures same { OnErr result ((flow.new ≡ flow.old) × («record».new ≡ «record».old)) }
 {
     let served = serve(alloc, acceptors, request)?;

@@ -39,8 +39,10 @@ impl<S: Shelf, V: Disk> World<S, V> {
     pub fn turn(&mut self, proposer: u8, verdict: Verdict) -> Result<(), AllocError>
         requires proposer { proposer ≤ self.old.last_proposer }
         requires waits { (queue_at self.old.flow (place_of self.old proposer)).messages ≢ [] }
-        ensures ok { OnOk result (Step (meaning S.Shelf V.Disk) self.old (turn_of self.old proposer verdict) self.new) }
-        ensures err { OnErr result (Step (meaning S.Shelf V.Disk) self.old (refusal_of self.old proposer) self.new) }
+        ensures ok { OnOk result
+            (Step (meaning S.Shelf V.Disk) self.old (turn_of self.old proposer verdict) self.new) }
+        ensures err { OnErr result
+            (Step (meaning S.Shelf V.Disk) self.old (refusal_of self.old proposer) self.new) }
     {
         if self.asks_as(proposer) {
             self.turn_exchange(verdict)
@@ -53,8 +55,10 @@ impl<S: Shelf, V: Disk> World<S, V> {
     fn turn_round(&mut self, proposer: u8, verdict: Verdict) -> Result<(), AllocError>
         requires proposer { proposer ≤ self.old.last_proposer }
         requires waits { (queue_at self.old.flow proposer).messages ≢ [] }
-        ensures ok { OnOk result (Step (meaning S.Shelf V.Disk) self.old (Turn proposer verdict) self.new) }
-        ensures err { OnErr result (Step (meaning S.Shelf V.Disk) self.old (RefuseTurn proposer) self.new) }
+        ensures ok { OnOk result
+            (Step (meaning S.Shelf V.Disk) self.old (Turn proposer verdict) self.new) }
+        ensures err { OnErr result
+            (Step (meaning S.Shelf V.Disk) self.old (RefuseTurn proposer) self.new) }
     {
         let alloc = *self.acceptors.allocator();
         let place = usize::from(proposer);
@@ -94,7 +98,10 @@ impl<S: Shelf, V: Disk> World<S, V> {
 /// The caller is told that no memory was found, and whether its change was proposed.
 fn tell_no_memory(caller: &mut Caller)
     requires { IsSome caller.old.call }
-    ensures { IfSome caller.old.call (λ call. caller.new ≡ record caller.old { call = Some (record call { told = Some (Answer.NoMemory (is_some call.proposed)) }) }) }
+    ensures { IfSome caller.old.call (λ call. caller.new ≡ record caller.old {
+      call = Some
+          (record call { told = Some (Answer.NoMemory (is_some call.proposed)) });
+    }) }
 {
     let proposed = caller.has_proposed();
     caller.tell(&Answer::NoMemory { proposed });
@@ -106,7 +113,9 @@ fn lose(flow: &mut Flow, caller: &mut Caller, record: &mut Record, proposer: u8,
     requires waits { (queue_at flow.old proposer).messages ≢ [] }
     requires mark { HasReservedMark caller.old «record».old.room }
     ensures flow { flow.new ≡ taken flow.old proposer verdict }
-    ensures harms { (front : AMessage) → slice_get (queue_at flow.old proposer).messages 0 ≡ Some front → Harms proposer caller.old caller.new «record».old «record».new (head_of front).1 false }
+    ensures harms { (front : AMessage)
+        → slice_get (queue_at flow.old proposer).messages 0 ≡ Some front
+        → Harms proposer caller.old caller.new «record».old «record».new (head_of front).1 false }
 {
     let peer = peer_of(flow, proposer);
     flow.take(proposer, verdict);
@@ -117,7 +126,8 @@ fn lose(flow: &mut Flow, caller: &mut Caller, record: &mut Record, proposer: u8,
 pub(crate) fn peer_of(flow: &Flow, queue: u8) -> AcceptorId
     requires place { queue ≤ 17 }
     requires waits { (queue_at flow.now queue).messages ≢ [] }
-    ensures { (front : AMessage) → slice_get (queue_at flow.now queue).messages 0 ≡ Some front → result ≡ (head_of front).1 }
+    ensures { (front : AMessage)
+        → slice_get (queue_at flow.now queue).messages 0 ≡ Some front → result ≡ (head_of front).1 }
 {
     match flow.front(queue) {
         Some((_, peer)) => peer,
@@ -139,11 +149,17 @@ fn handle<S: Shelf, V: Disk>(
     requires proposer { proposer ≤ 16 }
     requires numbered { AreNumbered acceptors.old.items (length acceptors.old.items) }
     requires waits { (queue_at flow.old proposer).messages ≢ [] }
-    requires room { (request : ARequest) → slice_get (queue_at flow.old proposer).messages 0 ≡ Some (message.Request request) → 0 < (queue_at (taken flow.old proposer verdict) proposer).room }
+    requires room { (request : ARequest)
+        → slice_get (queue_at flow.old proposer).messages 0 ≡ Some (message.Request request)
+        → 0 < (queue_at (taken flow.old proposer verdict) proposer).room }
     requires mark { HasReservedMark caller.old «record».old.room }
-    ensures ok { OnOk result (HandlesFrame (shelf_meaning S.Shelf) proposer verdict acceptors.old.items acceptors.new.items desk.old desk.new caller.old caller.new flow.old flow.new «record».old «record».new) }
-    ensures err { OnErr result (KeepsAll (shelf_meaning S.Shelf) acceptors.old.items acceptors.new.items) }
-    ensures same { OnErr result ((desk.new ≡ desk.old) × (caller.new ≡ caller.old) × (flow.new ≡ flow.old) × («record».new ≡ «record».old)) }
+    ensures ok { OnOk result (HandlesFrame (shelf_meaning S.Shelf)
+        proposer verdict acceptors.old.items acceptors.new.items
+        desk.old desk.new caller.old caller.new flow.old flow.new «record».old «record».new) }
+    ensures err { OnErr result
+        (KeepsAll (shelf_meaning S.Shelf) acceptors.old.items acceptors.new.items) }
+    ensures same { OnErr result ((desk.new ≡ desk.old)
+        × (caller.new ≡ caller.old) × (flow.new ≡ flow.old) × («record».new ≡ «record».old)) }
 {
     match first(alloc, flow, proposer, own_key(caller))? {
         Message::Request(request) => ask(
@@ -165,7 +181,8 @@ pub(crate) fn first(
 ) -> Result<Message, AllocError>
     requires place { queue ≤ 17 }
     requires waits { (queue_at flow.now queue).messages ≢ [] }
-    ensures message { IfOk result (λ message. slice_get (queue_at flow.now queue).messages 0 ≡ Some message) }
+    ensures message { IfOk result
+        (λ message. slice_get (queue_at flow.now queue).messages 0 ≡ Some message) }
     ensures fits { IfOk result FitsMessage }
     ensures sent { IfOk result CanBeSent }
 {
@@ -200,9 +217,13 @@ fn ask<S: Shelf>(
     requires waits { (queue_at flow.old proposer).messages ≢ [] }
     requires room { 0 < (queue_at (taken flow.old proposer verdict) proposer).room }
     requires mark { HasReservedMark caller.old «record».old.room }
-    ensures ok { OnOk result (Asks (shelf_meaning S.Shelf) proposer verdict request.now acceptors.old.items acceptors.new.items caller.old caller.new flow.old flow.new «record».old «record».new) }
-    ensures err { OnErr result (KeepsAll (shelf_meaning S.Shelf) acceptors.old.items acceptors.new.items) }
-    ensures same { OnErr result ((caller.new ≡ caller.old) × (flow.new ≡ flow.old) × («record».new ≡ «record».old)) }
+    ensures ok { OnOk result
+        (Asks (shelf_meaning S.Shelf) proposer verdict request.now acceptors.old.items
+        acceptors.new.items caller.old caller.new flow.old flow.new «record».old «record».new) }
+    ensures err { OnErr result
+        (KeepsAll (shelf_meaning S.Shelf) acceptors.old.items acceptors.new.items) }
+    ensures same { OnErr result ((caller.new ≡ caller.old)
+        × (flow.new ≡ flow.old) × («record».new ≡ «record».old)) }
 {
     let frame = flow.blank(alloc)?;
     let served = serve_by(acceptors, request, frame)?;
@@ -234,7 +255,8 @@ fn arrive<V: Disk>(
     requires fits { met_counter (met_by reply.tell) ≤ 2 ^ 48 }
     requires open { IsSome caller.old.call }
     ensures desk { Arrives desk.old desk.new reply }
-    ensures caller { IfSome caller.old.call (λ call. caller.new ≡ record caller.old { call = Some (record call { told = None }) }) }
+    ensures caller { IfSome caller.old.call
+        (λ call. caller.new ≡ record caller.old { call = Some (record call { told = None }) }) }
     ensures flow { flow.new ≡ taken flow.old proposer verdict }
 {
     flow.take(proposer, verdict);

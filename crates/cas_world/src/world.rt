@@ -97,12 +97,17 @@ impl<S: Shelf, V: Disk> World<S, V> {
         requires proposers { config.proposers ≤ 16 }
         requires shelves { vec_len shelves ≡ 64 }
         requires vaults { vec_len vaults ≡ 17 }
-        ensures opening { IfOk result (IsOpening (meaning S.Shelf V.Disk) (members_to config.acceptors)) }
+        ensures opening { IfOk result
+            (IsOpening (meaning S.Shelf V.Disk) (members_to config.acceptors)) }
         ensures places { IfOk result HasPlaces }
         ensures last_proposer { IfOk result (λ world. world.last_proposer ≡ config.proposers) }
-        ensures shelves { IfOk result (λ world. AreStartedBelow (shelf_meaning S.Shelf) S.fault_count (unstarted 0 shelves.items) (config.acceptors + 1) world.acceptors) }
-        ensures vaults { IfOk result (λ world. AreDesksBelow (disk_meaning V.Disk) V.fault_count vaults.items (config.proposers + 1) world.desks) }
-        ensures fault { IfErr result (λ back. DoesNotOpen (meaning S.Shelf V.Disk) S.fault_count V.fault_count config.acceptors config.proposers shelves.items vaults.items back.0 back.1.items back.2.items) }
+        ensures shelves { IfOk result (λ world. AreStartedBelow (shelf_meaning S.Shelf)
+            S.fault_count (unstarted 0 shelves.items) (config.acceptors + 1) world.acceptors) }
+        ensures vaults { IfOk result (λ world. AreDesksBelow (disk_meaning V.Disk)
+            V.fault_count vaults.items (config.proposers + 1) world.desks) }
+        ensures fault { IfErr result (λ back.
+            DoesNotOpen (meaning S.Shelf V.Disk) S.fault_count V.fault_count config.acceptors
+            config.proposers shelves.items vaults.items back.0 back.1.items back.2.items) }
         ensures back { IfErr result (λ back. (vec_len back.1 ≡ 64) × (vec_len back.2 ≡ 17)) }
     {
         let Lists {
@@ -164,13 +169,18 @@ impl<S: Shelf, V: Disk> World<S, V> {
         requires marks { vec_len floors ≤ most_marks }
         requires shelves { vec_len shelves ≡ 64 }
         requires vaults { vec_len vaults ≡ 17 }
-        requires held { MembersHold S.is_up S.contents members (openings_of floors.items) shelves.items }
-        ensures opening { IfOk result (IsOpeningOn (meaning S.Shelf V.Disk) members (union_of used members) (openings_of floors.items)) }
+        requires held { MembersHold S.is_up S.contents members
+            (openings_of floors.items) shelves.items }
+        ensures opening { IfOk result (IsOpeningOn (meaning S.Shelf V.Disk) members
+            (union_of used members) (openings_of floors.items)) }
         ensures places { IfOk result HasPlaces }
         ensures last_proposer { IfOk result (λ world. world.last_proposer ≡ config.proposers) }
         ensures shelves { IfOk result (λ world. world.acceptors ≡ placed members 0 shelves.items) }
-        ensures vaults { IfOk result (λ world. AreTakenUpBelow (disk_meaning V.Disk) V.fault_count (greatest_counter floors.items) vaults.items (config.proposers + 1) world.desks) }
-        ensures fault { IfErr result (λ back. DoesNotGoOn (disk_meaning V.Disk) V.seen V.fault_count (greatest_counter floors.items) config.proposers shelves.items vaults.items back.0 back.1.items back.2.items) }
+        ensures vaults { IfOk result (λ world. AreTakenUpBelow (disk_meaning V.Disk) V.fault_count
+            (greatest_counter floors.items) vaults.items (config.proposers + 1) world.desks) }
+        ensures fault { IfErr result (λ back. DoesNotGoOn (disk_meaning V.Disk) V.seen V.fault_count
+            (greatest_counter floors.items)
+            config.proposers shelves.items vaults.items back.0 back.1.items back.2.items) }
         ensures back { IfErr result (λ back. (vec_len back.1 ≡ 64) × (vec_len back.2 ≡ 17)) }
     {
         let past = greatest_counter(&floors);
@@ -221,7 +231,9 @@ impl<S: Shelf, V: Disk> World<S, V> {
         ensures all_shelves { vec_len result.1 ≡ 64 }
         ensures disks { take (self.last_proposer + 1) result.2.items ≡ disks_of self.desks }
         ensures all { vec_len result.2 ≡ 17 }
-        ensures kept { S.tells → V.tells → (a : AnAcknowledgment) → Stands (Acked a) (reverse self.marks) → IsAboveFloors (reverse self.marks) a.key a.ballot → AcknowledgedIsKept (meaning S.Shelf V.Disk) self a }
+        ensures kept { S.tells → V.tells → (a : AnAcknowledgment) → Stands (Acked a)
+            (reverse self.marks) → IsAboveFloors (reverse self.marks) a.key a.ballot
+            → AcknowledgedIsKept (meaning S.Shelf V.Disk) self a }
     {
         let World {
             setup,
@@ -271,7 +283,8 @@ impl<S: Shelf, V: Disk> World<S, V> {
     /// exchange is open, its frames are those of proposer 0.
     pub fn front(&self, proposer: u8) -> Option<(Leg, AcceptorId)>
         requires { proposer ≤ self.now.last_proposer }
-        ensures { result ≡ option_map head_of (slice_get (queue_at self.now.flow (place_of self.now proposer)).messages 0) }
+        ensures { result ≡ option_map head_of
+            (slice_get (queue_at self.now.flow (place_of self.now proposer)).messages 0) }
     {
         let place = if self.asks_as(proposer) {
             EXCHANGE_PLACE
@@ -291,7 +304,8 @@ impl<S: Shelf, V: Disk> World<S, V> {
     /// How the caller's open call was closed by another. `None` comes where it was not; `Done` never comes.
     pub fn closed(&self, proposer: u8) -> Option<Answer>
         requires { proposer ≤ self.now.last_proposer }
-        ensures { (caller : CallerView) → IsAt self.now.callers proposer caller → result ≡ closed_in caller.call }
+        ensures { (caller : CallerView)
+            → IsAt self.now.callers proposer caller → result ≡ closed_in caller.call }
     {
         match &self.callers[usize::from(proposer)].call {
             Some(call) => closed_by(call),
@@ -302,7 +316,8 @@ impl<S: Shelf, V: Disk> World<S, V> {
     /// How the open phase of the proposer's round ends, should no other reply arrive. `None` comes exactly where no round is open.
     pub fn verdict(&self, proposer: u8) -> Option<RoundVerdict>
         requires { proposer ≤ self.now.last_proposer }
-        ensures { (desk : DeskView V) → IsAt self.now.desks proposer desk → IsVerdictIn desk.round result }
+        ensures { (desk : DeskView V)
+            → IsAt self.now.desks proposer desk → IsVerdictIn desk.round result }
     {
         match self.desks[usize::from(proposer)].round() {
             Some(round) => Some(round.verdict()),
@@ -312,7 +327,8 @@ impl<S: Shelf, V: Disk> World<S, V> {
 
     /// What the acceptor, which is up, keeps for the key.
     pub fn slot_of(&self, id: AcceptorId, key: &Key) -> Result<Option<Slot>, AllocError>
-        ensures { IfOk result (λ slot. (acceptor : AcceptorView S) → IsAt self.now.acceptors id acceptor → slot ≡ kept_at (S.contents acceptor.shelf) key.now) }
+        ensures { IfOk result (λ slot. (acceptor : AcceptorView S) → IsAt self.now.acceptors
+            id acceptor → slot ≡ kept_at (S.contents acceptor.shelf) key.now) }
     {
         self.acceptors[usize::from(id.number())].shelf().get(key)
     }

@@ -95,7 +95,8 @@ impl Caller {
     /// Another round of its call begins, with so many marks reserved in all.
     pub fn try_again(&mut self, reserved: usize)
         requires { IsSome self.old.call }
-        ensures { IfSome self.old.call (λ call. self.new ≡ record self.old { call = Some (again call reserved) }) }
+        ensures { IfSome self.old.call
+            (λ call. self.new ≡ record self.old { call = Some (again call reserved) }) }
     {
         match &mut self.call {
             Some(call) => call.try_again(reserved),
@@ -116,7 +117,8 @@ impl Caller {
     /// It is told nothing in this step.
     pub fn silence(&mut self)
         requires { IsSome self.old.call }
-        ensures { IfSome self.old.call (λ call. self.new ≡ record self.old { call = Some (record call { told = None }) }) }
+        ensures { IfSome self.old.call
+            (λ call. self.new ≡ record self.old { call = Some (record call { told = None }) }) }
     {
         match &mut self.call {
             Some(call) => call.told = None,
@@ -128,7 +130,10 @@ impl Caller {
     pub fn tell(&mut self, answer: &Answer)
         requires open { IsSome self.old.call }
         requires copied { is_done answer.now ≡ false }
-        ensures { IfSome self.old.call (λ call. self.new ≡ record self.old { call = Some (record call { told = Some answer.now }) }) }
+        ensures { IfSome self.old.call (λ call. self.new ≡ record self.old {
+          call = Some
+              (record call { told = Some answer.now });
+        }) }
     {
         match &mut self.call {
             Some(call) => call.told = Some(copy_of(answer)),
@@ -140,7 +145,8 @@ impl Caller {
     pub fn end_round(&mut self, answer: &Answer)
         requires open { IsSome self.old.call }
         requires copied { is_done answer.now ≡ false }
-        ensures { IfSome self.old.call (λ call. self.new ≡ record self.old { call = Some (over call answer.now) }) }
+        ensures { IfSome self.old.call
+            (λ call. self.new ≡ record self.old { call = Some (over call answer.now) }) }
     {
         match &mut self.call {
             Some(call) => call.end_round(copy_of(answer)),
@@ -151,7 +157,8 @@ impl Caller {
     /// Its change is done, and it is told so. Of the marks that were reserved that of the call's end is left.
     pub fn done(&mut self, told: Answer)
         requires { IsSome self.old.call }
-        ensures { IfSome self.old.call (λ call. self.new ≡ record self.old { call = Some (over call told) }) }
+        ensures { IfSome self.old.call
+            (λ call. self.new ≡ record self.old { call = Some (over call told) }) }
     {
         match &mut self.call {
             Some(call) => call.end_round(told),
@@ -162,7 +169,10 @@ impl Caller {
     /// Its round was closed by another, and it is told this.
     pub fn close_round(&mut self, answer: Answer)
         requires { IsSome self.old.call }
-        ensures { IfSome self.old.call (λ call. self.new ≡ record self.old { call = Some (record (over call answer) { is_closed = true }) }) }
+        ensures { IfSome self.old.call (λ call. self.new ≡ record self.old {
+          call = Some
+              (record (over call answer) { is_closed = true });
+        }) }
     {
         match &mut self.call {
             Some(call) => {
@@ -176,7 +186,8 @@ impl Caller {
     /// Its call is over. Answers its key, how many rounds were begun for it, and what it was told last.
     pub fn end_call(&mut self) -> EndedCall
         requires { IsSomeAnd self.old.call (λ call. IsSome call.told) }
-        ensures told { IfSome self.old.call (λ call. IfSome call.told (λ told. result ≡ record { key = call.key; rounds = call.rounds; told = told })) }
+        ensures told { IfSome self.old.call (λ call. IfSome call.told
+            (λ told. result ≡ record { key = call.key; rounds = call.rounds; told = told })) }
         ensures caller { self.new ≡ record self.old { call = None } }
     {
         let (key, rounds, told) = match self.call.take() {
@@ -201,7 +212,10 @@ impl Caller {
         requires open { IsSome self.old.call }
         requires reserved { IfSome self.old.call (λ call. 0 < call.reserved) }
         requires room { 0 < «record».old.room }
-        ensures call { IfSome self.old.call (λ call. self.new ≡ record self.old { call = Some (record call { reserved = call.reserved - 1 }) }) }
+        ensures call { IfSome self.old.call (λ call. self.new ≡ record self.old {
+          call = Some
+              (record call { reserved = call.reserved - 1 });
+        }) }
         ensures marks { «record».new.marks ≡ «record».old.marks ++ mark ∷ [] }
         ensures room { «record».new.room + 1 ≡ «record».old.room }
     {
@@ -216,7 +230,8 @@ impl Caller {
         requires open { IsSome self.old.call }
         requires reserved { IfSome self.old.call (λ call. 0 < call.reserved) }
         requires room { 0 < «record».old.room }
-        ensures call { IfSome self.old.call (λ call. self.new ≡ record self.old { call = Some (with_proposal call proposing) }) }
+        ensures call { IfSome self.old.call
+            (λ call. self.new ≡ record self.old { call = Some (with_proposal call proposing) }) }
         ensures marks { «record».new.marks ≡ «record».old.marks ++ proposing.mark ∷ [] }
         ensures room { «record».new.room + 1 ≡ «record».old.room }
     {
@@ -230,11 +245,16 @@ impl Caller {
     /// harm of an acceptor in a phase is marked, and no other.
     pub fn harm(&mut self, record: &mut Record, caller: u8, acceptor: AcceptorId, down: bool)
         requires open { IsSome self.old.call }
-        requires reserved { IfSome self.old.call (λ call. has_member call.harmed acceptor ≡ false → 0 < call.reserved) }
-        requires room { IfSome self.old.call (λ call. has_member call.harmed acceptor ≡ false → 0 < «record».old.room) }
-        ensures call { IfSome self.old.call (λ call. self.new ≡ record self.old { call = Some (harmed_by call acceptor) }) }
-        ensures marks { IfSome self.old.call (λ call. «record».new.marks ≡ «record».old.marks ++ harms_marked caller self.old.number call acceptor down) }
-        ensures room_left { IfSome self.old.call (λ call. «record».new.room + length (harms_marked caller self.old.number call acceptor down) ≡ «record».old.room) }
+        requires reserved { IfSome self.old.call (λ call. has_member call.harmed acceptor ≡ false
+            → 0 < call.reserved) }
+        requires room { IfSome self.old.call (λ call. has_member call.harmed acceptor ≡ false
+            → 0 < «record».old.room) }
+        ensures call { IfSome self.old.call
+            (λ call. self.new ≡ record self.old { call = Some (harmed_by call acceptor) }) }
+        ensures marks { IfSome self.old.call (λ call. «record».new.marks
+            ≡ «record».old.marks ++ harms_marked caller self.old.number call acceptor down) }
+        ensures room_left { IfSome self.old.call (λ call. «record».new.room + length
+            (harms_marked caller self.old.number call acceptor down) ≡ «record».old.room) }
     {
         let call = self.number;
         let mark = Mark::Harmed { caller, call, down };
@@ -248,7 +268,17 @@ impl Caller {
 impl OpenCall {
     /// A call whose first round begins, with so many marks reserved.
     pub fn new(key: Key, program: Program, reserved: usize) -> OpenCall
-        ensures { result ≡ record { key = key; program = program; rounds = 1; reserved = reserved; proposed = None; copies = None; harmed = []; told = None; is_closed = false } }
+        ensures { result ≡ record {
+          key = key;
+          program = program;
+          rounds = 1;
+          reserved = reserved;
+          proposed = None;
+          copies = None;
+          harmed = [];
+          told = None;
+          is_closed = false;
+        } }
     {
         OpenCall {
             key,
@@ -320,8 +350,10 @@ impl OpenCall {
         requires reserved { has_member self.old.harmed acceptor ≡ false → 0 < self.old.reserved }
         requires room { has_member self.old.harmed acceptor ≡ false → 0 < «record».old.room }
         ensures call { self.new ≡ harmed_by self.old acceptor }
-        ensures marks { «record».new.marks ≡ «record».old.marks ++ (if has_member self.old.harmed acceptor then [] else mark ∷ []) }
-        ensures room_left { «record».new.room + length (if has_member self.old.harmed acceptor then [] else mark ∷ []) ≡ «record».old.room }
+        ensures marks { «record».new.marks ≡ «record».old.marks ++ (if has_member
+            self.old.harmed acceptor then [] else mark ∷ []) }
+        ensures room_left { «record».new.room + length
+            (if has_member self.old.harmed acceptor then [] else mark ∷ []) ≡ «record».old.room }
     {
         self.told = None;
         if self.harmed.has(acceptor) {

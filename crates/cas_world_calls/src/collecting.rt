@@ -41,7 +41,9 @@ impl Council {
     /// open. The mark of its floor is to bear the second key, which is the same.
     pub fn begin_collection(&mut self, key: Key, for_floor: Key, last_proposer: u8)
         requires { for_floor ≡ key }
-        ensures begun { council_view self.new ≡ record (hushed (council_view self.old)) { collection = Some (new_collection key (era_in self.old.eras.0 0) last_proposer) } }
+        ensures begun { council_view self.new ≡ record (hushed (council_view self.old)) {
+          collection = Some (new_collection key (era_in self.old.eras.0 0) last_proposer);
+        } }
         ensures eras { self.new.eras ≡ self.old.eras }
     {
         self.hush();
@@ -51,7 +53,8 @@ impl Council {
 
     /// Its round read a held state of this version, and its call is over.
     pub fn read_held(&mut self, version: u64)
-        ensures read { council_view self.new ≡ with_collection (hushed (council_view self.old)) (λ c. record (found_held version c) { calling = false }) }
+        ensures read { council_view self.new ≡ with_collection (hushed (council_view self.old))
+            (λ c. record (found_held version c) { calling = false }) }
         ensures eras { self.new.eras ≡ self.old.eras }
     {
         self.hush();
@@ -96,7 +99,8 @@ impl Council {
     /// open call is told who did not, or that a held state was read.
     pub fn gather_round(&mut self) -> Result<Gathered, OpAnswer>
         requires { IsSomeAnd self.old.collection (λ c. is_sought c.tombstone ≡ false) }
-        ensures gathers { GathersRoundAs (era_in self.old.eras.0 0).acc (council_view self.old) result (council_view self.new) }
+        ensures gathers { GathersRoundAs (era_in self.old.eras.0 0).acc
+            (council_view self.old) result (council_view self.new) }
         ensures eras { self.new.eras ≡ self.old.eras }
     {
         let acc = self.eras.of(0).acc;
@@ -121,7 +125,8 @@ impl Council {
     }
     /// The step that is due is confirmed, and the open call goes on.
     fn confirm_round(&mut self)
-        ensures confirmed { council_view self.new ≡ with_collection (hushed (council_view self.old)) confirmed_step }
+        ensures confirmed { council_view self.new
+            ≡ with_collection (hushed (council_view self.old)) confirmed_step }
         ensures eras { self.new.eras ≡ self.old.eras }
     {
         self.hush();
@@ -133,7 +138,8 @@ impl Council {
     /// The proposer whose turn it is was renewed to this age, and the next step is due.
     pub fn renew(&mut self, age: u64)
         requires { IfSome self.old.collection (λ c. length c.ages ≤ 16) }
-        ensures renewed { council_view self.new ≡ with_collection (hushed (council_view self.old)) (λ c. record (confirmed_step c) { ages = c.ages ++ age ∷ [] }) }
+        ensures renewed { council_view self.new ≡ with_collection (hushed (council_view self.old))
+            (λ c. record (confirmed_step c) { ages = c.ages ++ age ∷ [] }) }
         ensures eras { self.new.eras ≡ self.old.eras }
     {
         self.hush();
@@ -145,7 +151,8 @@ impl Council {
     /// What the step that is due asks all members.
     pub fn collect_question(&self) -> Result<Question, AllocError>
         requires { IsSomeAnd self.now.collection (λ c. asks_at c.course.step ≡ true) }
-        ensures { IfSome self.now.collection (λ c. IfOk result (λ question. IsQuestionOf c (question_view question))) }
+        ensures { IfSome self.now.collection
+            (λ c. IfOk result (λ question. IsQuestionOf c (question_view question))) }
     {
         let Some(collection) = &self.collection else {
             unreachable!()
@@ -166,7 +173,8 @@ impl Council {
     pub fn gather_collection(&mut self) -> Result<Gathered, OpAnswer>
         requires open { IsSome self.old.exchange }
         requires under_way { IsSome self.old.collection }
-        ensures gathers { IfSome self.old.exchange (λ exchange. GathersCollectAs (exchange_view exchange) (council_view self.old) result (council_view self.new)) }
+        ensures gathers { IfSome self.old.exchange (λ exchange. GathersCollectAs
+            (exchange_view exchange) (council_view self.old) result (council_view self.new)) }
         ensures eras { self.new.eras ≡ self.old.eras }
     {
         let Some(exchange) = self.exchange.take() else {
@@ -192,7 +200,8 @@ impl Council {
     pub fn mark_floor(&mut self) -> Key
         requires { IsSomeAnd self.old.collection (λ c. c.course.step ≡ FloorStep) }
         ensures key { IfSome self.old.collection (λ c. result ≡ c.course.key) }
-        ensures marked { council_view self.new ≡ with_collection (hushed (council_view self.old)) (λ c. record (confirmed_step c) { reserved = 0 }) }
+        ensures marked { council_view self.new ≡ with_collection (hushed (council_view self.old))
+            (λ c. record (confirmed_step c) { reserved = 0 }) }
         ensures eras { self.new.eras ≡ self.old.eras }
     {
         self.hush();
@@ -217,7 +226,8 @@ impl Council {
 impl OpenExchange {
     /// The acceptors whose first reply says so.
     fn saying(&self, saying: Saying) -> Members
-        ensures { result ≡ those_telling (says (question_view self.now.question) saying) self.now.told.items }
+        ensures { result
+            ≡ those_telling (says (question_view self.now.question) saying) self.now.told.items }
     {
         let mut those = Members::new();
         for number in 0..IDENTITIES {
@@ -256,7 +266,8 @@ fn confirms(question: &Question, tell: &Tell) -> bool
 /// The least of these acceptors that is none of those.
 fn least_without(all: &Members, some: &Members) -> Option<AcceptorId>
     ensures least { IfSome result (IsLeastWithout all.now some.now) }
-    ensures none { IfNone result ((acceptor : ℕ) → has_member all.now acceptor ≡ true → has_member some.now acceptor ≡ true) }
+    ensures none { IfNone result ((acceptor : ℕ)
+        → has_member all.now acceptor ≡ true → has_member some.now acceptor ≡ true) }
 {
     if all.count() == 0 {
         return None;

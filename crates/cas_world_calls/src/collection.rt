@@ -149,7 +149,10 @@ impl OpenCollection {
 
     /// The empty state was acknowledged in its round at this ballot, by these acceptors. From now on a mark is reserved for its floor.
     pub fn acknowledge(&mut self, ballot: Ballot, by: Members)
-        ensures { self.new ≡ record self.old { tombstone = AcknowledgedView ballot by; reserved = 1 } }
+        ensures { self.new ≡ record self.old {
+          tombstone = AcknowledgedView ballot by;
+          reserved = 1;
+        } }
     {
         self.tombstone = Tombstone::Acknowledged { ballot, by };
         self.reserved = 1;

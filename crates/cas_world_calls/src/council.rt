@@ -171,7 +171,8 @@ impl Question {
 impl OpenExchange {
     /// A reply arrives. Of each member the first one counts.
     fn hear(&mut self, reply: Reply)
-        ensures { exchange_view self.new ≡ record (exchange_view self.old) { told = hears reply (exchange_view self.old).told } }
+        ensures { exchange_view self.new
+            ≡ record (exchange_view self.old) { told = hears reply (exchange_view self.old).told } }
     {
         if let Some(place) = awaiting(&self.told, reply.from) {
             self.told[place] = Probe {
@@ -186,9 +187,12 @@ impl OpenExchange {
     fn harm(&mut self, record: &mut Record, member: AcceptorId, down: bool)
         requires reserved { has_member self.old.harmed member ≡ false → 0 < self.old.reserved }
         requires room { has_member self.old.harmed member ≡ false → 0 < «record».old.room }
-        ensures exchange { exchange_view self.new ≡ harmed_exchange (exchange_view self.old) member }
-        ensures marks { «record».new.marks ≡ «record».old.marks ++ harm_marks (exchange_view self.old) member down }
-        ensures room_left { «record».new.room + length (harm_marks (exchange_view self.old) member down) ≡ «record».old.room }
+        ensures exchange { exchange_view self.new
+            ≡ harmed_exchange (exchange_view self.old) member }
+        ensures marks { «record».new.marks
+            ≡ «record».old.marks ++ harm_marks (exchange_view self.old) member down }
+        ensures room_left { «record».new.room + length
+            (harm_marks (exchange_view self.old) member down) ≡ «record».old.room }
     {
         if !self.harmed.has(member) {
             self.harmed.insert(member);
@@ -261,7 +265,8 @@ impl Council {
     /// and else where it worked.
     pub fn show(&mut self, proposer: u8, number: u32)
         requires { proposer ≤ 16 }
-        ensures eras { self.new.eras.0 ≡ slice_set self.old.eras.0 proposer (era_shown (council_view self.old).plan (era_in self.old.eras.0 proposer) number) }
+        ensures eras { self.new.eras.0 ≡ slice_set self.old.eras.0 proposer
+            (era_shown (council_view self.old).plan (era_in self.old.eras.0 proposer) number) }
         ensures council { council_view self.new ≡ council_view self.old }
     {
         match self.next_era() {
@@ -327,7 +332,11 @@ impl Council {
 
     /// The change of membership is under way, for which these were members since the opening.
     pub fn begin_plan(&mut self, plan: OpenPlan, used: Members)
-        ensures opened { council_view self.new ≡ record (hushed (council_view self.old)) { plan = Some (plan_view plan); used = used } }
+        ensures opened { council_view self.new
+            ≡ record (hushed (council_view self.old)) {
+              plan = Some (plan_view plan);
+              used = used;
+            } }
         ensures eras { self.new.eras ≡ self.old.eras }
     {
         self.hush();
@@ -338,9 +347,15 @@ impl Council {
     /// The proposer whose turn it is works in the next era of the change of membership, and is marked so. With the last one, whose
     /// number is the greatest, all do.
     pub fn enter(&mut self, last_proposer: u8, next: Era)
-        requires plan { IsSomeAnd (council_view self.old).plan (λ plan. (entering plan.progress.left ≡ Some next) × (plan.entered ≤ 16)) }
-        ensures entered { IfSome (council_view self.old).plan (λ plan. council_view self.new ≡ record (hushed (council_view self.old)) { plan = Some (plan_after last_proposer plan next) }) }
-        ensures eras { IfSome (council_view self.old).plan (λ plan. self.new.eras.0 ≡ slice_set self.old.eras.0 plan.entered next) }
+        requires plan { IsSomeAnd (council_view self.old).plan
+            (λ plan. (entering plan.progress.left ≡ Some next) × (plan.entered ≤ 16)) }
+        ensures entered { IfSome (council_view self.old).plan
+            (λ plan. council_view self.new ≡ record (hushed (council_view self.old)) {
+              plan = Some
+                  (plan_after last_proposer plan next);
+            }) }
+        ensures eras { IfSome (council_view self.old).plan
+            (λ plan. self.new.eras.0 ≡ slice_set self.old.eras.0 plan.entered next) }
     {
         self.hush();
         if let Some(plan) = &mut self.plan {
@@ -382,7 +397,11 @@ impl Council {
 
     /// An exchange is open from now on, and a listing that begins with it.
     pub fn begin_exchange(&mut self, opened: Opened)
-        ensures opened { council_view self.new ≡ record (council_view self.old) { exchange = Some (exchange_view opened.exchange); plan = option_map (with_begun opened.begun) (council_view self.old).plan } }
+        ensures opened { council_view self.new
+            ≡ record (council_view self.old) {
+              exchange = Some (exchange_view opened.exchange);
+              plan = option_map (with_begun opened.begun) (council_view self.old).plan;
+            } }
         ensures eras { self.new.eras ≡ self.old.eras }
     {
         self.exchange = Some(opened.exchange);
@@ -395,7 +414,8 @@ impl Council {
     /// is the one that is to be proposed anew, that is counted if it is done, and the next one is due; if not, the open call is told that
     /// it stopped, and why.
     pub fn end(&mut self, caller: u8, key: &Key, answer: &Answer)
-        ensures rescans { Rescans (council_view self.old) caller key.now answer.now (council_view self.new) }
+        ensures rescans { Rescans (council_view self.old) caller key.now answer.now
+            (council_view self.new) }
         ensures eras { self.new.eras ≡ self.old.eras }
     {
         if caller != 0 || !self.is_due(key) {
@@ -412,7 +432,8 @@ impl Council {
 
     /// Whether an exchange is open that asks for a collection.
     pub fn asks_for_collection(&self) -> bool
-        ensures { result ≡ option_map_or (λ exchange. is_of_collection exchange.question) (council_view self.now).exchange false }
+        ensures { result ≡ option_map_or (λ exchange. is_of_collection exchange.question)
+            (council_view self.now).exchange false }
     {
         match &self.exchange {
             Some(exchange) => matches!(
@@ -435,11 +456,15 @@ impl Council {
 
     /// A frame of the member was harmed in the exchange that is open.
     pub fn harm(&mut self, record: &mut Record, member: AcceptorId, down: bool)
-        requires reserved { IfSome self.old.exchange (λ exchange. has_member exchange.harmed member ≡ false → 0 < exchange.reserved) }
-        requires room { IfSome self.old.exchange (λ exchange. has_member exchange.harmed member ≡ false → 0 < «record».old.room) }
+        requires reserved { IfSome self.old.exchange
+            (λ exchange. has_member exchange.harmed member ≡ false → 0 < exchange.reserved) }
+        requires room { IfSome self.old.exchange
+            (λ exchange. has_member exchange.harmed member ≡ false → 0 < «record».old.room) }
         ensures harmed { council_view self.new ≡ harmed_in (council_view self.old) member }
-        ensures marks { «record».new.marks ≡ «record».old.marks ++ harms_in (council_view self.old) member down }
-        ensures room_left { «record».new.room + length (harms_in (council_view self.old) member down) ≡ «record».old.room }
+        ensures marks { «record».new.marks
+            ≡ «record».old.marks ++ harms_in (council_view self.old) member down }
+        ensures room_left { «record».new.room + length
+            (harms_in (council_view self.old) member down) ≡ «record».old.room }
         ensures eras { self.new.eras ≡ self.old.eras }
     {
         if let Some(exchange) = &mut self.exchange {
@@ -461,8 +486,10 @@ impl Council {
     /// exchange stays open, and the call is told so.
     pub fn gather(&mut self) -> Result<Gathered, OpAnswer>
         requires open { IsSome self.old.exchange }
-        requires lists { IfSome self.old.exchange (λ exchange. MayList (exchange_view exchange).question (council_view self.old).plan) }
-        ensures gathers { IfSome self.old.exchange (λ exchange. GathersAs (era_in self.old.eras.0 0) (exchange_view exchange) (council_view self.old) result (council_view self.new)) }
+        requires lists { IfSome self.old.exchange
+            (λ exchange. MayList (exchange_view exchange).question (council_view self.old).plan) }
+        ensures gathers { IfSome self.old.exchange (λ exchange. GathersAs (era_in self.old.eras.0 0)
+            (exchange_view exchange) (council_view self.old) result (council_view self.new)) }
         ensures eras { self.new.eras ≡ self.old.eras }
     {
         let Some(exchange) = self.exchange.take() else {
@@ -492,7 +519,8 @@ impl Council {
         requires asked { IsOfKeys (exchange_view exchange).question }
         requires lists { EraIsListed (council_view self.old).plan }
         requires taken { self.old.exchange ≡ None }
-        ensures gathers { GathersAs (era_in self.old.eras.0 0) (exchange_view exchange) (council_view self.old) result (council_view self.new) }
+        ensures gathers { GathersAs (era_in self.old.eras.0 0)
+            (exchange_view exchange) (council_view self.old) result (council_view self.new) }
         ensures eras { self.new.eras ≡ self.old.eras }
     {
         let era = *self.eras.of(0);
@@ -515,7 +543,11 @@ impl Council {
     /// No memory was found for what came of the exchange: it stays open, and the open call is told so.
     fn keep(&mut self, exchange: OpenExchange) -> OpAnswer
         ensures answer { result ≡ OpAnswer.Stopped (Answer.NoMemory false) }
-        ensures kept { council_view self.new ≡ record (telling (council_view self.old) (OpAnswer.Stopped (Answer.NoMemory false))) { exchange = Some (exchange_view exchange) } }
+        ensures kept { council_view self.new ≡ record (telling (council_view self.old)
+            (OpAnswer.Stopped (Answer.NoMemory false))) {
+              exchange = Some
+                  (exchange_view exchange);
+            } }
         ensures eras { self.new.eras ≡ self.old.eras }
     {
         self.exchange = Some(exchange);

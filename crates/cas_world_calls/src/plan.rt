@@ -60,7 +60,8 @@ impl OpenPlan {
     pub fn enter(&mut self, last_proposer: u8)
         requires next { IsSome (entering self.old.plan.left) }
         requires few { self.old.entered + 1 < 2 ^ 8 }
-        ensures { IfSome (entering self.old.plan.left) (λ next. plan_view self.new ≡ plan_after last_proposer (plan_view self.old) next) }
+        ensures { IfSome (entering self.old.plan.left)
+            (λ next. plan_view self.new ≡ plan_after last_proposer (plan_view self.old) next) }
     {
         if self.entered == last_proposer {
             self.plan.entered();
@@ -94,7 +95,8 @@ impl OpenPlan {
     /// The key that was due was proposed anew.
     pub fn rescan(&mut self)
         requires { IsSome (due_key (plan_view self.old)) }
-        ensures { IfSome self.old.listing (λ listing. plan_view self.new ≡ rescanned_by (plan_view self.old) listing) }
+        ensures { IfSome self.old.listing
+            (λ listing. plan_view self.new ≡ rescanned_by (plan_view self.old) listing) }
     {
         self.rescanned = self.rescanned.saturating_add(1);
         if let Some(listing) = &mut self.listing {
@@ -111,7 +113,8 @@ impl OpenPlan {
     ) -> Result<Result<Gathered, Answer>, AllocError>
         requires settles { next_of self.old.plan.left ≡ PlanStep.Settle }
         requires listing { IsSome self.old.listing }
-        ensures gone_on { IfOk result (λ gathered. IfSome self.old.listing (λ listing. GoesOnBy era.now told.now listing (plan_view self.old) gathered (plan_view self.new))) }
+        ensures gone_on { IfOk result (λ gathered. IfSome self.old.listing (λ listing.
+            GoesOnBy era.now told.now listing (plan_view self.old) gathered (plan_view self.new))) }
         ensures unchanged { OnErr result (plan_view self.new ≡ plan_view self.old) }
     {
         let Some(listing) = &self.listing else {
@@ -135,7 +138,8 @@ impl OpenPlan {
     fn settle_listed(&mut self)
         requires settles { next_of self.old.plan.left ≡ PlanStep.Settle }
         requires listing { IsSome self.old.listing }
-        ensures { IfSome self.old.listing (λ listing. plan_view self.new ≡ with_listing (plan_view self.old) listing) }
+        ensures { IfSome self.old.listing
+            (λ listing. plan_view self.new ≡ with_listing (plan_view self.old) listing) }
     {
         let is_settled = match &self.listing {
             Some(listing) => listing.is_settled(),

@@ -33,7 +33,8 @@ pub fn send_to(
     requires place { queue ≤ 17 }
     requires queue { queue < length flow.old.own }
     requires ballots { AskBallotsFit ask }
-    ensures sent { OnOk result (Sends flow.old queue (requests_to proposer age ask members.now) flow.new) }
+    ensures sent { OnOk result
+        (Sends flow.old queue (requests_to proposer age ask members.now) flow.new) }
     ensures not_sent { OnErr result (flow.new ≡ flow.old) }
 {
     let frames = frames_to(alloc, flow, members, proposer, age, ask)?;
@@ -54,7 +55,8 @@ fn frames_to(
     requires proposer { proposer ≤ 16 }
     requires ballots { AskBallotsFit ask }
     ensures same { flow.new ≡ flow.old }
-    ensures each { IfOk result (λ frames. frames.items ≡ map Some (requests_to proposer age ask members.now)) }
+    ensures each { IfOk result
+        (λ frames. frames.items ≡ map Some (requests_to proposer age ask members.now)) }
     ensures few { IfOk result (λ frames. length frames.items ≤ 64) }
 {
     let mut frames = Vec::with_capacity(alloc, members.count() as usize)?;
@@ -88,7 +90,8 @@ pub fn send_questions(
 ) -> Result<(), AllocError>
     requires queue { exchange_place < length flow.old.own }
     requires tag { FitsBallot tag }
-    ensures sent { OnOk result (Sends flow.old exchange_place (questions_to age tag (question_view question.now) members.now) flow.new) }
+    ensures sent { OnOk result (Sends flow.old exchange_place
+        (questions_to age tag (question_view question.now) members.now) flow.new) }
     ensures not_sent { OnErr result (flow.new ≡ flow.old) }
 {
     let frames = questions_to(alloc, members, age, tag, question)?;
@@ -106,7 +109,8 @@ fn questions_to(
     question: &Question,
 ) -> Result<Vec<Frame>, AllocError>
     requires tag { FitsBallot tag }
-    ensures each { IfOk result (λ frames. frames.items ≡ map Some (questions_to age tag (question_view question.now) members.now)) }
+    ensures each { IfOk result (λ frames. frames.items ≡ map Some
+        (questions_to age tag (question_view question.now) members.now)) }
     ensures few { IfOk result (λ frames. length frames.items ≤ 64) }
 {
     let mut frames = Vec::with_capacity(alloc, members.count() as usize)?;
@@ -128,7 +132,8 @@ fn question_to(
     question: &Question,
 ) -> Result<Frame, AllocError>
     requires tag { FitsBallot tag }
-    ensures { IfOk result (λ frame. frame ≡ Some (message.Request (question_to age tag (question_view question.now) to))) }
+    ensures { IfOk result (λ frame.
+        frame ≡ Some (message.Request (question_to age tag (question_view question.now) to))) }
 {
     let request = Request {
         to,

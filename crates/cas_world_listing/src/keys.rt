@@ -26,7 +26,8 @@ pub(crate) fn copy_keys(alloc: Global, keys: &[Key]) -> Result<Vec<Key>, AllocEr
 /// Adds each of these keys where it is not there yet. After an `Err` some of them are added.
 pub(crate) fn add_keys(keys: &mut Vec<Key>, more: &[Key]) -> Result<(), AllocError>
     requires { rises None keys.old.items ≡ true }
-    ensures { OnOk result (Adds (λ key. list_any (is_key key) more.now) keys.old.items keys.new.items) }
+    ensures { OnOk result
+        (Adds (λ key. list_any (is_key key) more.now) keys.old.items keys.new.items) }
 {
     for key in more {
         add_key(keys, key)?;

@@ -122,7 +122,8 @@ impl Listing {
     /// they are not: [`Answer::Aged`] with the greatest age that was told, and where none was [`Answer::Short`] with how many of the
     /// first quorum that is missing count, and how many are needed.
     pub fn short(&self, era: &Era, told: &[Probe]) -> Option<Answer>
-        ensures { result ≡ option_map (why_short told.now) (missing era.now (counted told.now self.now.places)) }
+        ensures { result
+            ≡ option_map (why_short told.now) (missing era.now (counted told.now self.now.places)) }
     {
         let short = missing(era, &self.places.counted(told))?;
         match greatest_age(told) {

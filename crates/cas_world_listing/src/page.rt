@@ -37,7 +37,8 @@ pub fn told_by(told: &[Probe], member: AcceptorId) -> Option<&Tell>
 /// The page that was told, where it goes on behind this key and its keys can follow.
 pub(crate) fn page_from<'a>(after: &Option<Key>, told: Option<&'a Tell>) -> Option<NextKeys<'a>>
     ensures page { option_map page_view result ≡ page_from after.now (option_copied told.entry) }
-    ensures keys { IfSome (page_from after.now (option_copied told.entry)) (λ page. AreKeys after.now page.keys) }
+    ensures keys { IfSome (page_from after.now (option_copied told.entry))
+        (λ page. AreKeys after.now page.keys) }
 {
     match told {
         Some(

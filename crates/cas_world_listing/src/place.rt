@@ -102,7 +102,8 @@ impl MemberPlace {
 
     /// Its next keys, where they were told and go on from its place.
     pub fn page<'a>(&self, told: &'a [Probe]) -> Option<NextKeys<'a>>
-        ensures page { option_map page_view result ≡ page_of told.now self.now.member self.now.place }
+        ensures page { option_map page_view result
+            ≡ page_of told.now self.now.member self.now.place }
         ensures keys { IsPageOfKeys told.now self.now }
     {
         match &self.place {
@@ -125,7 +126,8 @@ impl MemberPlace {
 
 /// The place to which a page leads: its last key or, where no more follow, the end. With no page it stays.
 fn place_after(page: Option<NextKeys<'_>>, place: &Place) -> Result<Place, AllocError>
-    ensures { IfOk result (λ next. place_view next ≡ place_after (option_map page_view page.entry) (place_view place.now)) }
+    ensures { IfOk result (λ next. place_view next
+        ≡ place_after (option_map page_view page.entry) (place_view place.now)) }
 {
     match page {
         Some(page) if page.more => Ok(Place::GoesOn(copy_last(page.keys)?)),

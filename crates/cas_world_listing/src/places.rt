@@ -77,7 +77,8 @@ impl Places {
 
     /// Those of these members whose listing has not come to its end.
     pub fn asked(&self, everyone: &Members) -> Members
-        ensures { result ≡ members_where (λ member. has_member everyone.now member && not (has_ended (place_in self.now member))) }
+        ensures { result ≡ members_where (λ member. has_member everyone.now member && not
+            (has_ended (place_in self.now member))) }
     {
         let mut asked = Members::new();
         for number in 0..IDENTITIES {
@@ -144,7 +145,8 @@ impl Places {
 
     /// Whether the member is one of these, and its listing has not come to its end.
     fn is_asked(&self, everyone: &Members, member: AcceptorId) -> bool
-        ensures { result ≡ (has_member everyone.now member && not (has_ended (place_in self.now member))) }
+        ensures { result
+            ≡ (has_member everyone.now member && not (has_ended (place_in self.now member))) }
     {
         everyone.has(member) && !self.has_ended(member)
     }
@@ -173,7 +175,8 @@ impl Places {
 /// The first of these places that is the member's.
 fn place_of(places: &[MemberPlace], member: AcceptorId) -> Option<&MemberPlace>
     ensures found { is_some result ≡ stands_in places.now member }
-    ensures place { option_map_or (λ one. one.place) (option_copied result) (GoesOn None) ≡ place_in places.now member }
+    ensures place { option_map_or (λ one. one.place) (option_copied result) (GoesOn None)
+        ≡ place_in places.now member }
     ensures member { IfSome result (λ one. one.now.member ≡ member) }
 {
     for place in places {

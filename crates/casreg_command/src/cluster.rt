@@ -66,14 +66,22 @@ pub fn cluster<R: Threads + Wait + Sync, S: Source, K: Sink, D: Disk + Send + Dr
     // holds the disks of its last world. Of a race, what was written is the text of a legal record in which each caller's own marks are those of
     // what its lines ask for, in their order, with the answers that are written, and tell of no more losses than its fate counted harms.
     ensures wrote { Wrote (meaning ⟦<DiskShelf<D> as Shelf>⟧ D.Disk) (rack_meaning D.Disk)
-        (map string_bytes words.now) (FailsBehind S.take_gives source.old source.new) (S.remaining source.old) (K.contents sink.old) (K.contents sink.new) (map F.harm_count fates.old.items) (map F.harm_count fates.new.items) rack result.0 result.1 }
-    ensures causes { Causes (map string_bytes words.now) (S.remaining source.old)
-        (S.faults_of source.old) (S.faults_of source.new) (K.faults_of sink.old) (K.faults_of sink.new) result.0 }
+        (map string_bytes words.now) (FailsBehind S.take_gives source.old source.new)
+        (S.remaining source.old) (K.contents sink.old) (K.contents sink.new) (map F.harm_count
+        fates.old.items) (map F.harm_count fates.new.items) rack result.0 result.1 }
+    ensures causes { Causes (map string_bytes words.now)
+        (S.remaining source.old) (S.faults_of source.old)
+        (S.faults_of source.new) (K.faults_of sink.old) (K.faults_of sink.new) result.0 }
     ensures disks { AreDisksToBlame (rack_meaning D.Disk) rack result.1 result.0 }
-    ensures read { (asked : ARequest) → ReadsLines asked → AreWords (map string_bytes words.now) asked → result.0 ≡ Status.Ok → IsAtEnd (S.remaining source.new) }
-    ensures unread { (load : ALoad) → AreWords (map string_bytes words.now) (Request.Load load) → source.new ≡ source.old }
-    ensures unraced { ((options : ScriptOptions) → AreWords (map string_bytes words.now) (Request.Race options) → ⊥) → fates.new ≡ fates.old }
-    ensures untouched { result.0 ≡ Status.Usage → (source.new ≡ source.old) × (sink.new ≡ sink.old) × (result.1 ≡ rack) }
+    ensures read { (asked : ARequest)
+        → ReadsLines asked → AreWords (map string_bytes words.now) asked
+        → result.0 ≡ Status.Ok → IsAtEnd (S.remaining source.new) }
+    ensures unread { (load : ALoad)
+        → AreWords (map string_bytes words.now) (Request.Load load) → source.new ≡ source.old }
+    ensures unraced { ((options : ScriptOptions) → AreWords (map string_bytes words.now)
+        (Request.Race options) → ⊥) → fates.new ≡ fates.old }
+    ensures untouched { result.0 ≡ Status.Usage
+        → (source.new ≡ source.old) × (sink.new ≡ sink.old) × (result.1 ≡ rack) }
     ensures all_acceptors { vec_len result.1.acceptors ≡ 64 }
     ensures all_vaults { vec_len result.1.vaults ≡ 17 }
     ensures all_fates { vec_len fates.new ≡ 17 }
@@ -99,15 +107,23 @@ fn run<R: Threads + Wait + Sync, S: Source, K: Sink, D: Disk + Send + Drop, F: F
     requires vaults { vec_len rack.vaults ≡ 17 }
     requires fates { vec_len fates.old ≡ 17 }
     requires range { IsInRange request }
-    ensures wrote { (words : List (List ℕ)) → AreWords words request → Wrote (meaning ⟦<DiskShelf<D> as Shelf>⟧ D.Disk) (rack_meaning D.Disk)
-        words (FailsBehind S.take_gives source.old source.new) (S.remaining source.old) (K.contents sink.old) (K.contents sink.new) (map F.harm_count fates.old.items) (map F.harm_count fates.new.items) rack result.0 result.1 }
+    ensures wrote { (words : List (List ℕ)) → AreWords words request
+        → Wrote (meaning ⟦<DiskShelf<D> as Shelf>⟧ D.Disk) (rack_meaning D.Disk) words
+        (FailsBehind S.take_gives source.old source.new) (S.remaining source.old)
+        (K.contents sink.old) (K.contents sink.new) (map F.harm_count fates.old.items)
+        (map F.harm_count fates.new.items) rack result.0 result.1 }
     ensures usage { result.0 ≢ Status.Usage }
-    ensures read_fault { result.0 ≡ Status.ReadFault → Rose (S.faults_of source.old) (S.faults_of source.new) }
-    ensures write_fault { result.0 ≡ Status.WriteFault → Rose (K.faults_of sink.old) (K.faults_of sink.new) }
-    ensures ends { ReadsLines request → (ending : Ending) → result.0 ≡ status_of ending → IfSome (S.remaining source.old) (λ input. ending_of input ≡ ending) }
+    ensures read_fault { result.0 ≡ Status.ReadFault
+        → Rose (S.faults_of source.old) (S.faults_of source.new) }
+    ensures write_fault { result.0 ≡ Status.WriteFault
+        → Rose (K.faults_of sink.old) (K.faults_of sink.new) }
+    ensures ends { ReadsLines request → (ending : Ending) → result.0 ≡ status_of ending
+        → IfSome (S.remaining source.old) (λ input. ending_of input ≡ ending) }
     ensures read { ReadsLines request → result.0 ≡ Status.Ok → IsAtEnd (S.remaining source.new) }
-    ensures unraced { ((options : ScriptOptions) → request ≡ Request.Race options → ⊥) → fates.new ≡ fates.old }
-    ensures loads { (load : ALoad) → request ≡ Request.Load load → (source.new ≡ source.old) × LoadEnds result.0 }
+    ensures unraced { ((options : ScriptOptions) → request ≡ Request.Race options → ⊥)
+        → fates.new ≡ fates.old }
+    ensures loads { (load : ALoad)
+        → request ≡ Request.Load load → (source.new ≡ source.old) × LoadEnds result.0 }
     ensures all_acceptors { vec_len result.1.acceptors ≡ 64 }
     ensures all_vaults { vec_len result.1.vaults ≡ 17 }
     ensures all_fates { vec_len fates.new ≡ 17 }
@@ -180,11 +196,15 @@ fn run_script<S: Source, K: Sink, D: Disk + Drop>(
     requires idle { AllIdle store.world }
     requires quiet { IsAtRest store.world.council }
     ensures ran { Ran (meaning ⟦<DiskShelf<D> as Shelf>⟧ D.Disk) D.tells options.tries
-        (FailsBehind S.take_gives source.old source.new) (S.remaining source.old) (K.contents sink.old) (K.contents sink.new) store.world result.0 result.1 }
+        (FailsBehind S.take_gives source.old source.new) (S.remaining source.old)
+        (K.contents sink.old) (K.contents sink.new) store.world result.0 result.1 }
     ensures usage { result.0 ≢ Status.Usage }
-    ensures read_fault { result.0 ≡ Status.ReadFault → Rose (S.faults_of source.old) (S.faults_of source.new) }
-    ensures write_fault { result.0 ≡ Status.WriteFault → Rose (K.faults_of sink.old) (K.faults_of sink.new) }
-    ensures ends { (ending : Ending) → result.0 ≡ status_of ending → IfSome (S.remaining source.old) (λ input. ending_of input ≡ ending) }
+    ensures read_fault { result.0 ≡ Status.ReadFault
+        → Rose (S.faults_of source.old) (S.faults_of source.new) }
+    ensures write_fault { result.0 ≡ Status.WriteFault
+        → Rose (K.faults_of sink.old) (K.faults_of sink.new) }
+    ensures ends { (ending : Ending) → result.0 ≡ status_of ending
+        → IfSome (S.remaining source.old) (λ input. ending_of input ≡ ending) }
     ensures read { result.0 ≡ Status.Ok → IsAtEnd (S.remaining source.new) }
     ensures all_acceptors { vec_len result.1.acceptors ≡ 64 }
     ensures all_vaults { vec_len result.1.vaults ≡ 17 }
@@ -211,14 +231,24 @@ fn answer_lines<S: Source, K: Sink, H: Shelf, D: Disk>(
     sink: &mut K,
 ) -> Result<(), Status>
     requires state { (first : State _ _) × IsInState script.old first }
-    ensures all { (first : State _ _) → IsInState script.old first → OnOk result (EndsIn (meaning H.Shelf D.Disk) script.old.tries (FailsBehind S.take_gives source.old source.new) (S.remaining source.old) (K.contents sink.old) (K.contents sink.new) first script.new Status.Ok) }
-    ensures wrote { (first : State _ _) → IsInState script.old first → IfErr result (λ status. EndsIn (meaning H.Shelf D.Disk) script.old.tries (FailsBehind S.take_gives source.old source.new) (S.remaining source.old) (K.contents sink.old) (K.contents sink.new) first script.new status) }
+    ensures all { (first : State _ _)
+        → IsInState script.old first → OnOk result (EndsIn (meaning H.Shelf D.Disk) script.old.tries
+        (FailsBehind S.take_gives source.old source.new) (S.remaining source.old)
+        (K.contents sink.old) (K.contents sink.new) first script.new Status.Ok) }
+    ensures wrote { (first : State _ _) → IsInState script.old first
+        → IfErr result (λ status. EndsIn (meaning H.Shelf D.Disk) script.old.tries
+        (FailsBehind S.take_gives source.old source.new) (S.remaining source.old)
+        (K.contents sink.old) (K.contents sink.new) first script.new status) }
     ensures read { OnOk result (IsAtEnd (S.remaining source.new)) }
-    ensures whole { OnOk result (IfSome (S.remaining source.old) (λ input. ending_of input ≡ Whole)) }
+    ensures whole { OnOk result
+        (IfSome (S.remaining source.old) (λ input. ending_of input ≡ Whole)) }
     ensures fails { IfErr result (λ status. (status ≢ Status.Ok) × (status ≢ Status.Usage)) }
-    ensures read_fault { IsErrOf result Status.ReadFault → Rose (S.faults_of source.old) (S.faults_of source.new) }
-    ensures write_fault { IsErrOf result Status.WriteFault → Rose (K.faults_of sink.old) (K.faults_of sink.new) }
-    ensures ends { (ending : Ending) → IsErrOf result (status_of ending) → IfSome (S.remaining source.old) (λ input. ending_of input ≡ ending) }
+    ensures read_fault { IsErrOf result Status.ReadFault
+        → Rose (S.faults_of source.old) (S.faults_of source.new) }
+    ensures write_fault { IsErrOf result Status.WriteFault
+        → Rose (K.faults_of sink.old) (K.faults_of sink.new) }
+    ensures ends { (ending : Ending) → IsErrOf result (status_of ending)
+        → IfSome (S.remaining source.old) (λ input. ending_of input ≡ ending) }
 {
     let mut lines = Lines::new(alloc);
     while let Some(line) = lines.next(source)? {

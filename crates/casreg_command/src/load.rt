@@ -30,10 +30,12 @@ pub(crate) fn load_store<K: Sink, D: Disk + Drop>(
     requires known { store.world.last_proposer ≡ load.proposers }
     requires idle { AllIdle store.world }
     requires quiet { IsAtRest store.world.council }
-    ensures loaded { Loaded (meaning ⟦<DiskShelf<D> as Shelf>⟧ D.Disk) D.tells load (K.contents sink.old) (K.contents sink.new) store.world result.0 result.1 }
+    ensures loaded { Loaded (meaning ⟦<DiskShelf<D> as Shelf>⟧ D.Disk) D.tells load
+        (K.contents sink.old) (K.contents sink.new) store.world result.0 result.1 }
     ensures usage { result.0 ≢ Status.Usage }
     ensures read_fault { result.0 ≢ Status.ReadFault }
-    ensures write_fault { result.0 ≡ Status.WriteFault → Rose (K.faults_of sink.old) (K.faults_of sink.new) }
+    ensures write_fault { result.0 ≡ Status.WriteFault
+        → Rose (K.faults_of sink.old) (K.faults_of sink.new) }
     ensures all_acceptors { vec_len result.1.acceptors ≡ 64 }
     ensures all_vaults { vec_len result.1.vaults ≡ 17 }
 {
@@ -58,9 +60,12 @@ fn write_summary<K: Sink, H: Shelf, D: Disk>(
     requires known { world.old.last_proposer ≡ load.proposers }
     requires idle { AllIdle world.old }
     requires quiet { IsAtRest world.old.council }
-    ensures all { OnOk result (WroteSummary (meaning H.Shelf D.Disk) load (K.contents sink.old) (K.contents sink.new) world.old world.new Status.Ok) }
-    ensures wrote { IfErr result (WroteSummary (meaning H.Shelf D.Disk) load (K.contents sink.old) (K.contents sink.new) world.old world.new) }
-    ensures write_fault { IsErrOf result Status.WriteFault → Rose (K.faults_of sink.old) (K.faults_of sink.new) }
+    ensures all { OnOk result (WroteSummary (meaning H.Shelf D.Disk) load
+        (K.contents sink.old) (K.contents sink.new) world.old world.new Status.Ok) }
+    ensures wrote { IfErr result (WroteSummary (meaning H.Shelf D.Disk) load
+        (K.contents sink.old) (K.contents sink.new) world.old world.new) }
+    ensures write_fault { IsErrOf result Status.WriteFault
+        → Rose (K.faults_of sink.old) (K.faults_of sink.new) }
 {
     let summary = run_load(alloc, world, load)?;
     let text = print_summary(alloc, &summary)?;

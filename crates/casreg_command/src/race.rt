@@ -48,11 +48,16 @@ pub(crate) fn race_board<
     requires idle { All (λ pass. IsPassOf board pass × NothingIsOpen pass.own) passes.items }
     requires room { vec_capacity passes ≡ options.proposers + 1 }
     requires fates { vec_len fates.old ≡ 17 }
-    ensures raced { RacedOver (rack_meaning D.Disk) options (S.remaining source.old) (K.contents sink.old) (K.contents sink.new) (map F.harm_count fates.old.items) (map F.harm_count fates.new.items) result.0 result.1 }
+    ensures raced { RacedOver (rack_meaning D.Disk) options
+        (S.remaining source.old) (K.contents sink.old) (K.contents sink.new)
+        (map F.harm_count fates.old.items) (map F.harm_count fates.new.items) result.0 result.1 }
     ensures usage { result.0 ≢ Status.Usage }
-    ensures read_fault { result.0 ≡ Status.ReadFault → Rose (S.faults_of source.old) (S.faults_of source.new) }
-    ensures write_fault { result.0 ≡ Status.WriteFault → Rose (K.faults_of sink.old) (K.faults_of sink.new) }
-    ensures ends { (ending : Ending) → result.0 ≡ status_of ending → IfSome (S.remaining source.old) (λ input. ending_of input ≡ ending) }
+    ensures read_fault { result.0 ≡ Status.ReadFault
+        → Rose (S.faults_of source.old) (S.faults_of source.new) }
+    ensures write_fault { result.0 ≡ Status.WriteFault
+        → Rose (K.faults_of sink.old) (K.faults_of sink.new) }
+    ensures ends { (ending : Ending) → result.0 ≡ status_of ending
+        → IfSome (S.remaining source.old) (λ input. ending_of input ≡ ending) }
     ensures read { result.0 ≡ Status.Ok → IsAtEnd (S.remaining source.new) }
     ensures all_acceptors { vec_len result.1.acceptors ≡ 64 }
     ensures all_vaults { vec_len result.1.vaults ≡ 17 }

@@ -41,10 +41,12 @@ pub enum Request {
 /// or 1,000), may stand once each, in any order. `None` comes exactly where the words are none of a command; a request for help is none.
 /// Only memory can fail.
 pub fn read_words(alloc: Global, words: &[String]) -> Result<Option<Request>, AllocError>
-    ensures words { IfOk result (λ request. MatchOption request (faults_of (map string_bytes words.now) ≢ []) (AreWords (map string_bytes words.now))) }
+    ensures words { IfOk result (λ request. MatchOption request
+        (faults_of (map string_bytes words.now) ≢ []) (AreWords (map string_bytes words.now))) }
     ensures range { IfOk result (λ request. IfSome request IsInRange) }
     // There are no two readings of the words.
-    ensures only { IfOk result (λ request. (other : ARequest) → AreWords (map string_bytes words.now) other → request ≡ Some other) }
+    ensures only { IfOk result (λ request. (other : ARequest)
+        → AreWords (map string_bytes words.now) other → request ≡ Some other) }
 {
     let line = with_name(alloc, words)?;
     let command = casreg(alloc)?;
@@ -74,9 +76,12 @@ fn request_of(matches: &ArgMatches<'_>) -> Request
 /// The options of `script` or `race`.
 fn options_of(given: &ArgMatches<'_>) -> Options
     requires { HasOptions (rows_of (found_of given.now)) }
-    ensures acceptors { option_map number_in (one_of (codes "acceptors") (rows_of (found_of given.now))) ≡ Some result.acceptors }
-    ensures proposers { option_map number_in (one_of (codes "proposers") (rows_of (found_of given.now))) ≡ Some result.proposers }
-    ensures tries { option_map number_in (one_of (codes "tries") (rows_of (found_of given.now))) ≡ Some result.tries }
+    ensures acceptors { option_map number_in
+        (one_of (codes "acceptors") (rows_of (found_of given.now))) ≡ Some result.acceptors }
+    ensures proposers { option_map number_in
+        (one_of (codes "proposers") (rows_of (found_of given.now))) ≡ Some result.proposers }
+    ensures tries { option_map number_in (one_of (codes "tries") (rows_of (found_of given.now)))
+        ≡ Some result.tries }
     ensures range { AreOptionsInRange result }
 {
     Options {
@@ -90,11 +95,16 @@ fn options_of(given: &ArgMatches<'_>) -> Options
 fn load_of(given: &ArgMatches<'_>) -> Load
     requires options { HasOptions (rows_of (found_of given.now)) }
     requires drawing { HasDrawing (rows_of (found_of given.now)) }
-    ensures acceptors { option_map number_in (one_of (codes "acceptors") (rows_of (found_of given.now))) ≡ Some result.acceptors }
-    ensures proposers { option_map number_in (one_of (codes "proposers") (rows_of (found_of given.now))) ≡ Some result.proposers }
-    ensures tries { option_map number_in (one_of (codes "tries") (rows_of (found_of given.now))) ≡ Some result.tries }
-    ensures seed { option_map number_in (one_of (codes "seed") (rows_of (found_of given.now))) ≡ Some result.seed }
-    ensures lines { option_map number_in (one_of (codes "lines") (rows_of (found_of given.now))) ≡ Some result.lines }
+    ensures acceptors { option_map number_in
+        (one_of (codes "acceptors") (rows_of (found_of given.now))) ≡ Some result.acceptors }
+    ensures proposers { option_map number_in
+        (one_of (codes "proposers") (rows_of (found_of given.now))) ≡ Some result.proposers }
+    ensures tries { option_map number_in (one_of (codes "tries") (rows_of (found_of given.now)))
+        ≡ Some result.tries }
+    ensures seed { option_map number_in (one_of (codes "seed") (rows_of (found_of given.now)))
+        ≡ Some result.seed }
+    ensures lines { option_map number_in (one_of (codes "lines") (rows_of (found_of given.now)))
+        ≡ Some result.lines }
     ensures range { IsLoadInRange result }
 {
     let Options {
@@ -113,8 +123,10 @@ fn load_of(given: &ArgMatches<'_>) -> Load
 
 /// The seed that a load has.
 fn seed_of(given: &ArgMatches<'_>) -> u64
-    requires { IsNumberIn 0 18446744073709551615 (one_of (codes "seed") (rows_of (found_of given.now))) }
-    ensures { option_map number_in (one_of (codes "seed") (rows_of (found_of given.now))) ≡ Some result }
+    requires { IsNumberIn 0 18446744073709551615
+        (one_of (codes "seed") (rows_of (found_of given.now))) }
+    ensures { option_map number_in (one_of (codes "seed") (rows_of (found_of given.now)))
+        ≡ Some result }
 {
     given.get_one("seed").unwrap()
 }
@@ -122,7 +134,8 @@ fn seed_of(given: &ArgMatches<'_>) -> u64
 /// How many lines a load has.
 fn lines_of(given: &ArgMatches<'_>) -> u32
     requires { IsNumberIn 0 100000 (one_of (codes "lines") (rows_of (found_of given.now))) }
-    ensures number { option_map number_in (one_of (codes "lines") (rows_of (found_of given.now))) ≡ Some result }
+    ensures number { option_map number_in (one_of (codes "lines") (rows_of (found_of given.now)))
+        ≡ Some result }
     ensures few { result ≤ 100000 }
 {
     given.get_one("lines").unwrap()
@@ -131,7 +144,8 @@ fn lines_of(given: &ArgMatches<'_>) -> u32
 /// The number that an option has, which is from 1 to this one.
 fn number_of(given: &ArgMatches<'_>, name: &str, most: u8) -> u8
     requires { IsNumberIn 1 most (one_of name.now (rows_of (found_of given.now))) }
-    ensures number { option_map number_in (one_of name.now (rows_of (found_of given.now))) ≡ Some result }
+    ensures number { option_map number_in (one_of name.now (rows_of (found_of given.now)))
+        ≡ Some result }
     ensures some { 1 ≤ result }
     ensures few { result ≤ most }
 {
@@ -140,7 +154,8 @@ fn number_of(given: &ArgMatches<'_>, name: &str, most: u8) -> u8
 
 /// The words behind the name of the program.
 fn with_name<'a>(alloc: Global, words: &'a [String]) -> Result<Vec<&'a str>, AllocError>
-    ensures { IfOk result (λ all. map (λ word. word.now) all.items ≡ command_line (map string_bytes words.now)) }
+    ensures { IfOk result
+        (λ all. map (λ word. word.now) all.items ≡ command_line (map string_bytes words.now)) }
 {
     let mut all = Vec::new(alloc);
     all.push("casreg")?;

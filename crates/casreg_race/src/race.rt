@@ -79,13 +79,23 @@ pub fn race_on<R: Threads + Wait + Sync, S: Source, K: Sink, D: Disk + Send + Dr
     requires idle { All (λ pass. IsPassOf board pass × NothingIsOpen pass.own) passes.items }
     requires room { vec_capacity passes ≡ proposers + 1 }
     requires fates { vec_len fates.old ≡ 17 }
-    ensures raced { (marks : List Mark) × (D.tells → IsLegal (reverse marks)) × (D.tells → AreTellingsSo (proposers + 1) (reverse marks)) × (D.tells → AreKept D.may_leave (reverse marks) result.1.acceptors.items) × WroteRace D.tells tries proposers (S.remaining source.old) (K.contents sink.old) (K.contents sink.new) (map F.harm_count fates.old.items) (map F.harm_count fates.new.items) marks result.0 × AreDeserved D.fault_count result.1.acceptors.items result.1.vaults.items marks }
+    ensures raced { (marks : List Mark) × (D.tells → IsLegal (reverse marks))
+        × (D.tells → AreTellingsSo (proposers + 1) (reverse marks)) × (D.tells
+        → AreKept D.may_leave (reverse marks) result.1.acceptors.items) × WroteRace D.tells
+        tries proposers (S.remaining source.old) (K.contents sink.old) (K.contents sink.new)
+        (map F.harm_count fates.old.items) (map F.harm_count fates.new.items) marks result.0
+        × AreDeserved D.fault_count result.1.acceptors.items result.1.vaults.items marks }
     ensures read { OnOk result.0 (IsAtEnd (S.remaining source.new)) }
-    ensures whole { OnOk result.0 (IfSome (S.remaining source.old) (λ input. ending_of input ≡ Whole)) }
-    ensures read_fault { IsErrOf result.0 (RaceFault.NotRun LineFault.ReadFault) → Rose (S.faults_of source.old) (S.faults_of source.new) }
-    ensures too_many { IsErrOf result.0 (RaceFault.NotRun LineFault.TooManyLines) → IfSome (S.remaining source.old) (λ input. ending_of input ≡ TooMany) }
-    ensures endless { (line : ℕ) → IsErrOf result.0 (RaceFault.NotRun (LineFault.Endless line)) → IfSome (S.remaining source.old) (λ input. ending_of input ≡ TooLong line) }
-    ensures write_fault { IsErrOf result.0 (RaceFault.CutOff HistoryFault.WriteFault) → Rose (K.faults_of sink.old) (K.faults_of sink.new) }
+    ensures whole { OnOk result.0
+        (IfSome (S.remaining source.old) (λ input. ending_of input ≡ Whole)) }
+    ensures read_fault { IsErrOf result.0 (RaceFault.NotRun LineFault.ReadFault)
+        → Rose (S.faults_of source.old) (S.faults_of source.new) }
+    ensures too_many { IsErrOf result.0 (RaceFault.NotRun LineFault.TooManyLines)
+        → IfSome (S.remaining source.old) (λ input. ending_of input ≡ TooMany) }
+    ensures endless { (line : ℕ) → IsErrOf result.0 (RaceFault.NotRun (LineFault.Endless line))
+        → IfSome (S.remaining source.old) (λ input. ending_of input ≡ TooLong line) }
+    ensures write_fault { IsErrOf result.0 (RaceFault.CutOff HistoryFault.WriteFault)
+        → Rose (K.faults_of sink.old) (K.faults_of sink.new) }
     ensures fates { vec_len fates.new ≡ 17 }
     ensures all_acceptors { vec_len result.1.acceptors ≡ 64 }
     ensures all_vaults { vec_len result.1.vaults ≡ 17 }
@@ -125,19 +135,27 @@ fn run_lines<R: Threads + Wait + Sync, S: Source, D: Disk + Send, F: Fate + Send
     requires proposers { proposers ≤ 16 }
     requires tries { 1 ≤ tries }
     requires passes { passes.old.items ≡ fresh_seats board.now.id (proposers + 1) }
-    requires idle { All (λ pass. IsPassOf board.now pass × NothingIsOpen pass.own) passes.old.items }
+    requires idle { All (λ pass. IsPassOf board.now pass
+        × NothingIsOpen pass.own) passes.old.items }
     requires room { vec_capacity passes.old ≡ proposers + 1 }
     requires fates { vec_len fates.old ≡ 17 }
-    ensures raced { IfOk result (λ results. (lines : List (List ℕ)) × AreAllLines (S.remaining source.old) lines × (results.bad.items ≡ bad_lines proposers 1 lines)
-        × AreRaced D.tells tries proposers lines (map F.harm_count fates.old.items) (map F.harm_count fates.new.items) (map vec_items results.told.items) passes.new.items) }
+    ensures raced { IfOk result (λ results. (lines : List (List ℕ))
+        × AreAllLines (S.remaining source.old) lines
+        × (results.bad.items ≡ bad_lines proposers 1 lines)
+        × AreRaced D.tells tries proposers lines (map F.harm_count fates.old.items)
+        (map F.harm_count fates.new.items) (map vec_items results.told.items) passes.new.items) }
     ensures not_run { OnErr result ((passes.new ≡ passes.old) × (fates.new ≡ fates.old)) }
     ensures passes { ArePassesOf board.now proposers passes.new.items }
     ensures fates { vec_len fates.new ≡ 17 }
     ensures read { OnOk result (IsAtEnd (S.remaining source.new)) }
-    ensures whole { OnOk result (IfSome (S.remaining source.old) (λ input. ending_of input ≡ Whole)) }
-    ensures read_fault { IsErrOf result LineFault.ReadFault → Rose (S.faults_of source.old) (S.faults_of source.new) }
-    ensures too_many { IsErrOf result LineFault.TooManyLines → IfSome (S.remaining source.old) (λ input. ending_of input ≡ TooMany) }
-    ensures endless { (line : ℕ) → IsErrOf result (LineFault.Endless line) → IfSome (S.remaining source.old) (λ input. ending_of input ≡ TooLong line) }
+    ensures whole { OnOk result
+        (IfSome (S.remaining source.old) (λ input. ending_of input ≡ Whole)) }
+    ensures read_fault { IsErrOf result LineFault.ReadFault
+        → Rose (S.faults_of source.old) (S.faults_of source.new) }
+    ensures too_many { IsErrOf result LineFault.TooManyLines
+        → IfSome (S.remaining source.old) (λ input. ending_of input ≡ TooMany) }
+    ensures endless { (line : ℕ) → IsErrOf result (LineFault.Endless line)
+        → IfSome (S.remaining source.old) (λ input. ending_of input ≡ TooLong line) }
 {
     let Sheet { bad, mut tasks } = read_sheet(alloc, source, proposers)?;
     let mut told = rooms_for(alloc, &tasks)?;
@@ -150,8 +168,11 @@ fn run_lines<R: Threads + Wait + Sync, S: Source, D: Disk + Send, F: Fate + Send
 
 /// An empty list for each caller, with room for the answers to its tasks.
 fn rooms_for(alloc: Global, tasks: &[Vec<Task>]) -> Result<Vec<Vec<Told>>, AllocError>
-    ensures count { IfOk result (λ told. (vec_len told ≡ length tasks.now) × (vec_capacity told ≡ length tasks.now)) }
-    ensures rooms { IfOk result (λ told. (n : ℕ) (of_caller : _) (room : _) → n < length tasks.now → HasRoomForAnswers (slice_index_or tasks.now n of_caller).items (slice_index_or told.items n room).items (vec_capacity (slice_index_or told.items n room))) }
+    ensures count { IfOk result (λ told. (vec_len told ≡ length tasks.now)
+        × (vec_capacity told ≡ length tasks.now)) }
+    ensures rooms { IfOk result (λ told. (n : ℕ) (of_caller : _) (room : _) → n < length tasks.now
+        → HasRoomForAnswers (slice_index_or tasks.now n of_caller).items (slice_index_or told.items
+        n room).items (vec_capacity (slice_index_or told.items n room))) }
 {
     let mut told = Vec::with_capacity(alloc, tasks.len())?;
     for of_caller in tasks {
@@ -169,9 +190,14 @@ fn write_race<K: Sink>(
     sink: &mut K,
 ) -> Result<(), HistoryFault>
     requires { vec_len results.now.told ≤ 17 }
-    ensures all { OnOk result (WroteText (IsRaceText results.now.bad.items (map vec_items results.now.told.items) (reverse book.now.marks)) (K.contents sink.old) (K.contents sink.new)) }
-    ensures front { OnErr result (WroteFrontOf (IsRaceText results.now.bad.items (map vec_items results.now.told.items) (reverse book.now.marks)) (K.contents sink.old) (K.contents sink.new)) }
-    ensures write_fault { IsErrOf result HistoryFault.WriteFault → Rose (K.faults_of sink.old) (K.faults_of sink.new) }
+    ensures all { OnOk result
+        (WroteText (IsRaceText results.now.bad.items (map vec_items results.now.told.items)
+        (reverse book.now.marks)) (K.contents sink.old) (K.contents sink.new)) }
+    ensures front { OnErr result
+        (WroteFrontOf (IsRaceText results.now.bad.items (map vec_items results.now.told.items)
+        (reverse book.now.marks)) (K.contents sink.old) (K.contents sink.new)) }
+    ensures write_fault { IsErrOf result HistoryFault.WriteFault
+        → Rose (K.faults_of sink.old) (K.faults_of sink.new) }
 {
     write_answers(alloc, results, sink)?;
     write_histories(alloc, book, sink)
@@ -184,10 +210,13 @@ fn write_answers<K: Sink>(
     sink: &mut K,
 ) -> Result<(), HistoryFault>
     requires { vec_len results.now.told ≤ 17 }
-    ensures all { OnOk result (Appends (K.contents sink.old) (K.contents sink.new) (results.now.bad.items ++ told_lines 0 (map vec_items results.now.told.items))) }
-    ensures front { OnErr result (WroteFrontOf (λ text. text ≡ results.now.bad.items ++ told_lines 0 (map vec_items results.now.told.items)) (K.contents sink.old) (K.contents sink.new)) }
+    ensures all { OnOk result (Appends (K.contents sink.old) (K.contents sink.new)
+        (results.now.bad.items ++ told_lines 0 (map vec_items results.now.told.items))) }
+    ensures front { OnErr result (WroteFrontOf (λ text. text ≡ results.now.bad.items ++ told_lines 0
+        (map vec_items results.now.told.items)) (K.contents sink.old) (K.contents sink.new)) }
     ensures never_falls { K.faults_of sink.old ≤ K.faults_of sink.new }
-    ensures write_fault { IsErrOf result HistoryFault.WriteFault → Rose (K.faults_of sink.old) (K.faults_of sink.new) }
+    ensures write_fault { IsErrOf result HistoryFault.WriteFault
+        → Rose (K.faults_of sink.old) (K.faults_of sink.new) }
 {
     put_all(sink, &results.bad)?;
     for (caller, told) in results.told.iter().enumerate() {

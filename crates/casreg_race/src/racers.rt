@@ -39,11 +39,14 @@ pub(crate) fn line_up<D: Disk, F>(
     requires tasks { vec_len tasks.old ≡ vec_len passes.old }
     requires told { vec_len told.old ≡ vec_len passes.old }
     ensures passes { map (λ racer. racer.pass) racers.new.items ≡ passes.old.items }
-    ensures fates { map (λ racer. racer.fate) racers.new.items ++ reverse fates.new.items ≡ fates.old.items }
+    ensures fates { map (λ racer. racer.fate) racers.new.items ++ reverse fates.new.items
+        ≡ fates.old.items }
     ensures tasks { map (λ racer. racer.tasks) racers.new.items ≡ tasks.old.items }
     ensures told { map (λ racer. racer.told) racers.new.items ≡ told.old.items }
     ensures taken { (vec_len passes.new ≡ 0) × (vec_len told.new ≡ 0) }
-    ensures capacities { (vec_capacity passes.new ≡ vec_capacity passes.old) × (vec_capacity fates.new ≡ vec_capacity fates.old) × (vec_capacity told.new ≡ vec_capacity told.old) }
+    ensures capacities { (vec_capacity passes.new ≡ vec_capacity passes.old)
+        × (vec_capacity fates.new ≡ vec_capacity fates.old)
+        × (vec_capacity told.new ≡ vec_capacity told.old) }
 {
     passes.reverse();
     fates.reverse();
@@ -73,10 +76,12 @@ pub(crate) fn take_back<D: Disk, F>(
     told: &mut Vec<Vec<Told>>,
 )
     requires taken { (vec_len passes.old ≡ 0) × (vec_len told.old ≡ 0) }
-    requires room { (vec_len racers ≤ vec_capacity passes.old) × (vec_len racers ≤ vec_capacity told.old) }
+    requires room { (vec_len racers ≤ vec_capacity passes.old)
+        × (vec_len racers ≤ vec_capacity told.old) }
     requires fates { vec_len racers + vec_len fates.old ≤ vec_capacity fates.old }
     ensures passes { passes.new.items ≡ map (λ racer. racer.pass) racers.items }
-    ensures fates { fates.new.items ≡ map (λ racer. racer.fate) racers.items ++ reverse fates.old.items }
+    ensures fates { fates.new.items
+        ≡ map (λ racer. racer.fate) racers.items ++ reverse fates.old.items }
     ensures told { told.new.items ≡ map (λ racer. racer.told) racers.items }
 {
     while let Some(
@@ -107,9 +112,14 @@ pub(crate) fn run_all<R: Threads + Wait + Sync, D: Disk + Send, F: Fate + Send>(
 )
     requires some { 0 < vec_len racers.old }
     requires tries { 1 ≤ tries }
-    requires ready { All (λ racer. IsReady board.now racer.pass racer.tasks.items racer.told.items (vec_capacity racer.told)) racers.old.items }
+    requires ready { All (λ racer. IsReady board.now racer.pass racer.tasks.items racer.told.items
+        (vec_capacity racer.told)) racers.old.items }
     ensures count { vec_len racers.new ≡ vec_len racers.old }
-    ensures raced { (i : ℕ) (d : _) → i < vec_len racers.old → HasRaced D.tells tries (F.harm_count (slice_index_or racers.old.items i d).fate) (F.harm_count (slice_index_or racers.new.items i d).fate) (slice_index_or racers.old.items i d).tasks.items (slice_index_or racers.new.items i d).told.items (slice_index_or racers.old.items i d).pass (slice_index_or racers.new.items i d).pass }
+    ensures raced { (i : ℕ) (d : _) → i < vec_len racers.old
+        → HasRaced D.tells tries (F.harm_count (slice_index_or racers.old.items i d).fate)
+        (F.harm_count (slice_index_or racers.new.items i d).fate) (slice_index_or racers.old.items
+        i d).tasks.items (slice_index_or racers.new.items i d).told.items
+        (slice_index_or racers.old.items i d).pass (slice_index_or racers.new.items i d).pass }
 {
     let threads = racers.len();
     thread::for_each_mut(
@@ -124,8 +134,10 @@ impl<D: Disk, F: Fate> Racer<D, F> {
     /// Runs all tasks in their order.
     fn run<R: Wait>(&mut self, rt: &R, board: &Board<D>, tries: u32)
         requires tries { 1 ≤ tries }
-        requires ready { IsReady board.now self.old.pass self.old.tasks.items self.old.told.items (vec_capacity self.old.told) }
-        ensures raced { HasRaced D.tells tries (F.harm_count self.old.fate) (F.harm_count self.new.fate) self.old.tasks.items self.new.told.items self.old.pass self.new.pass }
+        requires ready { IsReady board.now self.old.pass self.old.tasks.items self.old.told.items
+            (vec_capacity self.old.told) }
+        ensures raced { HasRaced D.tells tries (F.harm_count self.old.fate) (F.harm_count
+            self.new.fate) self.old.tasks.items self.new.told.items self.old.pass self.new.pass }
     {
         let Racer {
             pass,
@@ -149,7 +161,8 @@ fn run_tasks<R: Wait, D: Disk, F: Fate>(
 )
     requires tries { 1 ≤ tries }
     requires ready { IsReady board.now pass.old tasks.now told.old.items (vec_capacity told.old) }
-    ensures raced { HasRaced D.tells tries (F.harm_count fate.old) (F.harm_count fate.new) tasks.now told.new.items pass.old pass.new }
+    ensures raced { HasRaced D.tells tries
+        (F.harm_count fate.old) (F.harm_count fate.new) tasks.now told.new.items pass.old pass.new }
 {
     for task in tasks {
         let answer = run_task(rt, board, pass, fate, task, tries);
@@ -172,7 +185,8 @@ fn run_task<R: Wait, D: Disk, F: Fate>(
     requires tries { 1 ≤ tries }
     ensures pass { pass.new ≡ record pass.old { seen = pass.new.seen; own = pass.new.own } }
     ensures free { NothingIsOpen pass.new.own }
-    ensures ran { HasRunTask D.tells tries (F.harm_count fate.old) (F.harm_count fate.new) task.now result pass.old pass.new }
+    ensures ran { HasRunTask D.tells tries
+        (F.harm_count fate.old) (F.harm_count fate.new) task.now result pass.old pass.new }
 {
     match task {
         Task::Change { key, program } => {

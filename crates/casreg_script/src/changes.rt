@@ -39,8 +39,10 @@ pub fn change<S: Shelf, V: Disk>(
     requires idle { HasNoCall world.old caller }
     requires some { 1 ≤ tries }
     requires network { (by : NetworkView) × IsNetwork network.old by }
-    ensures change { Through network.old network.new (λ by next. IsChange (meaning S.Shelf V.Disk) tries by caller key.now program.now halt.old world.old result next halt.new world.new) }
-    ensures network { (by : NetworkView) → IsNetwork network.old by → (next : NetworkView) × IsNetwork network.new next }
+    ensures change { Through network.old network.new (λ by next. IsChange (meaning S.Shelf V.Disk)
+        tries by caller key.now program.now halt.old world.old result next halt.new world.new) }
+    ensures network { (by : NetworkView)
+        → IsNetwork network.old by → (next : NetworkView) × IsNetwork network.new next }
     ensures rescans { Rescans world.old.council caller key.now result world.new.council }
     ensures idle { HasNoCall world.new caller }
     ensures last_proposer { world.new.last_proposer ≡ world.old.last_proposer }
@@ -69,12 +71,22 @@ fn rounds<S: Shelf, V: Disk>(
     program: &Program,
 ) -> Answer
     requires known { caller ≤ world.old.last_proposer }
-    requires begun { HasBegun world.old caller (record { number = call; key = key.now; program = program.now }) }
+    requires begun { HasBegun world.old caller (record {
+      number = call;
+      key = key.now;
+      program = program.now;
+    }) }
     requires some { 1 ≤ tries }
     requires network { (by : NetworkView) × IsNetwork network.old by }
-    ensures rounds { Through network.old network.new (λ by next. AreRounds (meaning S.Shelf V.Disk) caller key.now program.now tries by halt.old world.old next halt.new world.new) }
-    ensures network { (by : NetworkView) → IsNetwork network.old by → (next : NetworkView) × IsNetwork network.new next }
-    ensures over { IsOver world.new caller (record { number = call; key = key.now; program = program.now }) result }
+    ensures rounds { Through network.old network.new (λ by next. AreRounds (meaning S.Shelf V.Disk)
+        caller key.now program.now tries by halt.old world.old next halt.new world.new) }
+    ensures network { (by : NetworkView)
+        → IsNetwork network.old by → (next : NetworkView) × IsNetwork network.new next }
+    ensures over { IsOver world.new caller (record {
+      number = call;
+      key = key.now;
+      program = program.now;
+    }) result }
     ensures last_proposer { world.new.last_proposer ≡ world.old.last_proposer }
 {
     let told = round(world, network, halt, caller);
@@ -100,9 +112,12 @@ fn round<S: Shelf, V: Disk>(
     requires known { proposer ≤ world.old.last_proposer }
     requires begun { (asked : AskedCall) × HasBegun world.old proposer asked }
     requires network { (by : NetworkView) × IsNetwork network.old by }
-    ensures round { Through network.old network.new (λ by next. IsRound (meaning S.Shelf V.Disk) by proposer halt.old world.old next halt.new world.new) }
-    ensures network { (by : NetworkView) → IsNetwork network.old by → (next : NetworkView) × IsNetwork network.new next }
-    ensures over { (asked : AskedCall) → HasBegun world.old proposer asked → IsOver world.new proposer asked result }
+    ensures round { Through network.old network.new (λ by next.
+        IsRound (meaning S.Shelf V.Disk) by proposer halt.old world.old next halt.new world.new) }
+    ensures network { (by : NetworkView)
+        → IsNetwork network.old by → (next : NetworkView) × IsNetwork network.new next }
+    ensures over { (asked : AskedCall)
+        → HasBegun world.old proposer asked → IsOver world.new proposer asked result }
     ensures last_proposer { world.new.last_proposer ≡ world.old.last_proposer }
 {
     if world.has_proposed(proposer) {
@@ -124,12 +139,17 @@ fn prepare<S: Shelf, V: Disk>(
     requires known { proposer ≤ world.old.last_proposer }
     requires open { (asked : AskedCall) × IsPlaying world.old proposer asked false }
     requires network { (by : NetworkView) × IsNetwork network.old by }
-    ensures proposed { OnOk result (Through network.old network.new (λ by next. EndsPrepare (meaning S.Shelf V.Disk) by proposer halt.old world.old next world.new)) }
+    ensures proposed { OnOk result (Through network.old network.new (λ by next.
+        EndsPrepare (meaning S.Shelf V.Disk) by proposer halt.old world.old next world.new)) }
     ensures same_halt { OnOk result (halt.new ≡ halt.old) }
-    ensures plays { (asked : AskedCall) → IsPlaying world.old proposer asked false → OnOk result (IsPlaying world.new proposer asked true) }
-    ensures refused { OnErr result (Through network.old network.new (λ by next. IsRound (meaning S.Shelf V.Disk) by proposer halt.old world.old next halt.new world.new)) }
-    ensures over { (asked : AskedCall) → IsPlaying world.old proposer asked false → IfErr result (IsOver world.new proposer asked) }
-    ensures network { (by : NetworkView) → IsNetwork network.old by → (next : NetworkView) × IsNetwork network.new next }
+    ensures plays { (asked : AskedCall) → IsPlaying world.old proposer asked false
+        → OnOk result (IsPlaying world.new proposer asked true) }
+    ensures refused { OnErr result (Through network.old network.new (λ by next.
+        IsRound (meaning S.Shelf V.Disk) by proposer halt.old world.old next halt.new world.new)) }
+    ensures over { (asked : AskedCall) → IsPlaying world.old proposer asked false
+        → IfErr result (IsOver world.new proposer asked) }
+    ensures network { (by : NetworkView)
+        → IsNetwork network.old by → (next : NetworkView) × IsNetwork network.new next }
     ensures last_proposer { world.new.last_proposer ≡ world.old.last_proposer }
 {
     prepare_turns(world, network, halt, proposer)?;
@@ -147,14 +167,19 @@ pub(crate) fn prepare_turns<S: Shelf, V: Disk>(
     requires known { proposer ≤ world.old.last_proposer }
     requires open { (asked : AskedCall) × IsPlaying world.old proposer asked false }
     requires network { (by : NetworkView) × IsNetwork network.old by }
-    ensures turned { OnOk result (Through network.old network.new (λ by next. AllTurned (meaning S.Shelf V.Disk) by proposer world.old next world.new)) }
+    ensures turned { OnOk result (Through network.old network.new
+        (λ by next. AllTurned (meaning S.Shelf V.Disk) by proposer world.old next world.new)) }
     ensures goes_on { OnOk result (Strikes halt.old world.new proposer → ⊥) }
     ensures same_halt { OnOk result (halt.new ≡ halt.old) }
-    ensures plays { (asked : AskedCall) → IsPlaying world.old proposer asked false → OnOk result (IsPlaying world.new proposer asked false) }
-    ensures cut_off { OnErr result (Through network.old network.new (λ by next. IsCutOff (meaning S.Shelf V.Disk) by proposer halt.old world.old next halt.new world.new)) }
-    ensures over { (asked : AskedCall) → IsPlaying world.old proposer asked false → IfErr result (IsOver world.new proposer asked) }
+    ensures plays { (asked : AskedCall) → IsPlaying world.old proposer asked false
+        → OnOk result (IsPlaying world.new proposer asked false) }
+    ensures cut_off { OnErr result (Through network.old network.new (λ by next.
+        IsCutOff (meaning S.Shelf V.Disk) by proposer halt.old world.old next halt.new world.new)) }
+    ensures over { (asked : AskedCall) → IsPlaying world.old proposer asked false
+        → IfErr result (IsOver world.new proposer asked) }
     ensures not_done { IfErr result (λ told. is_done told ≡ false) }
-    ensures network { (by : NetworkView) → IsNetwork network.old by → (next : NetworkView) × IsNetwork network.new next }
+    ensures network { (by : NetworkView)
+        → IsNetwork network.old by → (next : NetworkView) × IsNetwork network.new next }
     ensures council { world.new.council ≡ world.old.council }
     ensures last_proposer { world.new.last_proposer ≡ world.old.last_proposer }
 {
@@ -178,9 +203,12 @@ fn accept<S: Shelf, V: Disk>(
     requires known { proposer ≤ world.old.last_proposer }
     requires open { (asked : AskedCall) × IsPlaying world.old proposer asked true }
     requires network { (by : NetworkView) × IsNetwork network.old by }
-    ensures accepted { Through network.old network.new (λ by next. EndsAcceptPhase (meaning S.Shelf V.Disk) by proposer halt.old world.old next halt.new world.new) }
-    ensures over { (asked : AskedCall) → IsPlaying world.old proposer asked true → IsOver world.new proposer asked result }
-    ensures network { (by : NetworkView) → IsNetwork network.old by → (next : NetworkView) × IsNetwork network.new next }
+    ensures accepted { Through network.old network.new (λ by next. EndsAcceptPhase (meaning S.Shelf
+        V.Disk) by proposer halt.old world.old next halt.new world.new) }
+    ensures over { (asked : AskedCall)
+        → IsPlaying world.old proposer asked true → IsOver world.new proposer asked result }
+    ensures network { (by : NetworkView)
+        → IsNetwork network.old by → (next : NetworkView) × IsNetwork network.new next }
     ensures last_proposer { world.new.last_proposer ≡ world.old.last_proposer }
 {
     match accept_turns(world, network, halt, proposer) {
@@ -200,14 +228,19 @@ pub(crate) fn accept_turns<S: Shelf, V: Disk>(
     requires known { proposer ≤ world.old.last_proposer }
     requires open { (asked : AskedCall) × IsPlaying world.old proposer asked true }
     requires network { (by : NetworkView) × IsNetwork network.old by }
-    ensures turned { OnOk result (Through network.old network.new (λ by next. AllTurned (meaning S.Shelf V.Disk) by proposer world.old next world.new)) }
+    ensures turned { OnOk result (Through network.old network.new
+        (λ by next. AllTurned (meaning S.Shelf V.Disk) by proposer world.old next world.new)) }
     ensures goes_on { OnOk result (halt.old.after_propose ≡ false) }
     ensures same_halt { OnOk result (halt.new ≡ halt.old) }
-    ensures plays { (asked : AskedCall) → IsPlaying world.old proposer asked true → OnOk result (IsPlaying world.new proposer asked true) }
-    ensures cut_short { OnErr result (Through network.old network.new (λ by next. IsCutShort (meaning S.Shelf V.Disk) by proposer halt.old world.old next halt.new world.new)) }
-    ensures over { (asked : AskedCall) → IsPlaying world.old proposer asked true → IfErr result (IsOver world.new proposer asked) }
+    ensures plays { (asked : AskedCall) → IsPlaying world.old proposer asked true
+        → OnOk result (IsPlaying world.new proposer asked true) }
+    ensures cut_short { OnErr result (Through network.old network.new (λ by next. IsCutShort
+        (meaning S.Shelf V.Disk) by proposer halt.old world.old next halt.new world.new)) }
+    ensures over { (asked : AskedCall)
+        → IsPlaying world.old proposer asked true → IfErr result (IsOver world.new proposer asked) }
     ensures not_done { IfErr result (λ told. is_done told ≡ false) }
-    ensures network { (by : NetworkView) → IsNetwork network.old by → (next : NetworkView) × IsNetwork network.new next }
+    ensures network { (by : NetworkView)
+        → IsNetwork network.old by → (next : NetworkView) × IsNetwork network.new next }
     ensures council { world.new.council ≡ world.old.council }
     ensures last_proposer { world.new.last_proposer ≡ world.old.last_proposer }
 {
@@ -230,11 +263,18 @@ fn all_turns<S: Shelf, V: Disk>(
     requires known { proposer ≤ world.old.last_proposer }
     requires quiet { world.old.council.exchange ≡ None }
     requires network { (by : NetworkView) × IsNetwork network.old by }
-    ensures through { OnOk result (Through network.old network.new (λ by next. AllTurned (meaning S.Shelf V.Disk) by proposer world.old next world.new)) }
-    ensures fails { OnErr result (Through network.old network.new (λ by next. FailsToTurn (meaning S.Shelf V.Disk) by proposer world.old next world.new)) }
-    ensures plays { (asked : AskedCall) (proposed : Bool) → IsPlaying world.old proposer asked proposed → OnOk result (IsPlaying world.new proposer asked proposed) }
-    ensures told { (asked : AskedCall) (proposed : Bool) → IsPlaying world.old proposer asked proposed → OnErr result (IsOver world.new proposer asked (answer.NoMemory proposed)) }
-    ensures network { (by : NetworkView) → IsNetwork network.old by → (next : NetworkView) × IsNetwork network.new next }
+    ensures through { OnOk result (Through network.old network.new
+        (λ by next. AllTurned (meaning S.Shelf V.Disk) by proposer world.old next world.new)) }
+    ensures fails { OnErr result (Through network.old network.new
+        (λ by next. FailsToTurn (meaning S.Shelf V.Disk) by proposer world.old next world.new)) }
+    ensures plays { (asked : AskedCall) (proposed : Bool)
+        → IsPlaying world.old proposer asked proposed
+        → OnOk result (IsPlaying world.new proposer asked proposed) }
+    ensures told { (asked : AskedCall) (proposed : Bool)
+        → IsPlaying world.old proposer asked proposed
+        → OnErr result (IsOver world.new proposer asked (answer.NoMemory proposed)) }
+    ensures network { (by : NetworkView)
+        → IsNetwork network.old by → (next : NetworkView) × IsNetwork network.new next }
     ensures last_proposer { world.new.last_proposer ≡ world.old.last_proposer }
 {
     let mut again = false;
@@ -250,7 +290,8 @@ fn all_turns<S: Shelf, V: Disk>(
 /// Whether a quorum confirmed in the open phase of the proposer's round.
 fn has_quorum<S: Shelf, V: Disk>(world: &World<S, V>, proposer: u8) -> bool
     requires known { proposer ≤ world.now.last_proposer }
-    requires open { (asked : AskedCall) × (proposed : Bool) × IsPlaying world.now proposer asked proposed }
+    requires open { (asked : AskedCall)
+        × (proposed : Bool) × IsPlaying world.now proposer asked proposed }
     ensures { IsTrue result ↔ HasQuorum world.now proposer }
 {
     is_quorum(world.verdict(proposer))
@@ -266,9 +307,11 @@ fn is_quorum(verdict: Option<RoundVerdict>) -> bool
 /// The proposer crashes within its round, which is open. Gives what its caller is told.
 fn crash<S: Shelf, V: Disk>(world: &mut World<S, V>, proposer: u8) -> Answer
     requires known { proposer ≤ world.old.last_proposer }
-    requires open { (asked : AskedCall) × (proposed : Bool) × IsPlaying world.old proposer asked proposed }
+    requires open { (asked : AskedCall)
+        × (proposed : Bool) × IsPlaying world.old proposer asked proposed }
     ensures step { Step (meaning S.Shelf V.Disk) world.old (CrashProposer proposer) world.new }
-    ensures over { (asked : AskedCall) (proposed : Bool) → IsPlaying world.old proposer asked proposed → IsOver world.new proposer asked result }
+    ensures over { (asked : AskedCall) (proposed : Bool)
+        → IsPlaying world.old proposer asked proposed → IsOver world.new proposer asked result }
     ensures not_done { is_done result ≡ false }
     ensures last_proposer { world.new.last_proposer ≡ world.old.last_proposer }
 {

@@ -47,9 +47,13 @@ pub fn collect<S: Shelf, V: Disk>(
     requires quiet { IsAtRest world.old.council }
     requires some { 1 ≤ tries }
     requires network { (by : NetworkView) × IsNetwork network.old by }
-    ensures collects { IfOk result (λ answer. Through network.old network.new (λ by next. IsCollection (meaning S.Shelf V.Disk) tries by key.now halt.old world.old answer next halt.new world.new)) }
-    ensures err { OnErr result ((world.new ≡ world.old) × (network.new ≡ network.old) × (halt.new ≡ halt.old)) }
-    ensures network { (by : NetworkView) → IsNetwork network.old by → (next : NetworkView) × IsNetwork network.new next }
+    ensures collects { IfOk result
+        (λ answer. Through network.old network.new (λ by next. IsCollection (meaning S.Shelf V.Disk)
+        tries by key.now halt.old world.old answer next halt.new world.new)) }
+    ensures err { OnErr result ((world.new ≡ world.old)
+        × (network.new ≡ network.old) × (halt.new ≡ halt.old)) }
+    ensures network { (by : NetworkView)
+        → IsNetwork network.old by → (next : NetworkView) × IsNetwork network.new next }
     ensures quiet { IsAtRest world.new.council }
     ensures idle { KeepsIdle world.old world.new }
 {
@@ -98,10 +102,12 @@ fn carry_out<S: Shelf, V: Disk>(
     requires program { program.now ≡ keep_always }
     requires some { 1 ≤ tries }
     requires network { (by : NetworkView) × IsNetwork network.old by }
-    ensures carried { Through network.old network.new (λ by next. CollectsWhole (meaning S.Shelf V.Disk) tries by key.now halt.old world.old next halt.new world.new) }
+    ensures carried { Through network.old network.new (λ by next. CollectsWhole (meaning S.Shelf
+        V.Disk) tries by key.now halt.old world.old next halt.new world.new) }
     ensures end { OnOk result (IsDue world.new key.now EndStep) }
     ensures told { IfErr result (WasToldOrder world.new) }
-    ensures network { (by : NetworkView) → IsNetwork network.old by → (next : NetworkView) × IsNetwork network.new next }
+    ensures network { (by : NetworkView)
+        → IsNetwork network.old by → (next : NetworkView) × IsNetwork network.new next }
     ensures idle { KeepsIdle world.old world.new }
 {
     bury(world, network, halt, tries, key, program)?;
@@ -115,10 +121,13 @@ fn take_steps<S: Shelf, V: Disk>(
 ) -> Result<(), OpAnswer>
     requires buried { (key : List ℕ) × IsBuried world.old key }
     requires network { (by : NetworkView) × IsNetwork network.old by }
-    ensures taken { Through network.old network.new (λ by next. HasTaken (meaning S.Shelf V.Disk) by world.old next world.new) }
-    ensures end { (key : List ℕ) → IsBuried world.old key → OnOk result (IsDue world.new key EndStep) }
+    ensures taken { Through network.old network.new
+        (λ by next. HasTaken (meaning S.Shelf V.Disk) by world.old next world.new) }
+    ensures end { (key : List ℕ)
+        → IsBuried world.old key → OnOk result (IsDue world.new key EndStep) }
     ensures told { IfErr result (WasToldOrder world.new) }
-    ensures network { (by : NetworkView) → IsNetwork network.old by → (next : NetworkView) × IsNetwork network.new next }
+    ensures network { (by : NetworkView)
+        → IsNetwork network.old by → (next : NetworkView) × IsNetwork network.new next }
     ensures idle { KeepsIdle world.old world.new }
 {
     world.gather()?;
@@ -144,10 +153,12 @@ fn bury<S: Shelf, V: Disk>(
     requires program { program.now ≡ keep_always }
     requires some { 1 ≤ tries }
     requires network { (by : NetworkView) × IsNetwork network.old by }
-    ensures called { Through network.old network.new (λ by next. IsCalled (meaning S.Shelf V.Disk) tries by key.now halt.old world.old next halt.new world.new) }
+    ensures called { Through network.old network.new (λ by next. IsCalled (meaning S.Shelf V.Disk)
+        tries by key.now halt.old world.old next halt.new world.new) }
     ensures buried { OnOk result (IsBuried world.new key.now) }
     ensures told { IfErr result (WasToldOrder world.new) }
-    ensures network { (by : NetworkView) → IsNetwork network.old by → (next : NetworkView) × IsNetwork network.new next }
+    ensures network { (by : NetworkView)
+        → IsNetwork network.old by → (next : NetworkView) × IsNetwork network.new next }
     ensures idle { KeepsIdle world.old world.new }
 {
     let call = world.next_call(0);
@@ -177,12 +188,15 @@ fn call_for<S: Shelf, V: Disk>(
     requires program { program.now ≡ keep_always }
     requires some { 1 ≤ tries }
     requires network { (by : NetworkView) × IsNetwork network.old by }
-    ensures called { Through network.old network.new (λ by next. HasRounds (meaning S.Shelf V.Disk) tries by key.now halt.old world.old next halt.new world.new) }
-    ensures stopped { IfOk result (λ told. IfSome told (HasStopped world.new (record { number = call; key = key.now; program = keep_always }))) }
+    ensures called { Through network.old network.new (λ by next. HasRounds (meaning S.Shelf V.Disk)
+        tries by key.now halt.old world.old next halt.new world.new) }
+    ensures stopped { IfOk result (λ told. IfSome told
+        (HasStopped world.new (record { number = call; key = key.now; program = keep_always }))) }
     ensures buried { IfOk result (λ told. IfNone told (IsBuried world.new key.now)) }
     ensures told { IfErr result (WasToldOrder world.new) }
     ensures none { OnErr result (HasNoCall world.new 0) }
-    ensures network { (by : NetworkView) → IsNetwork network.old by → (next : NetworkView) × IsNetwork network.new next }
+    ensures network { (by : NetworkView)
+        → IsNetwork network.old by → (next : NetworkView) × IsNetwork network.new next }
 {
     match world.begin_collect(call, key, program) {
         Ok(()) => Ok(rounds(world, network, halt, tries, call, key, program)),
@@ -230,14 +244,24 @@ fn rounds<S: Shelf, V: Disk>(
     key: &Key,
     program: &Program,
 ) -> Option<Answer>
-    requires running { IsRunning world.old (record { number = call; key = key.now; program = keep_always }) }
+    requires running { IsRunning world.old (record {
+      number = call;
+      key = key.now;
+      program = keep_always;
+    }) }
     requires program { program.now ≡ keep_always }
     requires some { 1 ≤ tries }
     requires network { (by : NetworkView) × IsNetwork network.old by }
-    ensures rounds { Through network.old network.new (λ by next. AreTombstoneRounds (meaning S.Shelf V.Disk) key.now tries by halt.old world.old next halt.new world.new) }
-    ensures stopped { IfSome result (HasStopped world.new (record { number = call; key = key.now; program = keep_always })) }
+    ensures rounds { Through network.old network.new (λ by next. AreTombstoneRounds (meaning S.Shelf
+        V.Disk) key.now tries by halt.old world.old next halt.new world.new) }
+    ensures stopped { IfSome result (HasStopped world.new (record {
+      number = call;
+      key = key.now;
+      program = keep_always;
+    })) }
     ensures buried { IfNone result (IsBuried world.new key.now) }
-    ensures network { (by : NetworkView) → IsNetwork network.old by → (next : NetworkView) × IsNetwork network.new next }
+    ensures network { (by : NetworkView)
+        → IsNetwork network.old by → (next : NetworkView) × IsNetwork network.new next }
 {
     let told = round(world, network, halt)?;
     if tries == 1 {
@@ -260,10 +284,15 @@ fn round<S: Shelf, V: Disk>(
 ) -> Option<Answer>
     requires running { (asked : Wanted) × IsRunning world.old asked }
     requires network { (by : NetworkView) × IsNetwork network.old by }
-    ensures round { Through network.old network.new (λ by next. IsRoundBy (EndsReading (meaning S.Shelf V.Disk)) (EndsVoting (meaning S.Shelf V.Disk)) (meaning S.Shelf V.Disk) by 0 halt.old world.old next halt.new world.new) }
-    ensures stopped { (asked : Wanted) → IsRunning world.old asked → IfSome result (HasStopped world.new asked) }
-    ensures buried { (asked : Wanted) → IsRunning world.old asked → IfNone result (IsBuried world.new asked.key) }
-    ensures network { (by : NetworkView) → IsNetwork network.old by → (next : NetworkView) × IsNetwork network.new next }
+    ensures round { Through network.old network.new (λ by next.
+        IsRoundBy (EndsReading (meaning S.Shelf V.Disk)) (EndsVoting (meaning S.Shelf V.Disk))
+        (meaning S.Shelf V.Disk) by 0 halt.old world.old next halt.new world.new) }
+    ensures stopped { (asked : Wanted)
+        → IsRunning world.old asked → IfSome result (HasStopped world.new asked) }
+    ensures buried { (asked : Wanted)
+        → IsRunning world.old asked → IfNone result (IsBuried world.new asked.key) }
+    ensures network { (by : NetworkView)
+        → IsNetwork network.old by → (next : NetworkView) × IsNetwork network.new next }
 {
     if world.has_proposed(0) {
         return Some(accept(world, network, halt));
@@ -283,13 +312,21 @@ fn prepare<S: Shelf, V: Disk>(
 ) -> Result<Reading, Answer>
     requires open { (asked : Wanted) × IsInRound world.old asked false }
     requires network { (by : NetworkView) × IsNetwork network.old by }
-    ensures ended { OnOk result (Through network.old network.new (λ by next. EndsPrepareBy (EndsReading (meaning S.Shelf V.Disk)) (meaning S.Shelf V.Disk) by 0 halt.old world.old next world.new)) }
+    ensures ended { OnOk result (Through network.old network.new
+        (λ by next. EndsPrepareBy (EndsReading (meaning S.Shelf V.Disk))
+        (meaning S.Shelf V.Disk) by 0 halt.old world.old next world.new)) }
     ensures same_halt { OnOk result (halt.new ≡ halt.old) }
-    ensures plays { (asked : Wanted) → IsInRound world.old asked false → result ≡ Ok Reading.Empty → IsInRound world.new asked true }
-    ensures buried { (asked : Wanted) (version : ℕ) → IsInRound world.old asked false → result ≡ Ok (Reading.Held version) → IsBuried world.new asked.key }
-    ensures refused { OnErr result (Through network.old network.new (λ by next. IsRoundBy (EndsReading (meaning S.Shelf V.Disk)) (EndsVoting (meaning S.Shelf V.Disk)) (meaning S.Shelf V.Disk) by 0 halt.old world.old next halt.new world.new)) }
-    ensures stopped { (asked : Wanted) → IsInRound world.old asked false → IfErr result (HasStopped world.new asked) }
-    ensures network { (by : NetworkView) → IsNetwork network.old by → (next : NetworkView) × IsNetwork network.new next }
+    ensures plays { (asked : Wanted) → IsInRound world.old asked false
+        → result ≡ Ok Reading.Empty → IsInRound world.new asked true }
+    ensures buried { (asked : Wanted) (version : ℕ) → IsInRound world.old asked false
+        → result ≡ Ok (Reading.Held version) → IsBuried world.new asked.key }
+    ensures refused { OnErr result (Through network.old network.new (λ by next.
+        IsRoundBy (EndsReading (meaning S.Shelf V.Disk)) (EndsVoting (meaning S.Shelf V.Disk))
+        (meaning S.Shelf V.Disk) by 0 halt.old world.old next halt.new world.new)) }
+    ensures stopped { (asked : Wanted)
+        → IsInRound world.old asked false → IfErr result (HasStopped world.new asked) }
+    ensures network { (by : NetworkView)
+        → IsNetwork network.old by → (next : NetworkView) × IsNetwork network.new next }
 {
     prepare_turns(world, network, halt, 0)?;
     world.propose_tombstone()
@@ -303,9 +340,13 @@ fn accept<S: Shelf, V: Disk>(
 ) -> Answer
     requires open { (asked : Wanted) × IsInRound world.old asked true }
     requires network { (by : NetworkView) × IsNetwork network.old by }
-    ensures accepted { Through network.old network.new (λ by next. IsAcceptedBy (EndsVoting (meaning S.Shelf V.Disk)) (meaning S.Shelf V.Disk) by 0 halt.old world.old next halt.new world.new) }
-    ensures stopped { (asked : Wanted) → IsInRound world.old asked true → HasStopped world.new asked result }
-    ensures network { (by : NetworkView) → IsNetwork network.old by → (next : NetworkView) × IsNetwork network.new next }
+    ensures accepted { Through network.old network.new
+        (λ by next. IsAcceptedBy (EndsVoting (meaning S.Shelf V.Disk))
+        (meaning S.Shelf V.Disk) by 0 halt.old world.old next halt.new world.new) }
+    ensures stopped { (asked : Wanted)
+        → IsInRound world.old asked true → HasStopped world.new asked result }
+    ensures network { (by : NetworkView)
+        → IsNetwork network.old by → (next : NetworkView) × IsNetwork network.new next }
 {
     match accept_turns(world, network, halt, 0) {
         Ok(()) => world.count_tombstone(),
@@ -316,8 +357,10 @@ fn accept<S: Shelf, V: Disk>(
 /// Renews each proposer that is to be renewed, in turn. An `Err` is what the operator's call was told.
 fn renew<S: Shelf, V: Disk>(world: &mut World<S, V>) -> Result<(), OpAnswer>
     requires due { (key : List ℕ) × IsDue world.old key (RenewStep 0) }
-    ensures taken { (by : NetworkView) → HasTaken (meaning S.Shelf V.Disk) by world.old by world.new }
-    ensures due { (key : List ℕ) → IsDue world.old key (RenewStep 0) → OnOk result (IsDue world.new key AgesStep) }
+    ensures taken { (by : NetworkView)
+        → HasTaken (meaning S.Shelf V.Disk) by world.old by world.new }
+    ensures due { (key : List ℕ)
+        → IsDue world.old key (RenewStep 0) → OnOk result (IsDue world.new key AgesStep) }
     ensures told { IfErr result (WasToldOrder world.new) }
     ensures idle { KeepsIdle world.old world.new }
 {

@@ -27,11 +27,13 @@ pub(crate) fn exchange<S: Shelf, V: Disk>(
 ) -> Result<Gathered, OpAnswer>
     requires may { MayAskThis world.old what }
     requires network { (by : NetworkView) × IsNetwork network.old by }
-    ensures asks { Through network.old network.new (λ by next. AsksMembers (meaning S.Shelf V.Disk) by (asking_of world.old what) (answers_of what) world.old next world.new) }
+    ensures asks { Through network.old network.new (λ by next. AsksMembers (meaning S.Shelf V.Disk)
+        by (asking_of world.old what) (answers_of what) world.old next world.new) }
     ensures gathered { IfOk result (λ gathered. CameOf what world.old gathered world.new) }
     ensures less { result ≡ Ok Gathered.More → listing_left world.new < listing_left world.old }
     ensures told { IfErr result (WasToldOrder world.new) }
-    ensures network { (by : NetworkView) → IsNetwork network.old by → (next : NetworkView) × IsNetwork network.new next }
+    ensures network { (by : NetworkView)
+        → IsNetwork network.old by → (next : NetworkView) × IsNetwork network.new next }
     ensures calls { KeepsCalls world.old world.new }
 {
     world.ask_all(what)?;
@@ -48,12 +50,16 @@ fn ask_turns<S: Shelf, V: Disk>(
 ) -> Result<(), AllocError>
     requires asks { (question : Question) × IsAsking world.old question }
     requires network { (by : NetworkView) × IsNetwork network.old by }
-    ensures through { OnOk result (Through network.old network.new (λ by next. AllAskTurned (meaning S.Shelf V.Disk) by world.old next world.new)) }
-    ensures fails { OnErr result (Through network.old network.new (λ by next. BreaksOffAsking (meaning S.Shelf V.Disk) by world.old next world.new)) }
-    ensures asks { (question : Question) → IsAsking world.old question → OnOk result (IsAsking world.new question) }
+    ensures through { OnOk result (Through network.old network.new
+        (λ by next. AllAskTurned (meaning S.Shelf V.Disk) by world.old next world.new)) }
+    ensures fails { OnErr result (Through network.old network.new
+        (λ by next. BreaksOffAsking (meaning S.Shelf V.Disk) by world.old next world.new)) }
+    ensures asks { (question : Question)
+        → IsAsking world.old question → OnOk result (IsAsking world.new question) }
     ensures order { OnOk result (KeepsOrder world.old world.new) }
     ensures told { OnErr result (WasToldOrder world.new (op.Stopped (answer.NoMemory false))) }
-    ensures network { (by : NetworkView) → IsNetwork network.old by → (next : NetworkView) × IsNetwork network.new next }
+    ensures network { (by : NetworkView)
+        → IsNetwork network.old by → (next : NetworkView) × IsNetwork network.new next }
     ensures calls { KeepsCalls world.old world.new }
 {
     let mut again = false;

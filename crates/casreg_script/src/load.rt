@@ -61,8 +61,10 @@ pub fn run_load<S: Shelf, V: Disk>(
     requires known { world.old.last_proposer ≡ load.proposers }
     requires idle { AllIdle world.old }
     requires quiet { IsAtRest world.old.council }
-    ensures runs { IfOk result (λ summary. SumsUp (meaning S.Shelf V.Disk) load world.old summary world.new) }
-    ensures breaks_off { OnErr result (LoadBreaksOff (meaning S.Shelf V.Disk) load world.old world.new) }
+    ensures runs { IfOk result
+        (λ summary. SumsUp (meaning S.Shelf V.Disk) load world.old summary world.new) }
+    ensures breaks_off { OnErr result
+        (LoadBreaksOff (meaning S.Shelf V.Disk) load world.old world.new) }
 {
     let mut network = Network::seeded(load.seed.wrapping_add(1));
     let mut generator = Generator::new(load.seed);
@@ -90,12 +92,21 @@ fn answer_line<S: Shelf, V: Disk>(
     requires idle { AllIdle world.old }
     requires quiet { IsAtRest world.old.council }
     requires network { (by : NetworkView) × IsNetwork network.old by }
-    ensures answers { IfOk result (λ answer. Through network.old network.new (λ by next.
-        AnswersDrawn (meaning S.Shelf V.Disk) load line (record { world = world.old; network = by; lines = generator.old }) answer (record { world = world.new; network = next; lines = generator.new }))) }
+    ensures answers { IfOk result (λ answer. Through network.old network.new
+        (λ by next. AnswersDrawn (meaning S.Shelf V.Disk) load line (record {
+          world = world.old;
+          network = by;
+          lines = generator.old;
+        }) answer (record {
+          world = world.new;
+          network = next;
+          lines = generator.new;
+        }))) }
     ensures err { OnErr result (world.new ≡ world.old) }
     ensures idle { AllIdle world.new }
     ensures quiet { IsAtRest world.new.council }
-    ensures network { (by : NetworkView) → IsNetwork network.old by → (next : NetworkView) × IsNetwork network.new next }
+    ensures network { (by : NetworkView)
+        → IsNetwork network.old by → (next : NetworkView) × IsNetwork network.new next }
     ensures last_proposer { world.new.last_proposer ≡ world.old.last_proposer }
 {
     let drawn = generator.next(load.proposers);
@@ -142,11 +153,13 @@ fn collect_behind<S: Shelf, V: Disk>(
     requires idle { HasNoCall world.old 0 }
     requires quiet { IsAtRest world.old.council }
     requires network { (by : NetworkView) × IsNetwork network.old by }
-    ensures collects { OnOk result (Through network.old network.new (λ by next. CollectsBehind (meaning S.Shelf V.Disk) load line by world.old next world.new)) }
+    ensures collects { OnOk result (Through network.old network.new (λ by next.
+        CollectsBehind (meaning S.Shelf V.Disk) load line by world.old next world.new)) }
     ensures err { OnErr result ((world.new ≡ world.old) × (line % 100 ≡ 99)) }
     ensures idle { KeepsIdle world.old world.new }
     ensures quiet { IsAtRest world.new.council }
-    ensures network { (by : NetworkView) → IsNetwork network.old by → (next : NetworkView) × IsNetwork network.new next }
+    ensures network { (by : NetworkView)
+        → IsNetwork network.old by → (next : NetworkView) × IsNetwork network.new next }
 {
     if line % LINES_TO_A_COLLECTION == LINES_TO_A_COLLECTION - 1 {
         let key = draw_key(alloc, line / LINES_TO_A_COLLECTION % KEYS)?;

@@ -44,9 +44,13 @@ pub fn change_members<S: Shelf, V: Disk>(
     requires quiet { IsAtRest world.old.council }
     requires some { 1 ≤ tries }
     requires network { (by : NetworkView) × IsNetwork network.old by }
-    ensures changes { IfOk result (λ answer. Through network.old network.new (λ by next. ChangesMembers (meaning S.Shelf V.Disk) tries by (asked_to kind id) halt.old world.old answer next halt.new world.new)) }
-    ensures err { OnErr result ((world.new ≡ world.old) × (network.new ≡ network.old) × (halt.new ≡ halt.old)) }
-    ensures network { (by : NetworkView) → IsNetwork network.old by → (next : NetworkView) × IsNetwork network.new next }
+    ensures changes { IfOk result (λ answer. Through network.old network.new
+        (λ by next. ChangesMembers (meaning S.Shelf V.Disk) tries by
+        (asked_to kind id) halt.old world.old answer next halt.new world.new)) }
+    ensures err { OnErr result ((world.new ≡ world.old)
+        × (network.new ≡ network.old) × (halt.new ≡ halt.old)) }
+    ensures network { (by : NetworkView)
+        → IsNetwork network.old by → (next : NetworkView) × IsNetwork network.new next }
     ensures quiet { IsAtRest world.new.council }
     ensures idle { KeepsIdle world.old world.new }
 {
@@ -89,9 +93,11 @@ fn carry_out<S: Shelf, V: Disk>(
     requires program { program.now ≡ one Guard.Always Act.Keep }
     requires some { 1 ≤ tries }
     requires network { (by : NetworkView) × IsNetwork network.old by }
-    ensures carried { Through network.old network.new (λ by next. IsCarriedOut (meaning S.Shelf V.Disk) tries by (asked_to kind id) halt.old world.old next halt.new world.new) }
+    ensures carried { Through network.old network.new (λ by next. IsCarriedOut (meaning S.Shelf
+        V.Disk) tries by (asked_to kind id) halt.old world.old next halt.new world.new) }
     ensures told { MayTell world.new result }
-    ensures network { (by : NetworkView) → IsNetwork network.old by → (next : NetworkView) × IsNetwork network.new next }
+    ensures network { (by : NetworkView)
+        → IsNetwork network.old by → (next : NetworkView) × IsNetwork network.new next }
     ensures idle { KeepsIdle world.old world.new }
 {
     if let Err(told) = take_up(world, kind, id) {
@@ -136,11 +142,14 @@ fn advance<S: Shelf, V: Disk>(
     requires program { program.now ≡ one Guard.Always Act.Keep }
     requires some { 1 ≤ tries }
     requires network { (by : NetworkView) × IsNetwork network.old by }
-    ensures advances { Through network.old network.new (λ by next. HasAdvanced (meaning S.Shelf V.Disk) tries by halt.old world.old next halt.new world.new) }
-    ensures under_way { (asked : Asked) → IsUnderWay world.old asked → OnOk result (IsUnderWay world.new asked) }
+    ensures advances { Through network.old network.new (λ by next.
+        HasAdvanced (meaning S.Shelf V.Disk) tries by halt.old world.old next halt.new world.new) }
+    ensures under_way { (asked : Asked)
+        → IsUnderWay world.old asked → OnOk result (IsUnderWay world.new asked) }
     ensures end { OnOk result (IsAtEnd world.new) }
     ensures told { IfErr result (WasToldOrder world.new) }
-    ensures network { (by : NetworkView) → IsNetwork network.old by → (next : NetworkView) × IsNetwork network.new next }
+    ensures network { (by : NetworkView)
+        → IsNetwork network.old by → (next : NetworkView) × IsNetwork network.new next }
     ensures idle { KeepsIdle world.old world.new }
 {
     while let Some(step) = world.plan_step() {
@@ -158,8 +167,10 @@ fn enter<S: Shelf, V: Disk>(world: &mut World<S, V>) -> Result<(), OpAnswer>
     requires under_way { (asked : Asked) × IsUnderWay world.old asked }
     requires free { IsFree world.old }
     requires due { IsSome (entrant_of world.old.council.plan) }
-    ensures advances { (tries : ℕ) (by : NetworkView) (halt : AHalt) → HasAdvanced (meaning S.Shelf V.Disk) tries by halt world.old by halt world.new }
-    ensures under_way { (asked : Asked) → IsUnderWay world.old asked → OnOk result (IsUnderWay world.new asked) }
+    ensures advances { (tries : ℕ) (by : NetworkView) (halt : AHalt)
+        → HasAdvanced (meaning S.Shelf V.Disk) tries by halt world.old by halt world.new }
+    ensures under_way { (asked : Asked)
+        → IsUnderWay world.old asked → OnOk result (IsUnderWay world.new asked) }
     ensures fewer { OnOk result (steps_left world.new < steps_left world.old) }
     ensures told { IfErr result (WasToldOrder world.new) }
     ensures free { OnOk result (IsFree world.new) }
@@ -185,11 +196,14 @@ fn settle<S: Shelf, V: Disk>(
     requires program { program.now ≡ one Guard.Always Act.Keep }
     requires some { 1 ≤ tries }
     requires network { (by : NetworkView) × IsNetwork network.old by }
-    ensures advances { Through network.old network.new (λ by next. HasAdvanced (meaning S.Shelf V.Disk) tries by halt.old world.old next halt.new world.new) }
-    ensures under_way { (asked : Asked) → IsUnderWay world.old asked → OnOk result (IsUnderWay world.new asked) }
+    ensures advances { Through network.old network.new (λ by next.
+        HasAdvanced (meaning S.Shelf V.Disk) tries by halt.old world.old next halt.new world.new) }
+    ensures under_way { (asked : Asked)
+        → IsUnderWay world.old asked → OnOk result (IsUnderWay world.new asked) }
     ensures fewer { OnOk result (steps_left world.new < steps_left world.old) }
     ensures told { IfErr result (WasToldOrder world.new) }
-    ensures network { (by : NetworkView) → IsNetwork network.old by → (next : NetworkView) × IsNetwork network.new next }
+    ensures network { (by : NetworkView)
+        → IsNetwork network.old by → (next : NetworkView) × IsNetwork network.new next }
     ensures free { OnOk result (IsFree world.new) }
     ensures idle { KeepsIdle world.old world.new }
 {
@@ -204,13 +218,16 @@ fn list<S: Shelf, V: Disk>(world: &mut World<S, V>, network: &mut Network) -> Re
     requires free { IsFree world.old }
     requires settles { step_of world.old.council.plan ≡ Some PlanStep.Settle }
     requires network { (by : NetworkView) × IsNetwork network.old by }
-    ensures advances { (tries : ℕ) (halt : AHalt) → Through network.old network.new (λ by next. HasAdvanced (meaning S.Shelf V.Disk) tries by halt world.old next halt world.new) }
-    ensures under_way { (asked : Asked) → IsUnderWay world.old asked → OnOk result (IsUnderWay world.new asked) }
+    ensures advances { (tries : ℕ) (halt : AHalt) → Through network.old network.new (λ by next.
+        HasAdvanced (meaning S.Shelf V.Disk) tries by halt world.old next halt world.new) }
+    ensures under_way { (asked : Asked)
+        → IsUnderWay world.old asked → OnOk result (IsUnderWay world.new asked) }
     ensures no_more { OnOk result (steps_left world.new ≤ steps_left world.old) }
     ensures listed { OnOk result (TakesStep world.old world.new) }
     ensures free { OnOk result (IsFree world.new) }
     ensures told { IfErr result (WasToldOrder world.new) }
-    ensures network { (by : NetworkView) → IsNetwork network.old by → (next : NetworkView) × IsNetwork network.new next }
+    ensures network { (by : NetworkView)
+        → IsNetwork network.old by → (next : NetworkView) × IsNetwork network.new next }
     ensures idle { KeepsIdle world.old world.new }
 {
     if world.settle_key().is_some() {
@@ -234,12 +251,16 @@ fn rescan<S: Shelf, V: Disk>(
     requires program { program.now ≡ one Guard.Always Act.Keep }
     requires some { 1 ≤ tries }
     requires network { (by : NetworkView) × IsNetwork network.old by }
-    ensures advances { Through network.old network.new (λ by next. HasAdvanced (meaning S.Shelf V.Disk) tries by halt.old world.old next halt.new world.new) }
-    ensures under_way { (asked : Asked) → IsUnderWay world.old asked → OnOk result (IsUnderWay world.new asked) }
-    ensures fewer { IsSome (due_in world.old.council.plan) → OnOk result (steps_left world.new < steps_left world.old) }
+    ensures advances { Through network.old network.new (λ by next.
+        HasAdvanced (meaning S.Shelf V.Disk) tries by halt.old world.old next halt.new world.new) }
+    ensures under_way { (asked : Asked)
+        → IsUnderWay world.old asked → OnOk result (IsUnderWay world.new asked) }
+    ensures fewer { IsSome (due_in world.old.council.plan)
+        → OnOk result (steps_left world.new < steps_left world.old) }
     ensures no_more { OnOk result (steps_left world.new ≤ steps_left world.old) }
     ensures told { IfErr result (WasToldOrder world.new) }
-    ensures network { (by : NetworkView) → IsNetwork network.old by → (next : NetworkView) × IsNetwork network.new next }
+    ensures network { (by : NetworkView)
+        → IsNetwork network.old by → (next : NetworkView) × IsNetwork network.new next }
     ensures free { OnOk result (IsFree world.new) }
     ensures idle { KeepsIdle world.old world.new }
 {

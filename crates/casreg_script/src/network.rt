@@ -54,7 +54,8 @@ impl Network {
     pub fn set(&mut self, leg: Option<Leg>, who: Option<AcceptorId>, verdict: Verdict)
         requires verdict { verdict ≢ Verdict.Hold }
         requires ruled { (rules : List Rule) × IsNetwork self.old (Ruled rules) }
-        ensures { (rules : List Rule) → IsNetwork self.old (Ruled rules) → IsNetwork self.new (Ruled (record { leg = leg; who = who; verdict = verdict } ∷ rules)) }
+        ensures { (rules : List Rule) → IsNetwork self.old (Ruled rules) → IsNetwork self.new
+            (Ruled (record { leg = leg; who = who; verdict = verdict } ∷ rules)) }
     {
         match self {
             Network::Ruled(links) => set_rule(links, leg, who, verdict),
@@ -65,8 +66,10 @@ impl Network {
     /// What becomes of a frame of this leg, at whose other end this acceptor is. Where the frame has its second turn nothing is drawn.
     pub fn verdict(&mut self, again: bool, leg: Leg, peer: AcceptorId) -> Verdict
         requires network { (by : NetworkView) × IsNetwork self.old by }
-        ensures decides { Through self.old self.new (λ by next. DecidesVerdict (leg, peer) by again result next) }
-        ensures network { (by : NetworkView) → IsNetwork self.old by → (next : NetworkView) × IsNetwork self.new next }
+        ensures decides { Through self.old self.new
+            (λ by next. DecidesVerdict (leg, peer) by again result next) }
+        ensures network { (by : NetworkView)
+            → IsNetwork self.old by → (next : NetworkView) × IsNetwork self.new next }
         ensures not_held { result ≢ Verdict.Hold }
     {
         match self {
@@ -78,7 +81,8 @@ impl Network {
     /// Which of so many late frames is to stray in, if one is.
     pub fn stray(&mut self, late: usize) -> Option<usize>
         ensures names { Through self.old self.new (λ by next. Names late by result next) }
-        ensures network { (by : NetworkView) → IsNetwork self.old by → (next : NetworkView) × IsNetwork self.new next }
+        ensures network { (by : NetworkView)
+            → IsNetwork self.old by → (next : NetworkView) × IsNetwork self.new next }
     {
         match self {
             Network::Ruled(_) => None,
@@ -90,7 +94,8 @@ impl Network {
 /// From now on this becomes of the frames of this leg to or from this acceptor: of any leg, and of any acceptor, where it is `None`.
 fn set_rule(links: &mut Links, leg: Option<Leg>, who: Option<AcceptorId>, verdict: Verdict)
     requires { verdict ≢ Verdict.Hold }
-    ensures { (rules : List Rule) → TableAgrees links.old rules → TableAgrees links.new (record { leg = leg; who = who; verdict = verdict } ∷ rules) }
+    ensures { (rules : List Rule) → TableAgrees links.old rules
+        → TableAgrees links.new (record { leg = leg; who = who; verdict = verdict } ∷ rules) }
 {
     match (leg, who) {
         (Some(leg), Some(peer)) => links.set(leg, peer, verdict),
@@ -102,7 +107,8 @@ fn set_rule(links: &mut Links, leg: Option<Leg>, who: Option<AcceptorId>, verdic
 
 /// Sets the verdict on a leg for all acceptors.
 fn set_peers(links: &mut Links, leg: Leg, verdict: Verdict)
-    ensures { (l : ALeg) (peer : ℕ) → peer < 64 → verdict_at links.new l peer ≡ ruled (nat_eq (row_of leg) (row_of l)) verdict (verdict_at links.old l peer) }
+    ensures { (l : ALeg) (peer : ℕ) → peer < 64 → verdict_at links.new l peer
+        ≡ ruled (nat_eq (row_of leg) (row_of l)) verdict (verdict_at links.old l peer) }
 {
     for number in 0..ACCEPTORS {
         let peer = AcceptorId::new(number).unwrap();
@@ -112,7 +118,8 @@ fn set_peers(links: &mut Links, leg: Leg, verdict: Verdict)
 
 /// Sets the verdict on all legs for an acceptor.
 fn set_legs(links: &mut Links, peer: AcceptorId, verdict: Verdict)
-    ensures { (l : ALeg) (p : ℕ) → verdict_at links.new l p ≡ ruled (nat_eq peer p) verdict (verdict_at links.old l p) }
+    ensures { (l : ALeg) (p : ℕ)
+        → verdict_at links.new l p ≡ ruled (nat_eq peer p) verdict (verdict_at links.old l p) }
 {
     for leg in LEGS {
         links.set(leg, peer, verdict);
@@ -130,7 +137,8 @@ fn set_all(links: &mut Links, verdict: Verdict)
 
 /// What a table says of a frame of this leg, at whose other end this acceptor is.
 fn table_verdict(links: &mut Links, leg: Leg, peer: AcceptorId) -> Verdict
-    ensures verdict { (rules : List Rule) → TableAgrees links.old rules → result ≡ verdict_of rules leg peer }
+    ensures verdict { (rules : List Rule)
+        → TableAgrees links.old rules → result ≡ verdict_of rules leg peer }
     ensures same { (rules : List Rule) → TableAgrees links.old rules → TableAgrees links.new rules }
     ensures not_held { (rules : List Rule) → TableAgrees links.old rules → result ≢ Verdict.Hold }
 {
@@ -139,7 +147,8 @@ fn table_verdict(links: &mut Links, leg: Leg, peer: AcceptorId) -> Verdict
 
 /// What a fate says of a frame. Where the frame has its second turn nothing is drawn.
 fn fate_verdict(fate: &mut Seeded, again: bool, leg: Leg, peer: AcceptorId) -> Verdict
-    ensures draws { again ≡ false → (result, random_of fate.new) ≡ drawn_verdict (random_of fate.old) }
+    ensures draws { again ≡ false
+        → (result, random_of fate.new) ≡ drawn_verdict (random_of fate.old) }
     ensures repeats { again ≡ true → (result ≡ Verdict.Twice) × (fate.new ≡ fate.old) }
 {
     if again {

@@ -28,9 +28,11 @@ pub fn probe<S: Shelf, V: Disk>(
     requires idle { HasNoCall world.old 0 }
     requires quiet { IsAtRest world.old.council }
     requires network { (by : NetworkView) × IsNetwork network.old by }
-    ensures probe { IfOk result (λ answer. Through network.old network.new (λ by next. IsProbe (meaning S.Shelf V.Disk) by key.now world.old answer next world.new)) }
+    ensures probe { IfOk result (λ answer. Through network.old network.new
+        (λ by next. IsProbe (meaning S.Shelf V.Disk) by key.now world.old answer next world.new)) }
     ensures err { OnErr result ((world.new ≡ world.old) × (network.new ≡ network.old)) }
-    ensures network { (by : NetworkView) → IsNetwork network.old by → (next : NetworkView) × IsNetwork network.new next }
+    ensures network { (by : NetworkView)
+        → IsNetwork network.old by → (next : NetworkView) × IsNetwork network.new next }
     ensures quiet { IsAtRest world.new.council }
     ensures calls { KeepsCalls world.old world.new }
 {

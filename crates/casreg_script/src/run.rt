@@ -60,8 +60,11 @@ impl<S: Shelf, V: Disk> Script<S, V> {
     /// Runs the line, and gives the text of its answer, which is empty for a remark. Only memory can fail, and the line was run then,
     /// or was not.
     pub fn answer(&mut self, alloc: Global, line: &Line) -> Result<Vec<u8>, AllocError>
-        ensures answers { (state : State _ _) → IsInState self.old state → IfOk result (λ text. AnswersLine (meaning S.Shelf V.Disk) self.old.tries state line.now.bytes line.now.number (vec_items text) self.new) }
-        ensures err { (state : State _ _) → IsInState self.old state → OnErr result (RanOrNot (meaning S.Shelf V.Disk) self.old.tries state line.now.bytes self.new) }
+        ensures answers { (state : State _ _)
+            → IsInState self.old state → IfOk result (λ text. AnswersLine (meaning S.Shelf V.Disk)
+            self.old.tries state line.now.bytes line.now.number (vec_items text) self.new) }
+        ensures err { (state : State _ _) → IsInState self.old state → OnErr result
+            (RanOrNot (meaning S.Shelf V.Disk) self.old.tries state line.now.bytes self.new) }
         ensures tries { self.new.tries ≡ self.old.tries }
     {
         match read_command(alloc, line.bytes(), self.proposers) {
@@ -74,8 +77,13 @@ impl<S: Shelf, V: Disk> Script<S, V> {
     /// Runs what a line asks for, and gives the text of its answer.
     fn answer_command(&mut self, alloc: Global, command: &Command) -> Result<Vec<u8>, AllocError>
         requires { IsKnown self.old.world.last_proposer command.now }
-        ensures answers { (state : State _ _) (line : List ℕ) (number : ℕ) → IsInState self.old state → IsLine self.old.world.last_proposer line (Some command.now) → IfOk result (λ text. AnswersLine (meaning S.Shelf V.Disk) self.old.tries state line number (vec_items text) self.new) }
-        ensures err { (state : State _ _) (line : List ℕ) → IsInState self.old state → IsLine self.old.world.last_proposer line (Some command.now) → OnErr result (RanOrNot (meaning S.Shelf V.Disk) self.old.tries state line self.new) }
+        ensures answers { (state : State _ _) (line : List ℕ) (number : ℕ)
+            → IsInState self.old state → IsLine self.old.world.last_proposer line (Some command.now)
+            → IfOk result (λ text. AnswersLine (meaning S.Shelf V.Disk)
+            self.old.tries state line number (vec_items text) self.new) }
+        ensures err { (state : State _ _) (line : List ℕ)
+            → IsInState self.old state → IsLine self.old.world.last_proposer line (Some command.now)
+            → OnErr result (RanOrNot (meaning S.Shelf V.Disk) self.old.tries state line self.new) }
         ensures tries { self.new.tries ≡ self.old.tries }
     {
         if let Command::Show { id, key } = command {
@@ -113,7 +121,12 @@ impl<S: Shelf, V: Disk> Script<S, V> {
     /// Runs a change, and gives its answer.
     fn run_change(&mut self, asked: &Change<'_>) -> Answer
         requires { asked.now.caller ≤ self.old.world.last_proposer }
-        ensures runs { (state : State _ _) → IsInState self.old state → Runs (λ new. RunsChange (meaning S.Shelf V.Disk) self.old.tries state (record { caller = asked.now.caller; key = asked.now.key.now; program = asked.now.program }) result new) self.new }
+        ensures runs { (state : State _ _) → IsInState self.old state → Runs (λ new. RunsChange
+            (meaning S.Shelf V.Disk) self.old.tries state (record {
+              caller = asked.now.caller;
+              key = asked.now.key.now;
+              program = asked.now.program;
+            }) result new) self.new }
         ensures tries { self.new.tries ≡ self.old.tries }
     {
         let halt = &mut self.halts[usize::from(asked.caller)];
@@ -130,7 +143,8 @@ impl<S: Shelf, V: Disk> Script<S, V> {
 
     /// Runs a probe, and gives what the operator is told. After an `Err` it was not run.
     fn run_probe(&mut self, key: &Key) -> Result<OpAnswer, AllocError>
-        ensures runs { (state : State _ _) → IsInState self.old state → IfOk result (λ answer. Runs (λ new. RunsProbe (meaning S.Shelf V.Disk) state key.now answer new) self.new) }
+        ensures runs { (state : State _ _) → IsInState self.old state → IfOk result (λ answer.
+            Runs (λ new. RunsProbe (meaning S.Shelf V.Disk) state key.now answer new) self.new) }
         ensures err { OnErr result (self.new ≡ self.old) }
         ensures tries { self.new.tries ≡ self.old.tries }
     {
@@ -144,7 +158,9 @@ impl<S: Shelf, V: Disk> Script<S, V> {
         kind: PlanKind,
         id: AcceptorId,
     ) -> Result<OpAnswer, AllocError>
-        ensures runs { (state : State _ _) → IsInState self.old state → IfOk result (λ answer. Runs (λ new. RunsMembership (meaning S.Shelf V.Disk) self.old.tries state (asked_to kind id) answer new) self.new) }
+        ensures runs { (state : State _ _) → IsInState self.old state
+            → IfOk result (λ answer. Runs (λ new. RunsMembership (meaning S.Shelf V.Disk)
+            self.old.tries state (asked_to kind id) answer new) self.new) }
         ensures err { OnErr result (self.new ≡ self.old) }
         ensures tries { self.new.tries ≡ self.old.tries }
     {
@@ -161,7 +177,9 @@ impl<S: Shelf, V: Disk> Script<S, V> {
 
     /// Runs a collection, and gives what the operator is told. After an `Err` it was not run.
     fn run_collection(&mut self, alloc: Global, key: &Key) -> Result<OpAnswer, AllocError>
-        ensures runs { (state : State _ _) → IsInState self.old state → IfOk result (λ answer. Runs (λ new. RunsCollection (meaning S.Shelf V.Disk) self.old.tries state key.now answer new) self.new) }
+        ensures runs { (state : State _ _) → IsInState self.old state
+            → IfOk result (λ answer. Runs (λ new. RunsCollection (meaning S.Shelf V.Disk)
+            self.old.tries state key.now answer new) self.new) }
         ensures err { OnErr result (self.new ≡ self.old) }
         ensures tries { self.new.tries ≡ self.old.tries }
     {
@@ -179,7 +197,8 @@ impl<S: Shelf, V: Disk> Script<S, V> {
     fn run_event(&mut self, command: &Command) -> EventAnswer
         requires known { IsKnown self.old.world.last_proposer command.now }
         requires event { is_event command.now ≡ true }
-        ensures runs { (state : State _ _) → IsInState self.old state → Runs (λ new. RunsEvent (meaning S.Shelf V.Disk) state command.now result new) self.new }
+        ensures runs { (state : State _ _) → IsInState self.old state → Runs (λ new.
+            RunsEvent (meaning S.Shelf V.Disk) state command.now result new) self.new }
         ensures tries { self.new.tries ≡ self.old.tries }
     {
         match command {
@@ -210,7 +229,8 @@ impl<S: Shelf, V: Disk> Script<S, V> {
 
 /// The text that says why the line of that number is bad. What is refused for want of memory alone is no bad line.
 fn answer_refusal(alloc: Global, number: u32, refusal: TextRefusal) -> Result<Vec<u8>, AllocError>
-    ensures { IfOk result (λ text. (refusal.why ≢ Why.NoMemory) × (vec_items text ≡ bad_line number refusal.why)) }
+    ensures { IfOk result (λ text. (refusal.why ≢ Why.NoMemory)
+        × (vec_items text ≡ bad_line number refusal.why)) }
 {
     match refusal.why {
         Why::NoMemory => Err(AllocError),

@@ -50,9 +50,12 @@ pub fn write_histories<K: Sink>(
     book: &Record,
     sink: &mut K,
 ) -> Result<(), HistoryFault>
-    ensures all { OnOk result (WroteText (AreHistories (reverse book.now.marks)) (K.contents sink.old) (K.contents sink.new)) }
-    ensures front { OnErr result (WroteFrontOf (AreHistories (reverse book.now.marks)) (K.contents sink.old) (K.contents sink.new)) }
-    ensures write_fault { IsErrOf result HistoryFault.WriteFault → Rose (K.faults_of sink.old) (K.faults_of sink.new) }
+    ensures all { OnOk result (WroteText (AreHistories (reverse book.now.marks))
+        (K.contents sink.old) (K.contents sink.new)) }
+    ensures front { OnErr result (WroteFrontOf (AreHistories (reverse book.now.marks))
+        (K.contents sink.old) (K.contents sink.new)) }
+    ensures write_fault { IsErrOf result HistoryFault.WriteFault
+        → Rose (K.faults_of sink.old) (K.faults_of sink.new) }
 {
     let mut after = None;
     while let Some(key) = book.next_key(after) {

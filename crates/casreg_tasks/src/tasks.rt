@@ -50,12 +50,18 @@ pub fn read_sheet<S: Source>(
     source: &mut S,
     proposers: u8,
 ) -> Result<Sheet, LineFault>
-    ensures parted { IfOk result (λ sheet. (lines : List (List ℕ)) × AreAllLines (S.remaining source.old) lines × AreParted proposers lines sheet.bad.items (map vec_items sheet.tasks.items)) }
+    ensures parted { IfOk result (λ sheet. (lines : List (List ℕ))
+        × AreAllLines (S.remaining source.old) lines
+        × AreParted proposers lines sheet.bad.items (map vec_items sheet.tasks.items)) }
     ensures read { OnOk result (IsAtEnd (S.remaining source.new)) }
-    ensures whole { OnOk result (IfSome (S.remaining source.old) (λ input. ending_of input ≡ Whole)) }
-    ensures read_fault { IsErrOf result LineFault.ReadFault → Rose (S.faults_of source.old) (S.faults_of source.new) }
-    ensures too_many { IsErrOf result LineFault.TooManyLines → IfSome (S.remaining source.old) (λ input. ending_of input ≡ TooMany) }
-    ensures endless { (line : ℕ) → IsErrOf result (LineFault.Endless line) → IfSome (S.remaining source.old) (λ input. ending_of input ≡ TooLong line) }
+    ensures whole { OnOk result
+        (IfSome (S.remaining source.old) (λ input. ending_of input ≡ Whole)) }
+    ensures read_fault { IsErrOf result LineFault.ReadFault
+        → Rose (S.faults_of source.old) (S.faults_of source.new) }
+    ensures too_many { IsErrOf result LineFault.TooManyLines
+        → IfSome (S.remaining source.old) (λ input. ending_of input ≡ TooMany) }
+    ensures endless { (line : ℕ) → IsErrOf result (LineFault.Endless line)
+        → IfSome (S.remaining source.old) (λ input. ending_of input ≡ TooLong line) }
 {
     let mut sheet = Sheet::blank(alloc, proposers)?;
     let mut lines = Lines::new(alloc);
@@ -68,7 +74,8 @@ pub fn read_sheet<S: Source>(
 impl Sheet {
     /// A sheet on which no caller is asked for anything.
     fn blank(alloc: Global, proposers: u8) -> Result<Sheet, AllocError>
-        ensures { IfOk result (λ sheet. AreParted proposers [] sheet.bad.items (map vec_items sheet.tasks.items)) }
+        ensures { IfOk result
+            (λ sheet. AreParted proposers [] sheet.bad.items (map vec_items sheet.tasks.items)) }
     {
         let callers = usize::from(proposers) + 1;
         let mut tasks = Vec::with_capacity(alloc, callers)?;
@@ -85,8 +92,10 @@ impl Sheet {
     fn add(&mut self, alloc: Global, line: &Line, proposers: u8) -> Result<(), AllocError>
         requires callers { vec_len self.old.tasks ≡ proposers + 1 }
         ensures callers { vec_len self.new.tasks ≡ proposers + 1 }
-        ensures parted { (lines : List (List ℕ)) → line.now.number ≡ length lines + 1 → AreParted proposers lines self.old.bad.items (map vec_items self.old.tasks.items)
-            → OnOk result (AreParted proposers (lines ++ line.now.bytes ∷ []) self.new.bad.items (map vec_items self.new.tasks.items)) }
+        ensures parted { (lines : List (List ℕ)) → line.now.number ≡ length lines + 1
+            → AreParted proposers lines self.old.bad.items (map vec_items self.old.tasks.items)
+            → OnOk result (AreParted proposers (lines ++ line.now.bytes ∷ []) self.new.bad.items
+            (map vec_items self.new.tasks.items)) }
     {
         match read_race_line(alloc, line.bytes(), proposers) {
             Ok(Some(command)) => {
@@ -102,7 +111,8 @@ impl Sheet {
     /// Answers the line of that number, which is bad. What is refused for want of memory alone is no bad line.
     fn refuse(&mut self, alloc: Global, number: u32, refusal: TextRefusal) -> Result<(), AllocError>
         ensures why { OnOk result (refusal.why ≢ Why.NoMemory) }
-        ensures bad { OnOk result (self.new.bad.items ≡ self.old.bad.items ++ bad_line number refusal.why) }
+        ensures bad { OnOk result
+            (self.new.bad.items ≡ self.old.bad.items ++ bad_line number refusal.why) }
         ensures tasks { self.new.tasks ≡ self.old.tasks }
     {
         match refusal.why {

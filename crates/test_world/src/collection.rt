@@ -112,7 +112,8 @@ fn begin_call<S: Shelf, V: Disk>(
     requires free { IsFree world.old }
     requires next { option_map next_number (slice_get world.old.callers 0) ≡ Some call }
     requires program { program.now ≡ keep_always }
-    ensures stopped { IfOk result (λ told. IfSome told (HasStopped world.new (record { number = call; key = key.now; program = keep_always }))) }
+    ensures stopped { IfOk result (λ told. IfSome told
+        (HasStopped world.new (record { number = call; key = key.now; program = keep_always }))) }
     ensures buried { IfOk result (λ told. IfNone told (IsBuried world.new key.now)) }
     ensures told { IfErr result (WasToldOrder world.new) }
     ensures none { OnErr result (HasNoCall world.new 0) }
@@ -156,8 +157,10 @@ fn why_stopped(answer: OpAnswer) -> Answer
 /// Runs the round of the call, which is open. Gives what the call is told; `None` comes where a held state was read.
 fn round<S: Shelf, V: Disk>(world: &mut World<S, V>, links: &mut Links) -> Option<Answer>
     requires running { (asked : Wanted) × IsRunning world.old asked }
-    ensures stopped { (asked : Wanted) → IsRunning world.old asked → IfSome result (HasStopped world.new asked) }
-    ensures buried { (asked : Wanted) → IsRunning world.old asked → IfNone result (IsBuried world.new asked.key) }
+    ensures stopped { (asked : Wanted)
+        → IsRunning world.old asked → IfSome result (HasStopped world.new asked) }
+    ensures buried { (asked : Wanted)
+        → IsRunning world.old asked → IfNone result (IsBuried world.new asked.key) }
     ensures leads { Leads world.old world.new }
 {
     if world.has_proposed(0) {
@@ -173,9 +176,12 @@ fn round<S: Shelf, V: Disk>(world: &mut World<S, V>, links: &mut Links) -> Optio
 /// Runs the prepare phase of the round up to what it read. An `Err` is what the call was told.
 fn prepare<S: Shelf, V: Disk>(world: &mut World<S, V>, links: &mut Links) -> Result<Reading, Answer>
     requires open { (asked : Wanted) × IsInRound world.old asked false }
-    ensures plays { (asked : Wanted) → IsInRound world.old asked false → result ≡ Ok Reading.Empty → IsInRound world.new asked true }
-    ensures buried { (asked : Wanted) (version : ℕ) → IsInRound world.old asked false → result ≡ Ok (Reading.Held version) → IsBuried world.new asked.key }
-    ensures stopped { (asked : Wanted) → IsInRound world.old asked false → IfErr result (HasStopped world.new asked) }
+    ensures plays { (asked : Wanted) → IsInRound world.old asked false
+        → result ≡ Ok Reading.Empty → IsInRound world.new asked true }
+    ensures buried { (asked : Wanted) (version : ℕ) → IsInRound world.old asked false
+        → result ≡ Ok (Reading.Held version) → IsBuried world.new asked.key }
+    ensures stopped { (asked : Wanted)
+        → IsInRound world.old asked false → IfErr result (HasStopped world.new asked) }
     ensures leads { Leads world.old world.new }
 {
     if turns(world, links).is_err() {
@@ -187,7 +193,8 @@ fn prepare<S: Shelf, V: Disk>(world: &mut World<S, V>, links: &mut Links) -> Res
 /// Runs the accept phase of the round, and gives what the call is told.
 fn accept<S: Shelf, V: Disk>(world: &mut World<S, V>, links: &mut Links) -> Answer
     requires open { (asked : Wanted) × IsInRound world.old asked true }
-    ensures stopped { (asked : Wanted) → IsInRound world.old asked true → HasStopped world.new asked result }
+    ensures stopped { (asked : Wanted)
+        → IsInRound world.old asked true → HasStopped world.new asked result }
     ensures leads { Leads world.old world.new }
 {
     if turns(world, links).is_err() {
@@ -199,9 +206,11 @@ fn accept<S: Shelf, V: Disk>(world: &mut World<S, V>, links: &mut Links) -> Answ
 /// Makes turns until no frame of proposer 0 waits. What becomes of each frame the links say.
 fn turns<S: Shelf, V: Disk>(world: &mut World<S, V>, links: &mut Links) -> Result<(), AllocError>
     requires quiet { world.old.council.exchange ≡ None }
-    ensures plays { (asked : Wanted) (proposed : Bool) → IsPlaying world.old 0 asked proposed → OnOk result (IsPlaying world.new 0 asked proposed) }
+    ensures plays { (asked : Wanted) (proposed : Bool) → IsPlaying world.old 0 asked proposed
+        → OnOk result (IsPlaying world.new 0 asked proposed) }
     ensures through { OnOk result ((queue_at world.new.flow 0).messages ≡ []) }
-    ensures over { (asked : Wanted) (proposed : Bool) → IsPlaying world.old 0 asked proposed → OnErr result (IsOver world.new 0 asked (answer.NoMemory proposed)) }
+    ensures over { (asked : Wanted) (proposed : Bool) → IsPlaying world.old 0 asked proposed
+        → OnErr result (IsOver world.new 0 asked (answer.NoMemory proposed)) }
     ensures council { world.new.council ≡ world.old.council }
     ensures leads { Leads world.old world.new }
 {
@@ -248,7 +257,8 @@ fn remove_slots<S: Shelf, V: Disk>(
     links: &mut Links,
 ) -> Result<(), OpAnswer>
     requires due { (key : List ℕ) × IsDue world.old key AgesStep }
-    ensures end { (key : List ℕ) → IsDue world.old key AgesStep → OnOk result (IsDue world.new key EndStep) }
+    ensures end { (key : List ℕ)
+        → IsDue world.old key AgesStep → OnOk result (IsDue world.new key EndStep) }
     ensures told { IfErr result (WasToldOrder world.new) }
     ensures goes { Goes world.old world.new }
 {
@@ -298,7 +308,8 @@ fn ask_turns<S: Shelf, V: Disk>(
     links: &mut Links,
 ) -> Result<(), AllocError>
     requires asks { (question : Question) × IsAsking world.old question }
-    ensures asks { (question : Question) → IsAsking world.old question → OnOk result (IsAsking world.new question) }
+    ensures asks { (question : Question)
+        → IsAsking world.old question → OnOk result (IsAsking world.new question) }
     ensures through { OnOk result ((queue_at world.new.flow exchange_place).messages ≡ []) }
     ensures order { OnOk result (KeepsOrder world.old world.new) }
     ensures told { OnErr result (WasToldOrder world.new (op.Stopped (answer.NoMemory false))) }

@@ -76,7 +76,8 @@ fn holding(alloc: Global, floor: &OpeningFloor) -> Result<MapShelf, Fail>
 /// A shelf in memory for each acceptor, each of which holds the floor and no other slot.
 fn shelves(alloc: Global, floor: &OpeningFloor) -> Result<Vec<MapShelf>, Fail>
     requires { floor.now.ballot ≡ record { counter = 7; proposer = 1 } }
-    ensures { IfOk result (λ shelves. (id : ℕ) (shelf : Contents) → IsAt shelves.items id shelf → AllBallotsFit shelf × HoldsFloors (opening_of floor.now ∷ []) shelf) }
+    ensures { IfOk result (λ shelves. (id : ℕ) (shelf : Contents) → IsAt shelves.items id shelf
+        → AllBallotsFit shelf × HoldsFloors (opening_of floor.now ∷ []) shelf) }
 {
     let mut shelves = Vec::new(alloc);
     for _place in 0..64usize {

@@ -104,7 +104,8 @@ impl<S: Shelf + Drop, V: Disk + Drop> Player<S, V> {
         requires floors { AreOpenings (openings_of floors.items) }
         requires counters { greatest_counter floors.items ≤ 2 ^ 48 }
         requires marks { vec_len floors ≤ most_marks }
-        requires held { MembersHold S.is_up S.contents members (openings_of floors.items) shelves.items }
+        requires held { MembersHold S.is_up S.contents members
+            (openings_of floors.items) shelves.items }
     {
         if config.acceptors == 0 || config.acceptors > 9 || config.proposers > 16 {
             return None;
@@ -376,7 +377,8 @@ impl<S: Shelf, V: Disk> Player<S, V> {
 /// Whether the caller of that number has an open call. `None` comes where there is no such caller.
 fn call_of(calls: &[bool; PROPOSERS], proposers: u8, caller: u8) -> Option<bool>
     requires { proposers ≤ 16 }
-    ensures { IfSome result (λ is_open. (caller ≤ proposers) × (slice_get calls.now caller ≡ Some is_open)) }
+    ensures { IfSome result (λ is_open. (caller ≤ proposers)
+        × (slice_get calls.now caller ≡ Some is_open)) }
 {
     if caller > proposers {
         return None;
@@ -417,7 +419,8 @@ fn is_collection(task: &Option<Task>) -> bool
 /// The number of the caller's last call.
 fn last_call<S: Shelf, V: Disk>(world: &World<S, V>, caller: u8) -> u32
     requires { caller ≤ world.now.last_proposer }
-    ensures { (seen : CallerView) → slice_get world.now.callers caller ≡ Some seen → seen.number ≡ result }
+    ensures { (seen : CallerView)
+        → slice_get world.now.callers caller ≡ Some seen → seen.number ≡ result }
 {
     world.next_call(caller) - 1
 }

@@ -43,7 +43,8 @@ fn gather_all<V: Grows>(top: &Top<V>, gatherer: &mut Place<V>, mut seats: Vec<Se
     requires turn { All (λ s. s.turn ≡ top.now.table_id) seats.items }
     requires idle { All (λ s. s.holds ≡ None) seats.items }
     ensures same { IsSamePlace gatherer.old gatherer.new }
-    ensures gathers { gatherer.new.me ≡ (Gathers (map known_by seats.items ++ them_of gatherer.old.me.0), []) }
+    ensures gathers { gatherer.new.me
+        ≡ (Gathers (map known_by seats.items ++ them_of gatherer.old.me.0), []) }
 {
     while let Some(seat) = seats.pop() {
         gather(top, gatherer, seat);
@@ -56,7 +57,8 @@ fn value_at_home<V: Grows>(board: Board<V>, gatherer: Place<V>) -> V
     requires gathers { gatherer.me ≡ (Gathers (them_of gatherer.me.0), []) }
     requires all { length (them_of gatherer.me.0) ≡ board.shared.key }
     ensures seats { V.seats result ≡ board.shared.key }
-    ensures them { All (λ k. HasSeenOwn V.owner k.number k.seen (V.list result) × (V.part result k.number ≡ k.own)) (them_of gatherer.me.0) }
+    ensures them { All (λ k. HasSeenOwn V.owner k.number k.seen (V.list result)
+        × (V.part result k.number ≡ k.own)) (them_of gatherer.me.0) }
 {
     let mut closed = board.close_with(gatherer);
     let home = closed.take(VALUE);

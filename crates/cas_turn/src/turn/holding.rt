@@ -33,11 +33,18 @@ impl<V: Grows> Turn<V> {
         requires turn { seat.old.turn ≡ self.now.id }
         requires holds { IsSome seat.old.holds }
         requires grows { ForSome seat.old.holds (λ before. Begins (V.list before) (V.list value)) }
-        requires lawful { ForSome seat.old.holds (λ before. V.may_add (added_to (V.list before) (V.list value))) }
-        requires owned { ForSome seat.old.holds (λ before. OnlyOwnedBy V.owner seat.old.number (added_to (V.list before) (V.list value))) }
+        requires lawful { ForSome seat.old.holds
+            (λ before. V.may_add (added_to (V.list before) (V.list value))) }
+        requires owned { ForSome seat.old.holds (λ before. OnlyOwnedBy V.owner seat.old.number
+            (added_to (V.list before) (V.list value))) }
         requires seats { ForSome seat.old.holds (λ before. V.seats value ≡ V.seats before) }
-        requires others { ForSome seat.old.holds (λ before. (n : ℕ) → n ≢ seat.old.number → V.part value n ≡ V.part before n) }
-        ensures seat { seat.new ≡ record seat.old { holds = None; seen = V.list value; own = V.part value seat.old.number } }
+        requires others { ForSome seat.old.holds (λ before. (n : ℕ)
+            → n ≢ seat.old.number → V.part value n ≡ V.part before n) }
+        ensures seat { seat.new ≡ record seat.old {
+          holds = None;
+          seen = V.list value;
+          own = V.part value seat.old.number;
+        } }
         ensures seats { V.seats value ≡ seat.old.seats }
     {
         give_turn(&self.board.shared, &mut seat.place, value);

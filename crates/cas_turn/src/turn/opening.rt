@@ -33,7 +33,8 @@ fn board_of<V: Grows>(
     requires unowned { All (λ i. V.owner i ≡ None) (V.list value) }
     requires no_parts { (n : ℕ) → V.part value n ≡ [] }
     requires seats { V.seats value ≡ seats }
-    ensures board { IfOk result (λ b. IsPlaceOf b.0.shared.table_id b.1 × (b.0.shared.key ≡ seats)) }
+    ensures board { IfOk result (λ b. IsPlaceOf b.0.shared.table_id b.1
+        × (b.0.shared.key ≡ seats)) }
     ensures place { IfOk result (λ b. b.1.me ≡ (Opens 0 seats, [])) }
     ensures err { IfErr result (λ e. e.1 ≡ value) }
 {
