@@ -7,7 +7,7 @@ ghost use Rattle.cas_ballot.specs.Members.{has_member, IsMemberSet};
 ghost use Rattle.cas_record.specs.declared.entry.Entry.{Entry};
 ghost use Rattle.cas_record.specs.declared.mark.Mark.{Mark};
 ghost use Rattle.cas_record.specs.Histories.Chain.{chain_of, top_of, settled_of};
-ghost use Rattle.cas_record.specs.Legal.{IsFirstProposal, IsFirstEnd, IsBegun, DoesStand, HasVotes, IsOpeningFloor, IsFloor, harms_due, tells_refused, tells_unsettled};
+ghost use Rattle.cas_record.specs.Legal.{IsFirstProposal, IsFirstEnd, IsBegun, DoesStand, HasVotes, IsOpeningFloor, IsFloor, harms_due, tells_refused};
 ghost use Rattle.cas_record.specs.Places.{IsPrefix};
 ghost use Rattle.cas_audit.specs.Told.{node_of, chain_from, Reaches};
 ghost use Rattle.cas_audit.specs.Tables.{AreTables, IsAudit, ChangeAt, IsChangeAt, key_at};
@@ -37,17 +37,6 @@ fn tells_refused(answer: &Answer) -> bool
         Answer::Done { .. } | Answer::Unsettled { .. } => false,
         Answer::NoMemory { proposed } => !*proposed,
         _ => true,
-    }
-}
-
-/// Whether an answer tells that the change was proposed, and may yet stand.
-fn tells_unsettled(answer: &Answer) -> bool
-    ensures { result ≡ tells_unsettled answer.now }
-{
-    match answer {
-        Answer::Unsettled { .. } => true,
-        Answer::NoMemory { proposed } => *proposed,
-        _ => false,
     }
 }
 
@@ -340,7 +329,7 @@ impl Tables {
         if self.call_of(caller, call).proposed.is_some() {
             !tells_refused(answer)
         } else {
-            !tells_unsettled(answer)
+            !answer.tells_unsettled()
         }
     }
 

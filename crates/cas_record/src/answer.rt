@@ -2,6 +2,7 @@
 
 ghost use Rattle.std.specs.Prelude.{◌≡◌};
 ghost use Rattle.cas_record.specs.Answers.{is_conflict, is_refusal};
+ghost use Rattle.cas_record.specs.Legal.{tells_unsettled};
 
 use cas_ballot::{AcceptorId, Ballot};
 use cas_change::{State, Took};
@@ -75,6 +76,17 @@ impl Answer {
         ensures { result ≡ is_refusal self.now }
     {
         matches!(self, Answer::RecordFull | Answer::NoMemory { .. })
+    }
+
+    /// Whether the change of a call that is answered so was proposed, and may yet stand.
+    pub fn tells_unsettled(&self) -> bool
+        ensures { result ≡ tells_unsettled self.now }
+    {
+        match self {
+            Answer::Unsettled { .. } => true,
+            Answer::NoMemory { proposed } => *proposed,
+            _ => false,
+        }
     }
 }
 

@@ -1,7 +1,7 @@
 //! One attempt to serve a request: the register is read, and changed where the request is next.
 
 ghost use Rattle.std.specs.Prelude.{◌≡◌, ◌≤◌, [], ◌∷◌, List, ℕ, IfOk, MatchOption};
-ghost use Rattle.cas_record.specs.Legal.{IsLegal, tells_unsettled};
+ghost use Rattle.cas_record.specs.Legal.{IsLegal};
 ghost use Rattle.cas_session_text.specs.Contents.{SessionContents, IsContents, IsLastReply, StandsFor, after_reply, contents_text};
 ghost use Rattle.cas_session.specs.Request.{request_of, one_clause, guard_for, change_to};
 ghost use Rattle.cas_session.specs.Serving.{HasGoneOn, WasTried, may_follow, ends_by, ends_with, without_memory};
@@ -170,17 +170,6 @@ fn may_follow(answer: &Answer) -> bool
     matches!(answer, Answer::Conflict { .. } | Answer::Unsettled { .. })
 }
 
-/// Whether the change of a call that was answered so may yet stand.
-fn tells_unsettled(answer: &Answer) -> bool
-    ensures { result ≡ tells_unsettled answer.now }
-{
-    match answer {
-        Answer::Unsettled { .. } => true,
-        Answer::NoMemory { proposed } => *proposed,
-        _ => false,
-    }
-}
-
 /// How an attempt ends by a call that was not done.
 fn ends_by(answer: Answer, pending: bool) -> Ending
     ensures { result ≡ ends_by answer pending }
@@ -212,7 +201,7 @@ fn ends_with(reply: &LastReply, answer: Answer, pending: bool) -> Ending
             pending,
         },
         _ => {
-            let may_stand = pending || tells_unsettled(&answer);
+            let may_stand = pending || answer.tells_unsettled();
             ends_by(answer, may_stand)
         }
     }
