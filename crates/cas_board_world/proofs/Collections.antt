@@ -88,7 +88,7 @@ renew_blamed {S} {V} m old proposer new is by = by_case by.renews
         }) leaves) by.at.order None (record (confirmed_step by.at.collection) { ages = by.at.collection.ages ++ age ∷ [] }) tt)
     by_case (collect.is_down down view) = subst (IsBlamed m) (sym view) (on_telling m is (told.ProposerDown proposer) (record { one = by.desk; at = by.at_desk; failed = is.failed proposer by.desk by.at_desk down }))
     by_case (collect.fails middle down view) =
-        let failed = down_blamed m (FailsToRenew m.disks) old proposer middle is (λ desk now fails. fails.faulted) down in
+        let failed = down_blamed m (FailsToRenew m.disks _) old proposer middle is (λ desk now fails. fails.faulted) down in
         subst (IsBlamed m) (sym view) (on_telling m failed.0 (told.ProposerDown proposer) failed.1)
     by_case (collect.is_spent up spent view) = subst (IsBlamed m) (sym view) (on_telling m is (told.Stopped answer.Spent) tt)
     by_case (collect.no_memory now up finds view) =

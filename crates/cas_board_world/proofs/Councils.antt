@@ -116,7 +116,7 @@ ask_blamed {S} {V} m old question new is by = by_case by.asks
     by_case (council.is_spent now up spent kept now_is view) =
         subst (IsBlamed m) (sym view) (on_telling m (desk_goes_on m is 0 by.desk now by.may.at_desk (stays_above kept.goes_on.never_falls) (ap (λ (d : DeskView V). d.down) now_is)) (told.Stopped answer.Spent) tt)
     by_case (council.fails now up drawn view) =
-        let fails : FailsToDraw m.disks [] by.desk now = was_drawn (listing_for old.council question) (FailsToDraw m.disks [] by.desk now) drawn in
+        let fails : FailsToDraw m.disks by.desk.cache by.desk now = was_drawn (listing_for old.council question) (FailsToDraw m.disks by.desk.cache by.desk now) drawn in
         let failed = desk_failed m is 0 by.desk now by.may.at_desk fails.faulted in
         subst (IsBlamed m) (sym view) (on_telling m failed.0 (told.Stopped answer.VaultFault) failed.1)
     by_case (council.no_memory now tag up loses view) =

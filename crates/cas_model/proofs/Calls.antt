@@ -4,6 +4,7 @@ pub mod Caches
 pub mod Counts
 pub mod Draws
 pub mod Ends
+pub mod Failing
 pub mod Proposals
 pub mod Rounds
 pub mod Safe

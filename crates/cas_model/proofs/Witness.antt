@@ -27,6 +27,9 @@ use Rattle.cas_slot.specs.Table.{Handles}
 use Rattle.cas_vault.specs.declared.kept.Kept.{Kept}
 use Rattle.cas_vault.specs.declared.vault.Vault.{Vault}
 use Rattle.cas_vault.specs.Vault.{kept_to_draw}
+use Rattle.cas_vault.specs.Codec.{spelling}
+use Rattle.cas_vault.specs.Vault.{KeptOn}
+use Rattle.cas_cells.specs.Format.{frame_place, frame_size}
 use Rattle.cas_vault.proofs.Keeping.{same_kept}
 use Rattle.cas_acceptor.specs.Acceptor.{AcceptorView}
 use Rattle.cas_proposer.specs.Desk.{DeskView}
@@ -56,7 +59,7 @@ use Rattle.cas_model.specs.Frames.Acceptors.{AnswersByTable, StopsWithin}
 use Rattle.cas_model.specs.Calls.Step as calls
 use Rattle.cas_model.specs.Calls.Step.{Sends, prepares_to, accepts_to}
 use Rattle.cas_model.specs.Frames.Step as frames
-use Rattle.cas_model.specs.Calls.Desks.{VaultGoesOn, HasDrawn, Restarts}
+use Rattle.cas_model.specs.Calls.Desks.{VaultGoesOn, HasDrawn, IsRideDue, Restarts}
 use Rattle.cas_model.specs.View.{View, CallView, CallerView, IsAt, new_caller, new_call, with_acceptor}
 use Rattle.cas_model.specs.Witness.{ToyShelf, ToyDisk, toys, ShownHistory}
 use Rattle.cas_protocol.proofs.Handling as handling
@@ -77,6 +80,24 @@ two = at 2 1
 -- what a vault keeps; it draws below that bound
 abbrev kept : Kept
 kept = record { bound = 100; age = 0; era = 0 }
+
+-- the image of a disk that keeps it
+kept_image : List ℕ
+kept_image = 1 ∷ 0 ∷ 0 ∷ 29 ∷ spelling kept ++ replicate 991 0
+
+kept_shown : KeptOn kept kept_image
+unfolding frame_place frame_size
+kept_shown = record {
+  fits = record { bound = omega arith; age = omega arith; era = omega arith };
+  row = record { sound = refl; same = refl };
+}
+
+-- a ballot is to ride for proposer 1, whose counter is low
+low_due : (counter : ℕ) (ballot : Ballot) → counter ≤ 100 → IsRideDue 1 counter (Some ballot)
+low_due counter ballot low over = elim over [
+  | inl none ↦ cc none
+  | inr full ↦ absurd (omega (arith, low, full))
+]
 
 -- the vaults of the proposers have the memory of some vault
 module _ {D : Type 0} (begun : Vault D) where
@@ -442,6 +463,7 @@ module _ {D : Type 0} (begun : Vault D) where
             accepting = refl;
             accepts = λ replies h. record { phase = record { same_era = refl; same_ballot = refl; tally = tally.nothing is_acceptance }; met = h.met };
           };
+          due = low_due 1 two (omega arith);
           drawn = draws 1 1 (omega arith) (omega arith) refl;
           aged = λ tells. in_age 2;
           desk = refl;
@@ -583,7 +605,7 @@ module _ {D : Type 0} (begun : Vault D) where
     };
     accepting = refl;
     counts = calls.counts desk_ready (1 ∷ 2 ∷ []) made refl (record { prepare = λ replies h. absurd h.phase; accept = λ prepared replies h. h.phase.tally.confirmed }) refl
-        (record { desk = refl; counter = refl; goes_on = goes_on 2 2 (omega arith) }) refl;
+        (record { desk = refl; counter = refl; kept = refl; goes_on = goes_on 2 2 (omega arith) }) refl;
   }
 
   abbrev marks_ended : List Mark
@@ -667,6 +689,7 @@ module _ {D : Type 0} (begun : Vault D) where
         (record {
           none_open = refl;
           promise = refl;
+          due = low_due 2 (at 3 1) (omega arith);
           drawn = draws 1 2 (omega arith) (omega arith) refl;
           aged = λ tells. in_age 3;
           opened = (
@@ -776,7 +799,7 @@ module _ {D : Type 0} (begun : Vault D) where
 
   step_crashed : Step toys view_met (CrashProposer 2) view_crashed
   step_crashed = of_client (λ same. cc same) (closes desk_other down_other (preparing other []) (record { caller = caller_other; at_caller = refl; call = new_call key_a program 19; is_open = refl }) refl refl
-      (record { crashed = refl; goes_on = goes_on 1 1 (omega arith) }) refl)
+      (record { crashed = refl; shows = record { counter = refl; kept = refl }; goes_on = goes_on 1 1 (omega arith) }) refl)
 
   abbrev marks_crashed : List Mark
   marks_crashed = marks_other ++ Ended 2 1 1 answer.Crashed ∷ []
@@ -791,20 +814,23 @@ module _ {D : Type 0} (begun : Vault D) where
   }
 
   abbrev view_last : View ToyShelf ToyDisk
-  view_last = with_other (record (idle_desk 2) { vault = vault_at 1 }) (record { number = 1; call = None }) queue_left late_other marks_crashed
+  view_last = with_other (record (idle_desk 2) { vault = vault_at 100 }) (record { number = 1; call = None }) queue_left late_other marks_crashed
 
-  restarted : Restarts toys.disks down_other (record (idle_desk 2) { vault = vault_at 1 })
+  restarted : Restarts toys.disks down_other (record (idle_desk 2) { vault = vault_at 100 })
   restarted = record {
     desk = refl;
-    still_past = λ tells n past. past;
-    ages = λ tells age is. is;
+    counter = λ up. refl;
+    image = λ up tells. (kept_image, kept_shown, kept_shown);
+    unread = λ down. absurd (cc down);
+    still_past = (goes_on 1 100 (omega arith)).still_past;
+    ages = (goes_on 1 100 (omega arith)).ages;
     shows = λ up tells e other is. inl (record { kept = is.kept; left = λ c k may on. inl (ap (λ (x : Kept). x.era) (same_kept k kept c on may) ∙ is.kept) });
     stays = λ down. absurd (cc down);
     never_falls = omega arith;
   }
 
   step_last : Step toys view_over (RestartProposer 2) view_last
-  step_last = restarts down_other (record (idle_desk 2) { vault = vault_at 1 }) (record { number = 1; call = None }) refl refl refl restarted refl
+  step_last = restarts down_other (record (idle_desk 2) { vault = vault_at 100 }) (record { number = 1; call = None }) refl refl refl restarted refl
 
   history_last : History toys three view_last
   history_last = steps view_over (RestartProposer 2) view_last (steps view_crashed (End 2 answer.Crashed) view_over (steps view_met (CrashProposer 2) view_crashed

@@ -82,8 +82,8 @@ impl<V: Disk> Desk<V> {
 
     /// Opens a round of the key in this era: in its accept phase exactly where the key has a promise, which is then used up, and
     /// otherwise in its prepare phase at a ballot that is drawn. `Spent` comes exactly where there is no promise and the counter is
-    /// 2^48, if memory is found. The desk is down after `VaultFault`; after each error no round is open and the promises are as
-    /// before. While the desk is up, a crash of its vault leaves bound, age and era as they are.
+    /// 2^48, if memory is found. The desk is down after `VaultFault`, which comes only where the key has no promise; after each error no
+    /// round is open and the promises are as before. While the desk is up, a crash of its vault leaves bound, age and era as they are.
     pub fn begin(&mut self, era: &Era, key: &Key) -> Result<Began, VaultError>
         requires up { self.old.down ≡ false }
         requires idle { self.old.round ≡ None }
@@ -118,6 +118,8 @@ impl<V: Disk> Desk<V> {
             → counter_of self.old.vault ≡ 2 ^ 48
             → IsErrOf result VaultError.Spent ⊎ IsErrOf result VaultError.NoMemory }
         ensures not_foreign { IsNotForeign result }
+        ensures faulted { IsErrOf result VaultError.VaultFault
+            → promise_at key.now self.old.cache ≡ None }
         ensures refused { OnErr result (self.new ≡ record self.old {
           vault = self.new.vault;
           down = self.new.down;

@@ -107,7 +107,7 @@ fn grow_older<V: Disk>(
         (closed_with (λ proposed. aged_answer proposed age))
         proposer desk.old desk.new caller.old caller.new flow.old flow.new) }
     ensures fault { IsErrOf result VaultError.VaultFault
-        → LeavesDesk (FailsToRenew (disk_meaning V.Disk)) (closed_with crash_answer)
+        → LeavesDesk (FailsToRenew (disk_meaning V.Disk) tomb) (closed_with crash_answer)
         proposer desk.old desk.new caller.old caller.new flow.old flow.new }
     ensures spent { IsErrOf result VaultError.Spent
         → ((kept_of desk.old.vault).age ≡ 2 ^ 48) × (desk.new ≡ desk.old) }

@@ -6,16 +6,17 @@ use Rattle.cas_cache.specs.declared.ready.Ready.{Ready}
 use Rattle.cas_change.specs.declared.program.Clause.{Clause}
 use Rattle.cas_change.specs.declared.state.State.{State}
 use Rattle.cas_change.specs.Outcome.{outcome_of}
+use Rattle.cas_cache.specs.Entries.{without}
 use Rattle.cas_proposer.specs.Desk.{DeskView}
 use Rattle.cas_proposer.specs.declared.round.Round.{Round}
 use Rattle.cas_record.specs.declared.answer.Answer.{Answer}
 use Rattle.cas_record.specs.declared.answer.Answer.TheVariants as answer
 use Rattle.cas_flow.specs.Flow.{FlowView}
 use Rattle.cas_quorum.specs.declared.era.Era.{Era}
-use Rattle.cas_vault.specs.Vault.{kept_of}
+use Rattle.cas_vault.specs.Vault.{counter_of, kept_of}
 use Rattle.cas_model.specs.Parties.{IsAged}
 use Rattle.cas_model.specs.Calls.Step.{Sends, accepts_to}
-use Rattle.cas_model.specs.Calls.Desks.{MayHaveDrawn, FailsToDraw, LosesMemory}
+use Rattle.cas_model.specs.Calls.Desks.{IsRideDue, MayHaveDrawn, FailsToDraw, LosesMemory}
 use Rattle.cas_model.specs.View.{DiskMeaning}
 use Rattle.cas_record.specs.declared.mark.Mark.TheVariants.{Proposed}
 use Rattle.cas_world_calls.specs.declared.proposal.Author.{Author}
@@ -36,6 +37,7 @@ proposing_of author key era program ready = record {
 
 -- the ballot that rides with the accepts of the open round is drawn, or there is none; its vault keeps the age, wherever it stops
 pub record RidesOn {V : Type 0} (m : DiskMeaning V) (round : Round) (old new : DeskView V) (ride : Option Ballot) : Type 0 where
+  pub due : IsRideDue old.id (counter_of old.vault) ride
   pub drawn : MayHaveDrawn m old.id old.vault new.vault ride
   pub aged : m.tells → IsAged m (kept_of old.vault).age new.vault
   pub desk : new ≡ record old { vault = new.vault; round = Some (record round { ride = ride }) }
@@ -49,6 +51,6 @@ pub record ProposesOn {V : Type 0} (m : DiskMeaning V) (round : Round) (old new 
 
 -- why a round of the key ends before it proposes
 abbrev pub FailsToPropose : {V : Type 0} → DiskMeaning V → List ℕ → DeskView V → DeskView V → Answer → Type 0
-FailsToPropose m key old new answer.VaultFault = FailsToDraw m key old new
+FailsToPropose m key old new answer.VaultFault = FailsToDraw m (without key old.cache) old new
 FailsToPropose m key old new (answer.NoMemory proposed) = (proposed ≡ false) × (ballot : Option Ballot) × LosesMemory m key old new ballot
 FailsToPropose m key old new other = ⊥

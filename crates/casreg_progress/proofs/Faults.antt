@@ -88,8 +88,8 @@ drawn_low : {V : Type 0} (m : DiskMeaning V) (id : ℕ) (old new : Vault V) (bal
 drawn_low m id old new None kept = kept.goes_on.never_falls
 drawn_low m id old new (Some ballot) drawn = drawn.goes_on.never_falls
 
-keeps_failed : {V : Type 0} (m : DiskMeaning V) (was now : DeskView V) (key : List ℕ) → was.down ≡ false → FailsToDraw m key was now → Keeps m was now
-keeps_failed {V} m was now key up fails = record {
+keeps_failed : {V : Type 0} (m : DiskMeaning V) {promises : _} (was now : DeskView V) → was.down ≡ false → FailsToDraw m promises was now → Keeps m was now
+keeps_failed {V} m was now up fails = record {
   out = λ down none. absurd (not_both was.down down up);
   up = λ still. inr (ap (λ (d : DeskView V). d.down) fails.desk, ap (λ (d : DeskView V). d.round) fails.desk, fails.faulted);
 }
@@ -187,7 +187,7 @@ begin_kept {S} {V} m old new id key program by = kept_both m old by.middle new i
     in_round (calls.stays told no_beginning no_round full is) = kept_same m by.middle new id (ap (λ (w : View S V). w.acceptors) is) (ap (λ (w : View S V). w.desks) is)
     in_round (calls.spent desk now at none_open up no_promise spent kept now_is is) = kept_desk m by.middle new id desk now at
         (keeps_up m.disks desk now up (ap (λ (d : DeskView V). d.down) now_is) kept.goes_on.never_falls) (ap (λ (w : View S V). w.acceptors) is) (ap (λ (w : View S V). w.desks) is)
-    in_round (calls.fails desk now at none_open up fails is) = kept_desk m by.middle new id desk now at (keeps_failed m.disks desk now by.call.key up fails) (ap (λ (w : View S V). w.acceptors) is) (ap (λ (w : View S V). w.desks) is)
+    in_round (calls.fails desk now at none_open up fails is) = kept_desk m by.middle new id desk now at (keeps_failed m.disks desk now up fails) (ap (λ (w : View S V). w.acceptors) is) (ap (λ (w : View S V). w.desks) is)
     in_round (calls.loses desk now ballot at none_open up loses is) = kept_desk m by.middle new id desk now at (keeps_lost m.disks desk now by.call.key ballot up loses) (ap (λ (w : View S V). w.acceptors) is) (ap (λ (w : View S V). w.desks) is)
 
 no_begin_kept : {S V : Type 0} (m : Meaning S V) (old new : View S V) (id : ℕ) (key : List ℕ) → calls.RefusesCall m old id key new → Kept m old new id
@@ -202,7 +202,7 @@ propose_kept {S} {V} m old new id by = in_phase by.at_round.of_call by.at_round.
         (keeps_up m.disks desk now up (ap (λ (d : DeskView V). d.down) turns.desk) (drawn_low m.disks desk.id desk.vault now.vault ride turns.drawn)) (ap (λ (w : View S V). w.acceptors) is) (ap (λ (w : View S V). w.desks) is)
     in_phase at desk there up round (calls.ends now verdict told verdict_is refuses ends is) = kept_desk m old new id desk now there
         (keeps_up m.disks desk now up (ap (λ (d : DeskView V). d.down) ends.desk) ends.goes_on.never_falls) (ap (λ (w : View S V). w.acceptors) is) (ap (λ (w : View S V). w.desks) is)
-    in_phase at desk there up round (calls.fails now fails is) = kept_desk m old new id desk now there (keeps_failed m.disks desk now round.key up fails) (ap (λ (w : View S V). w.acceptors) is) (ap (λ (w : View S V). w.desks) is)
+    in_phase at desk there up round (calls.fails now fails is) = kept_desk m old new id desk now there (keeps_failed m.disks desk now up fails) (ap (λ (w : View S V). w.acceptors) is) (ap (λ (w : View S V). w.desks) is)
     in_phase at desk there up round (calls.loses now ballot loses is) = kept_desk m old new id desk now there (keeps_lost m.disks desk now round.key ballot up loses) (ap (λ (w : View S V). w.acceptors) is) (ap (λ (w : View S V). w.desks) is)
 
 count_kept : {S V : Type 0} (m : Meaning S V) (old new : View S V) (id : ℕ) → StepCount m old id new → Kept m old new id

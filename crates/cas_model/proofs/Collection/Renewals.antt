@@ -5,6 +5,8 @@ use Rattle.cas_proposer.specs.Desk.{DeskView}
 use Rattle.cas_proposer.specs.declared.round.Round.{Round}
 use Rattle.cas_ballot.specs.declared.ballot.Ballot.{Ballot}
 use Rattle.cas_cache.specs.declared.ready.Ready.{Ready}
+use Rattle.cas_cache.specs.Entries.{without}
+use Rattle.cas_model.proofs.Calls.Failing.{failed_without, failed_still}
 use Rattle.cas_change.specs.declared.program.Clause.{Clause}
 use Rattle.cas_fate.specs.declared.fate.Verdict.{Verdict}
 use Rattle.cas_flow.specs.declared.message.Message.{Message}
@@ -82,8 +84,9 @@ loses_above m key old new ballot tells by =
     let on = then_on (goes_on m old.id old.vault by.middle ballot by.drawn) by.goes_on in
     idle_above m old new (on.still_past tells) (on.ages tells) (ap (λ (d : DeskView _). d.round) by.desk) (fewer_in key old.cache new.cache by.cache)
 
-fails_above : {V : Type 0} (m : DiskMeaning V) (key : List ℕ) (old new : DeskView V) → m.tells → FailsToDraw m key old new → KeepsAbove m old new
-fails_above m key old new tells by = idle_above m old new (by.goes_on.still_past tells) (by.goes_on.ages tells) (ap (λ (d : DeskView _). d.round) by.desk) (fewer_in key old.cache new.cache by.cache)
+fails_above : {V : Type 0} (m : DiskMeaning V) (key : List ℕ) {promises : List (List ℕ × Ready)} (old new : DeskView V) → m.tells → FailsToDraw m promises old new → (new.cache ≡ old.cache) ⊎ (new.cache ≡ without key old.cache)
+    → KeepsAbove m old new
+fails_above m key old new tells by fewer = idle_above m old new (by.goes_on.still_past tells) (by.goes_on.ages tells) (ap (λ (d : DeskView _). d.round) by.desk) (fewer_in key old.cache new.cache fewer)
 
 begins_renewed : {S V : Type 0} (m : Meaning S V) (old new : View S V) (id : ℕ) (caller : CallerView) (call : CallView) → m.disks.tells → calls.BeginsRound m old id caller call new → AreRenewed m old → AreRenewed m new
 begins_renewed m old new id caller call tells (calls.prepares desk now ballot round flow at up few begins sends is) were =
@@ -94,7 +97,7 @@ begins_renewed m old new id caller call tells (calls.stays told no_beginning no_
 begins_renewed m old new id caller call tells (calls.spent desk now at none up no_promise spent kept now_is is) were =
     one_moved m old new id desk now (collection_of is) (desks_of is) at
     (vault_above m.disks desk now (kept.goes_on.still_past tells) (kept.goes_on.ages tells) (ap (λ (d : DeskView _). d.round) now_is) (ap (λ (d : DeskView _). d.cache) now_is)) were
-begins_renewed m old new id caller call tells (calls.fails desk now at none up fails is) were = one_moved m old new id desk now (collection_of is) (desks_of is) at (fails_above m.disks call.key desk now tells fails) were
+begins_renewed m old new id caller call tells (calls.fails desk now at none up fails is) were = one_moved m old new id desk now (collection_of is) (desks_of is) at (fails_above m.disks call.key desk now tells fails (failed_without m.disks call.key desk now fails)) were
 begins_renewed m old new id caller call tells (calls.loses desk now ballot at none up loses is) were = one_moved m old new id desk now (collection_of is) (desks_of is) at (loses_above m.disks call.key desk now ballot tells loses) were
 
 -- what becomes of a rescan leaves the collection
@@ -126,7 +129,7 @@ propose_renewed : {S V : Type 0} (m : Meaning S V) (old new : View S V) (id : �
 propose_renewed m old new id at tells (calls.proposes now turned read by ride outcome flow quorum confirmers reads turns made sends is) were =
     one_moved m old new id at.desk now (collection_of is) (desks_of is) at.at_desk (turns_above m.disks at.desk now at.round turned ride tells at.is_open turns) were
 propose_renewed m old new id at tells (calls.ends now verdict told verdict_is refuses ends is) were = one_moved m old new id at.desk now (collection_of is) (desks_of is) at.at_desk (ends_plainly_above m.disks at.desk now at.round tells ends) were
-propose_renewed m old new id at tells (calls.fails now fails is) were = one_moved m old new id at.desk now (collection_of is) (desks_of is) at.at_desk (fails_above m.disks at.round.key at.desk now tells fails) were
+propose_renewed m old new id at tells (calls.fails now fails is) were = one_moved m old new id at.desk now (collection_of is) (desks_of is) at.at_desk (fails_above m.disks at.round.key at.desk now tells fails (failed_without m.disks at.round.key at.desk now fails)) were
 propose_renewed m old new id at tells (calls.loses now ballot loses is) were = one_moved m old new id at.desk now (collection_of is) (desks_of is) at.at_desk (loses_above m.disks at.round.key at.desk now ballot tells loses) were
 
 count_renewed : {S V : Type 0} (m : Meaning S V) (old new : View S V) (id : ℕ) (at : OpenRoundAt old id) → m.disks.tells → calls.CountsOrEnds m old id at.desk at.round at.of_call.caller at.of_call.call new → AreRenewed m old → AreRenewed m new
@@ -200,7 +203,9 @@ ask_renewed {S} {V} m old new question tells by were = in_case by.asks
     in_case (council.is_down down is) = none_moved m old new (collection_of is) (desks_of is) were
     in_case (council.is_full up full is) = none_moved m old new (collection_of is) (desks_of is) were
     in_case (council.is_spent now up spent kept is_now is) = one_moved m old new 0 by.desk now (collection_of is) (desks_of is) at (on now is_now kept.goes_on) were
-    in_case (council.fails now up fails is) = one_moved m old new 0 by.desk now (collection_of is) (desks_of is) at (fails_above m.disks [] by.desk now tells (where_drawn (council.listing_for old.council question) fails)) were
+    in_case (council.fails now up fails is) =
+        let failed = where_drawn (council.listing_for old.council question) fails in
+        one_moved m old new 0 by.desk now (collection_of is) (desks_of is) at (fails_above m.disks [] by.desk now tells failed (failed_still m.disks [] by.desk now failed)) were
     in_case (council.no_memory now tag up loses is) = one_moved m old new 0 by.desk now (collection_of is) (desks_of is) at (loses_above m.disks [] by.desk now tag tells loses) were
 
 exchange_renewed : {S V : Type 0} (m : Meaning S V) (old new : View S V) (v : Verdict) (front : Message) (exchange : ExchangeView) → council.TurnsExchange m old v front exchange new → AreRenewed m old → AreRenewed m new

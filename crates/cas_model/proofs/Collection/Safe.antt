@@ -150,7 +150,7 @@ renew_safe {S} {V} m old new id was by = in_case by.renews
         (ap (λ (f : Frame). reserved_for_order f.council.order) same ∙ ap reserved_for_order by.at.is_open)
         (as_before middle.council by.at.collection (ap (λ (f : Frame). f.council.collection) same ∙ by.at.is_collection)))
     in_case (collect.is_down down view) = subst IsSound (sym view) (told_view_safe old _ was)
-    in_case (collect.fails middle down view) = subst IsSound (sym view) (told_view_safe middle _ (down_safe old id (FailsToRenew m.disks) middle (λ desk now fails. fails.crashed) was down))
+    in_case (collect.fails middle down view) = subst IsSound (sym view) (told_view_safe middle _ (down_safe old id (FailsToRenew m.disks _) middle (λ desk now fails. fails.crashed) was down))
     in_case (collect.is_spent up spent view) = subst IsSound (sym view) (told_view_safe old _ was)
     in_case (collect.no_memory now up finds view) = subst IsSound (sym view) (told_view_safe (with_desk old id now) _ (revault_safe old id by.desk now was by.at_desk finds.desk))
 

@@ -515,12 +515,12 @@ has_left {S} {V} DeskTurns closed old new id (stops.idle desk now at none turns 
 has_left {S} {V} DeskTurns closed old new id (stops.closes desk now round of_call at is_round turns is) = record { desk = desk; now = now; at = at; turns = turns; desks = ap (λ (w : View S V). w.desks) is }
 
 -- its vault failed within that
-fails_renewal : {S V : Type 0} (m : Meaning S V) (old : View S V) (proposer : ℕ) (middle : View S V) → m.disks.tells → IsRemembered m old → GoesDown (FailsToRenew m.disks) old proposer middle → IsRemembered m middle
-fails_renewal {S} {V} m old proposer middle disks is down = record {
-  followed = same_course m old middle (down_course (FailsToRenew m.disks) old middle proposer down)
-      (down_logged m old proposer (FailsToRenew m.disks) middle (λ desk now by. (by.crashed, record { still_past = by.goes_on.still_past disks; ages = by.goes_on.ages disks })) is.followed.logged down) is.followed.course
-      (down_in m (course_of old) (FailsToRenew m.disks) old middle proposer (λ desk now at by. era_kept m (course_of old) proposer (up_kept m.disks disks by.up by.goes_on) (is.followed.in_eras proposer desk at).1) down is.followed.in_eras);
-  renewed = down_renewed m old middle proposer (FailsToRenew m.disks)
+fails_renewal : {S V : Type 0} (m : Meaning S V) (old : View S V) (proposer : ℕ) (tomb : Ballot) (middle : View S V) → m.disks.tells → IsRemembered m old → GoesDown (FailsToRenew m.disks tomb) old proposer middle → IsRemembered m middle
+fails_renewal {S} {V} m old proposer tomb middle disks is down = record {
+  followed = same_course m old middle (down_course (FailsToRenew m.disks tomb) old middle proposer down)
+      (down_logged m old proposer (FailsToRenew m.disks tomb) middle (λ desk now by. (by.crashed, record { still_past = by.goes_on.still_past disks; ages = by.goes_on.ages disks })) is.followed.logged down) is.followed.course
+      (down_in m (course_of old) (FailsToRenew m.disks tomb) old middle proposer (λ desk now at by. era_kept m (course_of old) proposer (up_kept m.disks disks by.up by.goes_on) (is.followed.in_eras proposer desk at).1) down is.followed.in_eras);
+  renewed = down_renewed m old middle proposer (FailsToRenew m.disks tomb)
       (λ desk now by. idle_above m.disks desk now (by.goes_on.still_past disks) (by.goes_on.ages disks) (ap (λ (d : DeskView V). d.round) by.crashed)
       (λ entry h. absurd (contains_none (subst (λ (l : List (List ℕ × Ready)). Contains l entry) (ap (λ (d : DeskView V). d.cache) by.crashed) h)))) down is.renewed;
 }
@@ -621,7 +621,7 @@ renews {S} {V} m old proposer new disks is by = by_case by.renews
     by_case : RenewsNext m old by.at proposer by.desk new → IsRemembered m new
     by_case (collect.renews age middle leaves view) = subst (IsRemembered m) (sym view) (renewed_case age middle leaves)
     by_case (collect.is_down down view) = subst (IsRemembered m) (sym view) (told_remembered m old _ is)
-    by_case (collect.fails middle down view) = subst (IsRemembered m) (sym view) (told_remembered m middle _ (fails_renewal m old proposer middle disks is down))
+    by_case (collect.fails middle down view) = subst (IsRemembered m) (sym view) (told_remembered m middle _ (fails_renewal m old proposer _ middle disks is down))
     by_case (collect.is_spent up spent view) = subst (IsRemembered m) (sym view) (told_remembered m old _ is)
     by_case (collect.no_memory now up finds view) = subst (IsRemembered m) (sym view) (told_remembered m (with_desk old proposer now) _ (moves_on m old proposer by.desk now disks is by.at_desk up finds.desk finds.goes_on))
 

@@ -212,7 +212,7 @@ renew_course {S} {V} m old new id by = in_case by.renews
     in_case (collect.renews age middle leaves view) =
         ap course_of view ∙ left_course (Renews m.disks by.at.collection.course.key (tomb_of by.at.collection.tombstone) age) (closed_by (answer.Aged age) (cause.Aged age)) old middle id leaves
     in_case (collect.is_down down view) = ap course_of view
-    in_case (collect.fails middle down view) = ap course_of view ∙ down_course (FailsToRenew m.disks) old middle id down
+    in_case (collect.fails middle down view) = ap course_of view ∙ down_course (FailsToRenew m.disks _) old middle id down
     in_case (collect.is_spent up spent view) = ap course_of view
     in_case (collect.no_memory now up finds view) = ap course_of view
 

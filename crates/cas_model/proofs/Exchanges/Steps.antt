@@ -10,6 +10,7 @@ use Rattle.cas_ballot.proofs.MemberLemmas.{members_where_tells, IsMemberSet-memb
 use Rattle.cas_flow.specs.Flow.{FlowView, queue_at, taken, abandoned}
 use Rattle.cas_flow.specs.declared.message.Message.{Message}
 use Rattle.cas_cache.specs.declared.ready.Ready.{Ready}
+use Rattle.cas_model.proofs.Calls.Failing.{failed_still}
 use Rattle.cas_change.specs.declared.state.State.{State}
 use Rattle.cas_proposer.specs.Desk.{DeskView, counter_without}
 use Rattle.cas_members.specs.declared.plan.PlanStep.TheVariants.{Settle}
@@ -344,11 +345,11 @@ quiets_desk {S} {V} m cluster global old id desk now at_desk idle quiet whole =
     })
 
 -- a desk of proposer 0 whose vault fails in the draw of the tag
-fails_whole : {S V : Type 0} (m : Meaning S V) (cluster : Cluster) (global : GlobalState) (old : View S V) (id : ℕ) (key : List ℕ) (desk now : DeskView V) → m.disks.tells → IsAt old.desks id desk → desk.round ≡ None → FailsToDraw m.disks key desk now
+fails_whole : {S V : Type 0} (m : Meaning S V) (cluster : Cluster) (global : GlobalState) (old : View S V) (id : ℕ) (desk now : DeskView V) → m.disks.tells → IsAt old.desks id desk → desk.round ≡ None → FailsToDraw m.disks desk.cache desk now
     → Whole m cluster global old → Whole m cluster global (with_desk old id now)
-fails_whole m cluster global old id key desk now tells at_desk idle by whole =
+fails_whole m cluster global old id desk now tells at_desk idle by whole =
     quiets_desk m cluster global old id desk now at_desk idle
-    (λ c at_c. quiet_fails m cluster global.log global.made id (era_at old id).number c (queue_at old.flow id).messages key desk now tells (whole.parties.desks id tt desk c at_desk at_c) by) whole
+    (λ c at_c. quiet_fails m cluster global.log global.made id (era_at old id).number c (queue_at old.flow id).messages [] desk now tells (whole.parties.desks id tt desk c at_desk at_c) by (failed_still m.disks [] desk now by)) whole
 
 -- at first no member has told anything
 pub none_told : (members : List ℕ) (place : ℕ) (answer : Answered) (told : Tell) → IsAt (map (λ member. record { acceptor = member; told = None }) members) place answer → answer.told ≡ Some told → ⊥
@@ -545,7 +546,7 @@ asks_all {S} {V} {cluster} m old question new tells is ready by = by_case by.ask
     by_case (council.is_full up full view) = subst (IsLogged m cluster) (sym view) (told_one old is.global _ whole is.agrees.marks)
     by_case (council.is_spent now up spent kept is_now view) = subst (IsLogged m cluster) (sym view) (told_one (with_desk old 0 now) is.global _ (drawn_whole now None kept is_now) is.agrees.marks)
     by_case (council.fails now up by_fault view) =
-        subst (IsLogged m cluster) (sym view) (told_one (with_desk old 0 now) is.global _ (fails_whole m cluster is.global old 0 [] by.desk now tells may.at_desk may.idle (where_drawn (listing_for old.council question) by_fault) whole) is.agrees.marks)
+        subst (IsLogged m cluster) (sym view) (told_one (with_desk old 0 now) is.global _ (fails_whole m cluster is.global old 0 by.desk now tells may.at_desk may.idle (where_drawn (listing_for old.council question) by_fault) whole) is.agrees.marks)
     by_case (council.no_memory now tag up by_loss view) =
         subst (IsLogged m cluster) (sym view) (told_one (with_desk old 0 now) (drew is.global tag [] era) _
         (lost m cluster is.global old 0 [] by.desk now tag tells may.at_desk may.idle by_loss may.caller may.at_caller whole) (drew_marks is.global.log [] era tag ∙ is.agrees.marks))

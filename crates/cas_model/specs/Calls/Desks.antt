@@ -1,5 +1,5 @@
 -- What a step does to a desk and its vault.
-use Rattle.std.specs.Prelude.{◌≡◌, ◌⊎◌, ℕ, ◌+◌, ◌≤◌, max, true, false, List, [], Option, None, Some}
+use Rattle.std.specs.Prelude.{◌≡◌, ◌⊎◌, ⊥, ℕ, ◌+◌, ◌^◌, ◌≤◌, max, true, false, List, [], Option, None, Some}
 use Rattle.cas_base.specs.Faults.{Rose}
 use Rattle.cas_ballot.specs.declared.ballot.Ballot.{Ballot}
 use Rattle.cas_ballot.specs.Ballot.{FitsBallot}
@@ -12,7 +12,7 @@ use Rattle.cas_proposer.specs.Round.{Hears, TurnsToAccept}
 use Rattle.cas_quorum.specs.declared.era.Era.{Era}
 use Rattle.cas_slot.specs.declared.message.Reply.{Reply}
 use Rattle.cas_vault.specs.declared.vault.Vault.{Vault}
-use Rattle.cas_vault.specs.Vault.{disk_of, counter_of, kept_of, IsPast}
+use Rattle.cas_vault.specs.Vault.{disk_of, counter_of, kept_of, KeptOn, IsPast, kept_in_era, kept_one_older}
 use Rattle.cas_model.specs.Parties.{VaultKeepsEra, IsAged}
 use Rattle.cas_model.specs.View.{DiskMeaning}
 
@@ -42,6 +42,11 @@ abbrev pub MayHaveDrawn : {V : Type 0} → DiskMeaning V → ℕ → Vault V →
 MayHaveDrawn m id old new None = HasKept m old new
 MayHaveDrawn m id old new (Some ballot) = HasDrawn m id old new ballot
 
+-- No ballot rides exactly for proposer 0, and where the counter has come to its end.
+abbrev pub IsRideDue : ℕ → ℕ → Option Ballot → Type 0
+IsRideDue id counter None = (id ≡ 0) ⊎ (counter ≡ 2 ^ 48)
+IsRideDue id counter (Some ballot) = ((id ≡ 0) ⊎ (counter ≡ 2 ^ 48)) → ⊥
+
 -- ---- rounds
 -- What asks bears the age that the desk shows as it begins, and its vault keeps that age then, wherever it stops.
 
@@ -58,6 +63,7 @@ pub record BeginsToPrepare {V : Type 0} (m : DiskMeaning V) (era : Era) (key : L
 pub record BeginsByPromise {V : Type 0} (m : DiskMeaning V) (era : Era) (key : List ℕ) (old new : DeskView V) (ready : Ready) (ride : Option Ballot) (round : Round) : Type 0 where
   pub none_open : old.round ≡ None
   pub promise : promise_at key old.cache ≡ Some ready
+  pub due : IsRideDue old.id (counter_of old.vault) ride
   pub drawn : MayHaveDrawn m old.id old.vault new.vault ride
   pub aged : m.tells → IsAged m (kept_of old.vault).age new.vault
   pub opened : IsOpened key era (began.Accept ready) round
@@ -66,6 +72,7 @@ pub record BeginsByPromise {V : Type 0} (m : DiskMeaning V) (era : Era) (key : L
 -- its prepare phase ends and its accept phase begins, with the ballot that rides
 pub record TurnsWith {V : Type 0} (m : DiskMeaning V) (old new : DeskView V) (round turned : Round) (ride : Option Ballot) : Type 0 where
   pub turns : TurnsToAccept round turned
+  pub due : IsRideDue old.id (counter_of old.vault) ride
   pub drawn : MayHaveDrawn m old.id old.vault new.vault ride
   pub aged : m.tells → IsAged m (kept_of old.vault).age new.vault
   pub desk : new ≡ record old { vault = new.vault; round = Some (record turned { ride = ride }) }
@@ -79,13 +86,13 @@ pub record HearsReply {V : Type 0} (old new : DeskView V) (round heard : Round) 
 pub record EndsRound {V : Type 0} (m : DiskMeaning V) (old new : DeskView V) (round : Round) (offered : Option Ready) : Type 0 where
   pub desk : new ≡ record old { vault = new.vault; cache = cache_after round offered old.cache; round = None }
   pub counter : counter_of new.vault ≡ counter_after (counter_of old.vault) round.met
+  pub kept : kept_of new.vault ≡ kept_of old.vault
   pub goes_on : VaultGoesOn m old.vault new.vault
 
 -- ---- failures
--- its vault failed in a draw, and the count of its disk's faults rose: a round that was open ends
-pub record FailsToDraw {V : Type 0} (m : DiskMeaning V) (key : List ℕ) (old new : DeskView V) : Type 0 where
-  pub desk : new ≡ record old { vault = new.vault; cache = new.cache; round = None; down = true }
-  pub cache : (new.cache ≡ old.cache) ⊎ (new.cache ≡ without key old.cache)
+-- its vault failed in a draw, and the count of its disk's faults rose: a round that was open ends, and these promises stay
+pub record FailsToDraw {V : Type 0} (m : DiskMeaning V) (promises : List (List ℕ × Ready)) (old new : DeskView V) : Type 0 where
+  pub desk : new ≡ record old { vault = new.vault; cache = promises; round = None; down = true }
   pub counter : counter_of new.vault ≡ counter_without old.round (counter_of old.vault)
   pub kept : kept_of new.vault ≡ kept_of old.vault
   pub goes_on : VaultGoesOn m old.vault new.vault
@@ -103,13 +110,16 @@ pub record LosesMemory {V : Type 0} (m : DiskMeaning V) (key : List ℕ) (old ne
 
 pub record Crashes {V : Type 0} (m : DiskMeaning V) (old new : DeskView V) : Type 0 where
   pub crashed : IsCrashed old new
+  pub shows : ShowsTheSame old.vault new.vault
   pub goes_on : VaultGoesOn m old.vault new.vault
 
 -- ---- eras
--- it works in this era from now on: no promise stays, and a round that was open ends
+-- It works in this era from now on: no promise stays, and a round that was open ends. The counter stays, whatever that round met.
 pub record EntersEra {V : Type 0} (m : DiskMeaning V) (era : Era) (old new : DeskView V) : Type 0 where
   pub up : old.down ≡ false
   pub desk : new ≡ record old { vault = new.vault; cache = []; round = None }
+  pub counter : counter_of new.vault ≡ counter_of old.vault
+  pub kept : kept_of new.vault ≡ kept_in_era era.number (kept_of old.vault)
   pub still_past : m.tells → (n : ℕ) → IsPast m.may_leave n old.vault → IsPast m.may_leave n new.vault
   pub ages : m.tells → (age : ℕ) → IsAged m age old.vault → IsAged m age new.vault
   pub in_era : m.tells → VaultKeepsEra m era.number era.number new.vault
@@ -119,25 +129,31 @@ pub record EntersEra {V : Type 0} (m : DiskMeaning V) (era : Era) (old new : Des
 pub record FailsToEnter {V : Type 0} (m : DiskMeaning V) (era : Era) (old new : DeskView V) : Type 0 where
   pub up : old.down ≡ false
   pub crashed : IsCrashed old new
+  pub shows : ShowsTheSame old.vault new.vault
   pub still_past : m.tells → (n : ℕ) → IsPast m.may_leave n old.vault → IsPast m.may_leave n new.vault
   pub ages : m.tells → (age : ℕ) → IsAged m age old.vault → IsAged m age new.vault
   pub torn : m.tells → (number : ℕ) → VaultKeepsEra m number number old.vault → VaultKeepsEra m number era.number new.vault
   pub faulted : Rose (m.faults (disk_of old.vault)) (m.faults (disk_of new.vault))
 
 -- ---- ages
--- it is renewed to this age before the key's tombstone is removed: a round that was open ends, and the key has no promise
+-- It is renewed to this age before the key's tombstone is removed: a round that was open ends, and the key has no promise. The counter
+-- is at least the tombstone's, and is kept with the age, whatever that round met.
 pub record Renews {V : Type 0} (m : DiskMeaning V) (key : List ℕ) (tomb : Ballot) (age : ℕ) (old new : DeskView V) : Type 0 where
   pub up : old.down ≡ false
   pub desk : new ≡ record old { vault = new.vault; cache = without key (cache_without old.round old.cache); round = None }
   pub one_more : age ≡ (kept_of old.vault).age + 1
+  pub counter : counter_of new.vault ≡ max (counter_of old.vault) tomb.counter
+  pub kept : kept_of new.vault ≡ kept_one_older (max (counter_of old.vault) tomb.counter) (kept_of old.vault)
   pub past : m.tells → IsPast m.may_leave tomb.counter new.vault
   pub aged : m.tells → IsAged m age new.vault
   pub goes_on : VaultGoesOn m old.vault new.vault
 
 -- its vault failed within that, and the count of its disk's faults rose: it is down, and a crash leaves the vault at the new age or as it was
-pub record FailsToRenew {V : Type 0} (m : DiskMeaning V) (old new : DeskView V) : Type 0 where
+pub record FailsToRenew {V : Type 0} (m : DiskMeaning V) (tomb : Ballot) (old new : DeskView V) : Type 0 where
   pub up : old.down ≡ false
   pub crashed : IsCrashed old new
+  pub counter : counter_of new.vault ≡ max (counter_of old.vault) tomb.counter
+  pub kept : kept_of new.vault ≡ kept_of old.vault
   pub goes_on : VaultGoesOn m old.vault new.vault
   pub faulted : Rose (m.faults (disk_of old.vault)) (m.faults (disk_of new.vault))
 
@@ -149,9 +165,13 @@ pub record FindsNoAge {V : Type 0} (m : DiskMeaning V) (tomb : Ballot) (old new 
   pub goes_on : VaultGoesOn m old.vault new.vault
 
 -- ---- restarts
--- A desk is up again, in the era that its vault showed, or stays down.
+-- A desk is up again, in the era that its vault showed, or stays down. Up, it shows what the vault may have left, and its counter is that
+-- bound. Down, it shows what it showed.
 pub record Restarts {V : Type 0} (m : DiskMeaning V) (old new : DeskView V) : Type 0 where
   pub desk : new ≡ record old { vault = new.vault; down = new.down }
+  pub counter : new.down ≡ false → counter_of new.vault ≡ (kept_of new.vault).bound
+  pub image : new.down ≡ false → m.tells → (c : List ℕ) × m.may_leave (disk_of old.vault) c × KeptOn (kept_of new.vault) c
+  pub unread : new.down ≡ true → ShowsTheSame old.vault new.vault
   pub still_past : m.tells → (n : ℕ) → IsPast m.may_leave n old.vault → IsPast m.may_leave n new.vault
   pub ages : m.tells → (age : ℕ) → IsAged m age old.vault → IsAged m age new.vault
   pub shows : new.down ≡ false → m.tells → (era other : ℕ) → VaultKeepsEra m era other old.vault → VaultKeepsEra m era era new.vault ⊎ VaultKeepsEra m other other new.vault

@@ -21,7 +21,7 @@ use Rattle.cas_round.specs.declared.verdict.RoundVerdict.TheVariants as verdict
 use Rattle.cas_slot.specs.declared.message.Ask.TheVariants as ask
 use Rattle.cas_slot.specs.declared.slot.Accepted.{Accepted}
 use Rattle.cas_slot.specs.Slot.{accepted_ballot}
-use Rattle.cas_cache.specs.Entries.{promise_at}
+use Rattle.cas_cache.specs.Entries.{promise_at, without}
 use Rattle.cas_vault.specs.Vault.{counter_of, kept_of}
 use Rattle.cas_record.specs.declared.answer.Answer.{Answer}
 use Rattle.cas_record.specs.declared.answer.Answer.TheVariants as answer
@@ -177,7 +177,7 @@ pub data BeginsRound {S V : Type 0} (m : Meaning S V) (old : View S V) (id : ℕ
       → BeginsRound m old id caller call new
   spent : (desk now : DeskView V) → IsAt old.desks id desk → desk.round ≡ None → desk.down ≡ false → promise_at call.key desk.cache ≡ None → counter_of desk.vault ≡ 2 ^ 48 → HasKept m.disks desk.vault now.vault → now ≡ record desk { vault = now.vault }
       → new ≡ with_call (with_desk old id now) id caller (over call answer.Spent) → BeginsRound m old id caller call new
-  fails : (desk now : DeskView V) → IsAt old.desks id desk → desk.round ≡ None → desk.down ≡ false → FailsToDraw m.disks call.key desk now
+  fails : (desk now : DeskView V) → IsAt old.desks id desk → desk.round ≡ None → desk.down ≡ false → FailsToDraw m.disks (without call.key desk.cache) desk now
       → new ≡ with_call (with_desk old id now) id caller (over call answer.VaultFault) → BeginsRound m old id caller call new
   loses : (desk now : DeskView V) (ballot : Option Ballot) → IsAt old.desks id desk → desk.round ≡ None → desk.down ≡ false
       → LosesMemory m.disks call.key desk now ballot → new ≡ with_call (with_desk old id now) id caller (over call (answer.NoMemory false)) → BeginsRound m old id caller call new
@@ -218,7 +218,7 @@ pub data ProposesOrEnds {S V : Type 0} (m : Meaning S V) (old : View S V) (id : 
       → new ≡ proposed_view old id caller call now flow (proposal_of id caller.number round (accepted_ballot read) by) outcome → ProposesOrEnds m old id desk round caller call new
   ends : (now : DeskView V) (verdict : RoundVerdict) (answer : Answer) → IsVerdictOf round verdict → refusal_by verdict ≡ Some answer
       → EndsRound m.disks desk now round None → new ≡ with_call (with_desk old id now) id caller (over call answer) → ProposesOrEnds m old id desk round caller call new
-  fails : (now : DeskView V) → FailsToDraw m.disks round.key desk now
+  fails : (now : DeskView V) → FailsToDraw m.disks (without round.key desk.cache) desk now
       → new ≡ with_call (with_desk old id now) id caller (over call answer.VaultFault) → ProposesOrEnds m old id desk round caller call new
   loses : (now : DeskView V) (ballot : Option Ballot) → LosesMemory m.disks round.key desk now ballot
       → new ≡ with_call (with_desk old id now) id caller (over call (answer.NoMemory false)) → ProposesOrEnds m old id desk round caller call new

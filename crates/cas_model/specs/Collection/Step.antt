@@ -165,7 +165,7 @@ pub data RenewsNext {S V : Type 0} (m : Meaning S V) (old : View S V) (at : Coll
   renews : (age : ℕ) (middle : View S V) → LeavesRound (Renews m.disks at.collection.course.key (tomb_of at.collection.tombstone) age) (closed_by (answer.Aged age) (cause.Aged age)) old proposer middle
       → new ≡ collecting middle at.order None (record (confirmed_step at.collection) { ages = at.collection.ages ++ age ∷ [] }) → RenewsNext m old at proposer desk new
   is_down : desk.down ≡ true → new ≡ told_view old (told.ProposerDown proposer) → RenewsNext m old at proposer desk new
-  fails : (middle : View S V) → GoesDown (FailsToRenew m.disks) old proposer middle → new ≡ told_view middle (told.ProposerDown proposer) → RenewsNext m old at proposer desk new
+  fails : (middle : View S V) → GoesDown (FailsToRenew m.disks (tomb_of at.collection.tombstone)) old proposer middle → new ≡ told_view middle (told.ProposerDown proposer) → RenewsNext m old at proposer desk new
   is_spent : desk.down ≡ false → (kept_of desk.vault).age ≡ 2 ^ 48 → new ≡ told_view old (told.Stopped answer.Spent) → RenewsNext m old at proposer desk new
   no_memory : (now : DeskView V) → desk.down ≡ false → FindsNoAge m.disks (tomb_of at.collection.tombstone) desk now → new ≡ told_view (with_desk old proposer now) (told.Stopped (answer.NoMemory false)) → RenewsNext m old at proposer desk new
 

@@ -209,7 +209,7 @@ pub data AsksAll {S V : Type 0} (m : Meaning S V) (old : View S V) (question : Q
   is_full : desk.down ≡ false → (HasRoomToAsk old question → ⊥) → new ≡ told_view old (told.Stopped answer.RecordFull) → AsksAll m old question desk new
   is_spent : (now : DeskView V) → desk.down ≡ false → WhereDrawn (listing_for old.council question) (counter_of desk.vault ≡ 2 ^ 48) → HasKept m.disks desk.vault now.vault → now ≡ record desk { vault = now.vault }
       → new ≡ told_view (with_desk old 0 now) (told.Stopped answer.Spent) → AsksAll m old question desk new
-  fails : (now : DeskView V) → desk.down ≡ false → WhereDrawn (listing_for old.council question) (FailsToDraw m.disks [] desk now) → new ≡ told_view (with_desk old 0 now) (told.Stopped answer.VaultFault) → AsksAll m old question desk new
+  fails : (now : DeskView V) → desk.down ≡ false → WhereDrawn (listing_for old.council question) (FailsToDraw m.disks desk.cache desk now) → new ≡ told_view (with_desk old 0 now) (told.Stopped answer.VaultFault) → AsksAll m old question desk new
   no_memory : (now : DeskView V) (tag : Option Ballot) → desk.down ≡ false → LosesMemory m.disks [] desk now tag → new ≡ told_view (with_desk old 0 now) (told.Stopped (answer.NoMemory false)) → AsksAll m old question desk new
 
 pub record StepAskAll {S V : Type 0} (m : Meaning S V) (old : View S V) (question : Question) (new : View S V) : Type 0 where

@@ -280,7 +280,7 @@ renew_passes {S} {V} m old new id proposer other by = in_case by.renews
     in_case (collect.renews age middle leaves is) = both_nothing old middle new id
         (left_passes (Renews m.disks by.at.collection.course.key (tomb_of by.at.collection.tombstone) age) (closed_by (answer.Aged age) (cause.Aged age)) old middle id proposer other leaves) (passes_same middle new id (ap (λ (w : View S V). w.desks) is))
     in_case (collect.is_down down is) = same_desks old new id (ap (λ (w : View S V). w.desks) is)
-    in_case (collect.fails middle down is) = both_nothing old middle new id (down_passes (FailsToRenew m.disks) old middle id proposer other down) (passes_same middle new id (ap (λ (w : View S V). w.desks) is))
+    in_case (collect.fails middle down is) = both_nothing old middle new id (down_passes (FailsToRenew m.disks _) old middle id proposer other down) (passes_same middle new id (ap (λ (w : View S V). w.desks) is))
     in_case (collect.is_spent up spent is) = same_desks old new id (ap (λ (w : View S V). w.desks) is)
     in_case (collect.no_memory now up finds is) = other_desk old new id proposer now other (ap (λ (w : View S V). w.desks) is)
 

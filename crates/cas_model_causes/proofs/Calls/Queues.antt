@@ -357,7 +357,7 @@ renew_stays {S} {V} m old new id proposer apart other by = in_case by.renews
     in_case (collect.renews age middle leaves is) = stays_both old middle new id
         (left_stays (Renews m.disks by.at.collection.course.key (tomb_of by.at.collection.tombstone) age) (closed_by (answer.Aged age) (cause.Aged age)) old middle id proposer other leaves) (stays_same middle new id (ap (λ (w : View S V). w.flow) is) (ap (λ (w : View S V). w.callers) is))
     in_case (collect.is_down down is) = stays_same old new id (ap (λ (w : View S V). w.flow) is) (ap (λ (w : View S V). w.callers) is)
-    in_case (collect.fails middle down is) = stays_both old middle new id (down_stays (FailsToRenew m.disks) old middle id proposer apart other down) (stays_same middle new id (ap (λ (w : View S V). w.flow) is) (ap (λ (w : View S V). w.callers) is))
+    in_case (collect.fails middle down is) = stays_both old middle new id (down_stays (FailsToRenew m.disks _) old middle id proposer apart other down) (stays_same middle new id (ap (λ (w : View S V). w.flow) is) (ap (λ (w : View S V). w.callers) is))
     in_case (collect.is_spent up spent is) = stays_same old new id (ap (λ (w : View S V). w.flow) is) (ap (λ (w : View S V). w.callers) is)
     in_case (collect.no_memory now up finds is) = stays_same old new id (ap (λ (w : View S V). w.flow) is) (ap (λ (w : View S V). w.callers) is)
 

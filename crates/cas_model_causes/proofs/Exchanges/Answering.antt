@@ -212,7 +212,7 @@ renew_answers {S} {V} m old new id sound by was = by_case by.renews
     by_case (collect.renews age middle leaves is) =
         still old new (both old middle new (left_same (Renews m.disks by.at.collection.course.key (tomb_of by.at.collection.tombstone) age) (closed_by (answer.Aged age) (cause.Aged age)) old middle id sound leaves) (alike middle _ new is refl refl)) was
     by_case (collect.is_down down is) = still old new (alike old _ new is refl refl) was
-    by_case (collect.fails middle down is) = still middle new (alike middle _ new is refl refl) (down_answers (FailsToRenew m.disks) old middle id sound down was)
+    by_case (collect.fails middle down is) = still middle new (alike middle _ new is refl refl) (down_answers (FailsToRenew m.disks _) old middle id sound down was)
     by_case (collect.is_spent up spent is) = still old new (alike old _ new is refl refl) was
     by_case (collect.no_memory now up finds is) = still old new (alike old _ new is refl refl) was
 

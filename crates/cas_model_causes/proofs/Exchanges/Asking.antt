@@ -374,7 +374,7 @@ renew_goes {S} {V} m old new id by = by_case by.renews
         let frame = left_frame (Renews m.disks by.at.collection.course.key (tomb_of by.at.collection.tombstone) age) (closed_by (answer.Aged age) (cause.Aged age)) old middle id leaves in
         goes_both old.council middle.council new.council (goes_framed old middle frame) (goes_to middle _ new view (goes_collecting middle.council by.at.order None _ (ap (λ (f : Frame). f.council.order) frame ∙ by.at.is_open)))
     by_case (collect.is_down down view) = goes_to old _ new view (goes_told old.council _)
-    by_case (collect.fails middle down view) = goes_both old.council middle.council new.council (goes_down (FailsToRenew m.disks) old middle id down) (goes_to middle _ new view (goes_told middle.council _))
+    by_case (collect.fails middle down view) = goes_both old.council middle.council new.council (goes_down (FailsToRenew m.disks _) old middle id down) (goes_to middle _ new view (goes_told middle.council _))
     by_case (collect.is_spent up spent view) = goes_to old _ new view (goes_told old.council _)
     by_case (collect.no_memory now up finds view) = goes_to old _ new view (goes_told old.council _)
 

@@ -130,7 +130,7 @@ module _ {S V : Type 0} (m : Meaning S V) where
       by_case (collect.renews age middle leaves view) =
           is_same (both old middle new (answering.left_same (Renews m.disks by.at.collection.course.key (tomb_of by.at.collection.tombstone) age) (closed_by (answer.Aged age) (cause.Aged age)) old middle id sound leaves) (alike middle _ new view refl refl))
       by_case (collect.is_down down view) = same_by old _ new view refl refl
-      by_case (collect.fails middle down view) = down_touches (FailsToRenew m.disks) old middle new id sound down (alike middle _ new view refl refl)
+      by_case (collect.fails middle down view) = down_touches (FailsToRenew m.disks _) old middle new id sound down (alike middle _ new view refl refl)
       by_case (collect.is_spent up spent view) = same_by old _ new view refl refl
       by_case (collect.no_memory now up finds view) = same_by old _ new view refl refl
 

@@ -238,7 +238,7 @@ module _ {S V : Type 0} (m : Meaning S V) (tells : m.disks.tells) where
       in_case : collect.RenewsNext m old by.at id by.desk new → Kept old new
       in_case (collect.renews age middle leaves is) = after_by old middle _ new is refl (left_kept _ _ (λ before after turns n was. turns.goes_on.ages tells n was) old middle id leaves)
       in_case (collect.is_down down is) = alike old _ new is refl
-      in_case (collect.fails middle down is) = after_by old middle _ new is refl (down_kept (FailsToRenew m.disks) (λ before after turns n was. turns.goes_on.ages tells n was) old middle id down)
+      in_case (collect.fails middle down is) = after_by old middle _ new is refl (down_kept (FailsToRenew m.disks _) (λ before after turns n was. turns.goes_on.ages tells n was) old middle id down)
       in_case (collect.is_spent up spent is) = alike old _ new is refl
       in_case (collect.no_memory now up finds is) = put old _ new id by.desk now is refl by.at_desk (λ n was. finds.goes_on.ages tells n was)
 

@@ -19,7 +19,7 @@ use Rattle.cas_proposer.specs.declared.round.Round.{Round}
 use Rattle.cas_model.specs.Council.{ListingView}
 use Rattle.cas_model.specs.Parties.{IsAged}
 use Rattle.cas_model.specs.Exchanges.Step.{HasTag, TagsAll}
-use Rattle.cas_model.specs.Calls.Desks.{VaultGoesOn, HasDrawn, HasKept, MayHaveDrawn, FailsToDraw, LosesMemory}
+use Rattle.cas_model.specs.Calls.Desks.{IsRideDue, VaultGoesOn, HasDrawn, HasKept, MayHaveDrawn, FailsToDraw, LosesMemory}
 use Rattle.cas_model.specs.View.{DiskMeaning}
 use Rattle.cas_model.proofs.Calls.Asks.{tag_goes_on}
 use Rattle.cas_world.proofs.Calls.Disks.{disks}
@@ -145,23 +145,25 @@ module _ {V : Type 0} (tells : Type 0) (may_leave : V → List ℕ → Type 0) (
         }
 
     -- what a ride tells
-    pub rides_by : (old new : DeskView V) (round : Round) (ride : Option Ballot) → old.round ≡ Some round → IsTrue (may_ride old.round) → old.down ≡ false → old.id ≤ 16 → (ride ≡ None → new ≡ old)
+    pub rides_by : (old new : DeskView V) (round : Round) (ride : Option Ballot) → IsRideDue old.id (counter_of old.vault) ride → old.round ≡ Some round → IsTrue (may_ride old.round) → old.down ≡ false → old.id ≤ 16 → (ride ≡ None → new ≡ old)
         → ((b : Ballot) → ride ≡ Some b → Draws old.id old.vault new.vault b) → ((b : Ballot) → ride ≡ Some b → new ≡ record old { vault = new.vault; round = with_ride old.round b })
         → (tells → (b : Ballot) → ride ≡ Some b → IsPast may_leave b.counter new.vault) → (tells → (n : ℕ) → IsPast may_leave n old.vault → IsPast may_leave n new.vault)
         → (tells → LeavesOnly moment left_since (disk_of old.vault) (disk_of new.vault) (KeepsBeforeOrAfter (kept_of old.vault) (kept_to_draw (counter_of old.vault) (kept_of old.vault))))
         → (new.down ≡ false → VaultStands tells seen may_leave new.vault) → faults (disk_of old.vault) ≤ faults (disk_of new.vault) → RidesOn (disks tells may_leave faults) round old new ride
-    rides_by old new round None is may up few same draws at past still moments stands never_falls =
+    rides_by old new round None due is may up few same draws at past still moments stands never_falls =
         subst (λ (d : DeskView V). RidesOn (disks tells may_leave faults) round old d None) (sym (same refl)) (record {
+          due = due;
           drawn = record { shows = record { counter = refl; kept = refl }; goes_on = goes_on_same old.vault };
           aged = aged_by seen (kept_of old.vault).age old.vault (subst (λ (d : DeskView V). d.down ≡ false → VaultStands tells seen may_leave d.vault) (same refl) stands up) refl;
           desk = ap (λ (r : Option Round). record old { round = r }) (is ∙ no_ride round (subst (λ (r : Option Round). IsTrue (may_ride r)) is may));
           fits = tt;
         })
-    rides_by old new round (Some b) is may up few same draws at past still moments stands never_falls =
+    rides_by old new round (Some b) due is may up few same draws at past still moments stands never_falls =
         let drew : Draws old.id old.vault new.vault b = draws b refl in
         let in_use : VaultStands tells seen may_leave new.vault = stands (ap (λ (d : DeskView V). d.down) (at b refl) ∙ up) in
         let fits : FitsBallot b = rides_fits old new b few drew in_use in
         let place : KeepsPlace (kept_of old.vault) (kept_of new.vault) = drawn_place (counter_of old.vault) (kept_of old.vault) (kept_of new.vault) drew.kept in record {
+          due = due;
           drawn = record {
             draws = drew;
             fits = fits;
@@ -177,11 +179,10 @@ module _ {V : Type 0} (tells : Type 0) (may_leave : V → List ℕ → Type 0) (
     pub fails_by : (old new : DeskView V) (round : Round) → old.round ≡ Some round → GoesDownInDraw old new → (tells → (n : ℕ) → IsPast may_leave n old.vault → IsPast may_leave n new.vault)
         → (tells → LeavesOnly moment left_since (disk_of old.vault) (disk_of new.vault) (KeepsBeforeOrAfter (kept_of old.vault) (kept_to_draw (counter_of old.vault) (kept_of old.vault))))
         → faults (disk_of old.vault) ≤ faults (disk_of new.vault) → Rose (faults (disk_of old.vault)) (faults (disk_of new.vault))
-        → FailsToDraw (disks tells may_leave faults) round.key old new
+        → FailsToDraw (disks tells may_leave faults) (without round.key old.cache) old new
     fails_by old new round is goes still moments never_falls rose =
-        let cache : new.cache ≡ cache_without old.round old.cache = ap (λ (d : DeskView V). d.cache) goes.desk in record {
-          desk = goes.desk ∙ ap (λ (ready : List (List ℕ × Ready)). record old { vault = new.vault; cache = ready; round = None; down = true }) (sym cache);
-          cache = inr (cache ∙ ap (λ (r : Option Round). cache_without r old.cache) is);
+        record {
+          desk = goes.desk ∙ ap (λ (r : Option Round). record old { vault = new.vault; cache = cache_without r old.cache; round = None; down = true }) is;
           counter = goes.counter;
           kept = goes.kept;
           goes_on = goes_on old.vault new.vault still moments (same_place goes.kept) never_falls;
@@ -199,6 +200,11 @@ module _ {V : Type 0} (tells : Type 0) (may_leave : V → List ℕ → Type 0) (
         loses_after old mid new round None round.ride is
         (record { shows = shows; goes_on = goes_on old.vault mid.vault still moments (same_place shows.kept) never_falls })
         (at ∙ ap (λ (r : Option Round). record old { vault = mid.vault; round = r }) is) ends counted same_kept_of same_disk past
+
+-- whether a ballot is to ride is known by what a ride answers
+pub ride_due : (id counter : ℕ) (ride : Option Ballot) → (ride ≡ None → (id ≡ 0) ⊎ (counter ≡ 2 ^ 48)) → ((id ≡ 0) ⊎ (counter ≡ 2 ^ 48) → ride ≡ None) → IsRideDue id counter ride
+ride_due id counter None none not_drawn = none refl
+ride_due id counter (Some ballot) none not_drawn = λ over. cc (not_drawn over)
 
 -- ---- a promise that is used up
 pub without_twice : (key : List ℕ) (cache : List (List ℕ × Ready)) → promise_at key (without key cache) ≡ None → without key (without key cache) ≡ without key cache
@@ -228,8 +234,7 @@ module _ {V : Type 0} (m : DiskMeaning V) (key : List ℕ) (old new : DeskView V
   failed_at_once answer.VaultFault by = (
     up,
     record {
-      desk = by.desk;
-      cache = cache_used key round.key old.cache new.cache same one by.cache;
+      desk = by.desk ∙ ap (λ (l : List (List ℕ × Ready)). record old { vault = new.vault; cache = l; round = None; down = true }) (ap (λ (k : List ℕ). without k (without key old.cache)) same ∙ without_twice key old.cache one);
       counter = by.counter ∙ not_met old.round round (counter_of old.vault) none met;
       kept = by.kept;
       goes_on = by.goes_on;
@@ -276,7 +281,7 @@ proposed_at_once {V} m era key program author old new before after proposing rea
   ready = ready;
   ride = on.ride;
   round = round;
-  begins = record { none_open = none; promise = promise; drawn = on.rides.drawn; aged = on.rides.aged; opened = opened; desk = on.rides.desk };
+  begins = record { none_open = none; promise = promise; due = on.rides.due; drawn = on.rides.drawn; aged = on.rides.aged; opened = opened; desk = on.rides.desk };
   made = made;
   sends = on.sends;
 }
@@ -331,14 +336,13 @@ module _ {V : Type 0} (tells : Type 0) (may_leave : V → List ℕ → Type 0) (
         (λ t. subst (λ (n : ℕ). IsPast may_leave n new.vault) (ap (λ (b : Ballot). b.counter) draws.next ∙ sym draws.counter) (past t)) still moments never_falls
 
     -- the vault failed in a draw beside rounds
-    pub failed_tag : (key : List ℕ) (old new : DeskView V) → old.round ≡ None → GoesDownInDraw old new → (tells → (n : ℕ) → IsPast may_leave n old.vault → IsPast may_leave n new.vault)
+    pub failed_tag : (old new : DeskView V) → old.round ≡ None → GoesDownInDraw old new → (tells → (n : ℕ) → IsPast may_leave n old.vault → IsPast may_leave n new.vault)
         → (tells → LeavesOnly moment left_since (disk_of old.vault) (disk_of new.vault) (KeepsBeforeOrAfter (kept_of old.vault) (kept_to_draw (counter_of old.vault) (kept_of old.vault))))
         → faults (disk_of old.vault) ≤ faults (disk_of new.vault) → Rose (faults (disk_of old.vault)) (faults (disk_of new.vault))
-        → FailsToDraw (disks tells may_leave faults) key old new
-    failed_tag key old new none goes still moments never_falls rose =
-        let cache : new.cache ≡ cache_without old.round old.cache = ap (λ (d : DeskView V). d.cache) goes.desk in record {
-          desk = goes.desk ∙ ap (λ (ready : List (List ℕ × Ready)). record old { vault = new.vault; cache = ready; round = None; down = true }) (sym cache);
-          cache = inl (cache ∙ ap (λ (r : Option Round). cache_without r old.cache) none);
+        → FailsToDraw (disks tells may_leave faults) old.cache old new
+    failed_tag old new none goes still moments never_falls rose =
+        record {
+          desk = goes.desk ∙ ap (λ (r : Option Round). record old { vault = new.vault; cache = cache_without r old.cache; round = None; down = true }) none;
           counter = goes.counter;
           kept = goes.kept;
           goes_on = goes_on tells may_leave faults seen moment left_since counts_now old.vault new.vault still moments (same_place goes.kept) never_falls;
@@ -386,10 +390,9 @@ module _ {V : Type 0} (tells : Type 0) (may_leave : V → List ℕ → Type 0) (
     aged = λ t. (tag_goes_on (disks tells may_leave faults) goes_on old new tag has).ages t _ (aged_by tells may_leave faults seen (kept_of old.vault).age old.vault stands refl t);
   }
 
-  pub failed_idle : (key : List ℕ) (old new : DeskView V) → old.round ≡ None → HasKept (disks tells may_leave faults) old.vault new.vault → new ≡ record old { vault = new.vault; down = new.down } → new.down ≡ true → Rose (faults (disk_of old.vault)) (faults (disk_of new.vault)) → FailsToDraw (disks tells may_leave faults) key old new
-  failed_idle key old new none kept at down rose = record {
-    desk = at ∙ (λ i. record old { vault = new.vault; cache = ap (λ (d : DeskView V). d.cache) (sym at) i; round = none i; down = down i });
-    cache = inl (ap (λ (d : DeskView V). d.cache) at);
+  pub failed_idle : (old new : DeskView V) → old.round ≡ None → HasKept (disks tells may_leave faults) old.vault new.vault → new ≡ record old { vault = new.vault; down = new.down } → new.down ≡ true → Rose (faults (disk_of old.vault)) (faults (disk_of new.vault)) → FailsToDraw (disks tells may_leave faults) old.cache old new
+  failed_idle old new none kept at down rose = record {
+    desk = at ∙ (λ i. record old { vault = new.vault; round = none i; down = down i });
     counter = kept.shows.counter ∙ sym (ap (λ (r : Option Round). counter_without r (counter_of old.vault)) none);
     kept = kept.shows.kept;
     goes_on = kept.goes_on;

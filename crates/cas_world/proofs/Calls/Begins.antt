@@ -2,7 +2,7 @@
 use Rattle.std.proofs.Common.{◌≡◌, ◌<◌, ◌≤◌, ℕ, zero, suc, Bool, false, List, [], ◌∷◌, ◌++◌, Option, None, Some, inl, inr, take, drop, sum_by, slice_set, refl, sym, ap, subst, ◌∙◌, arith, append-nil, length}
 use Rattle.std.specs.Prelude.{◌⊎◌, ◌+◌, ◌-◌, map, option_map}
 use Rattle.std.proofs.lemmas.List.Sums.{sum_by-cons}
-use Rattle.cas_cache.specs.Entries.{promise_at}
+use Rattle.cas_cache.specs.Entries.{promise_at, without}
 use Rattle.cas_acceptor.specs.Acceptor.{AcceptorView}
 use Rattle.cas_ballot.specs.declared.ballot.Ballot.{Ballot}
 use Rattle.cas_change.specs.declared.program.Clause.{Clause}
@@ -264,7 +264,7 @@ module _ {S V : Type 0} (last_proposer : ℕ) (council : Council) (acceptors : L
     step_fails desk now answer.Spent at_desk idle by =
         begun_by _ (calls.spent desk now at_desk idle by.0 (subst (λ (k : List ℕ). promise_at k desk.cache ≡ None) (sym is.same_key) by.1) by.2 by.3 by.4 (next_seen (slice_set desks id now) flow middle (told_now entry answer.Spent) (calls.over (call_view is.call) answer.Spent) (told_view answer.Spent)))
     step_fails desk now answer.VaultFault at_desk idle by =
-        begun_by _ (calls.fails desk now at_desk idle by.0 (subst (λ (k : List ℕ). FailsToDraw m.disks k desk now) (sym is.same_key) by.1)
+        begun_by _ (calls.fails desk now at_desk idle by.0 (subst (λ (k : List ℕ). FailsToDraw m.disks (without k desk.cache) desk now) (sym is.same_key) by.1)
         (next_seen (slice_set desks id now) flow middle (told_now entry answer.VaultFault) (calls.over (call_view is.call) answer.VaultFault) (told_view answer.VaultFault)))
     step_fails desk now (answer.NoMemory proposed) at_desk idle by =
         begun_by _ (calls.loses desk now by.2 at_desk idle by.1 (subst (λ (k : List ℕ). LosesMemory m.disks k desk now by.2) (sym is.same_key) by.3)

@@ -82,7 +82,7 @@ module _ {V : Type 0} (m : DiskMeaning V) (round : Round) (old mid new : DeskVie
         quorum = quorum;
         confirmers = reads.confirmers;
         is_read = reads.is_read;
-        turns = record { turns = turns; drawn = on.rides.drawn; aged = on.rides.aged; desk = on.rides.desk };
+        turns = record { turns = turns; due = on.rides.due; drawn = on.rides.drawn; aged = on.rides.aged; desk = on.rides.desk };
         made = made_is ∙ ap (λ (k : List ℕ). proposing_of author k era.number call.program ready) (sym same_key)
             ∙ ap (λ (e : Era). proposing_of author round.key e.number call.program ready) reads.in_era
             ∙ ap (λ (r : Ready). proposing_of author round.key round.era.number call.program r) reads.is_ready;
@@ -94,8 +94,7 @@ module _ {V : Type 0} (m : DiskMeaning V) (round : Round) (old mid new : DeskVie
   -- a round that has turned and does not propose ends as one that has not
   failed_once_turned : (told : Answer) → old.round ≡ Some round → FailsToPropose m turned.key (record old { round = Some turned }) new told → FailsToPropose m round.key old new told
   failed_once_turned answer.VaultFault is by = record {
-    desk = by.desk;
-    cache = subst (λ (k : List ℕ). (new.cache ≡ old.cache) ⊎ (new.cache ≡ without k old.cache)) (ap (λ (r : Round). r.key) turns.same) by.cache;
+    desk = by.desk ∙ ap (λ (k : List ℕ). record old { vault = new.vault; cache = without k old.cache; round = None; down = true }) (ap (λ (r : Round). r.key) turns.same);
     counter = by.counter ∙ ap (λ (b : Option Ballot). counter_after (counter_of old.vault) b) (ap (λ (r : Round). r.met) turns.same) ∙ sym (ap (λ (r : Option Round). counter_without r (counter_of old.vault)) is);
     kept = by.kept;
     goes_on = by.goes_on;

@@ -57,12 +57,14 @@ use Rattle.cas_world.proofs.Stops.Stops.{HaveCopies, copies_idle, copies_still}
 module _ {V : Type 0} (tells : Type 0) (may_leave : V → List ℕ → Type 0) (faults : V → ℕ) where
   -- it is past the tombstone and at the new age, whatever a crash leaves
   pub grows_older : (seen : V → List ℕ) (key : List ℕ) (tomb : Ballot) (age : ℕ) (old new : DeskView V) → old.down ≡ false → new ≡ record old { vault = new.vault; cache = without key (cache_without old.round old.cache); round = None }
-      → age ≡ (kept_of old.vault).age + 1 → kept_of new.vault ≡ kept_one_older (max (counter_of old.vault) tomb.counter) (kept_of old.vault) → (new.down ≡ false → VaultStands tells seen may_leave new.vault)
+      → age ≡ (kept_of old.vault).age + 1 → counter_of new.vault ≡ max (counter_of old.vault) tomb.counter → kept_of new.vault ≡ kept_one_older (max (counter_of old.vault) tomb.counter) (kept_of old.vault) → (new.down ≡ false → VaultStands tells seen may_leave new.vault)
       → (tells → IsPast may_leave tomb.counter new.vault) → (tells → (n : ℕ) → IsPast may_leave n old.vault → IsPast may_leave n new.vault) → faults (disk_of old.vault) ≤ faults (disk_of new.vault) → Renews (disks tells may_leave faults) key tomb age old new
-  grows_older seen key tomb age old new up desk older kept stands past still never_falls = record {
+  grows_older seen key tomb age old new up desk older counter kept stands past still never_falls = record {
     up = up;
     desk = desk;
     one_more = older;
+    counter = counter;
+    kept = kept;
     past = past;
     aged = λ told. record {
       kept = omega (arith, older, ap (λ (k : Kept). k.age) kept);
@@ -83,13 +85,15 @@ module _ {V : Type 0} (tells : Type 0) (may_leave : V → List ℕ → Type 0) (
   }
 
   -- it stopped within the write: a crash leaves it at the new age, or as it was
-  pub fails_to_grow : (moment : V → ℕ) (left_since : V → ℕ → List ℕ → Type 0) (counter : ℕ) (old new : DeskView V) → old.down ≡ false → IsCrashed old new → kept_of new.vault ≡ kept_of old.vault
+  pub fails_to_grow : (moment : V → ℕ) (left_since : V → ℕ → List ℕ → Type 0) (counter : ℕ) (tomb : Ballot) (old new : DeskView V) → old.down ≡ false → IsCrashed old new → counter_of new.vault ≡ max (counter_of old.vault) tomb.counter → kept_of new.vault ≡ kept_of old.vault
       → (tells → (t : ℕ) (c : List ℕ) → t ≤ moment (disk_of new.vault) → may_leave (disk_of new.vault) c → left_since (disk_of new.vault) t c)
       → (tells → LeavesOnly moment left_since (disk_of old.vault) (disk_of new.vault) (KeepsBeforeOrAfter (kept_of old.vault) (kept_one_older counter (kept_of old.vault))))
-      → (tells → (n : ℕ) → IsPast may_leave n old.vault → IsPast may_leave n new.vault) → Rose (faults (disk_of old.vault)) (faults (disk_of new.vault)) → faults (disk_of old.vault) ≤ faults (disk_of new.vault) → FailsToRenew (disks tells may_leave faults) old new
-  fails_to_grow moment left_since counter old new up crashed same now moments past rose never_falls = record {
+      → (tells → (n : ℕ) → IsPast may_leave n old.vault → IsPast may_leave n new.vault) → Rose (faults (disk_of old.vault)) (faults (disk_of new.vault)) → faults (disk_of old.vault) ≤ faults (disk_of new.vault) → FailsToRenew (disks tells may_leave faults) tomb old new
+  fails_to_grow moment left_since counter tomb old new up crashed moved same now moments past rose never_falls = record {
     up = up;
     crashed = crashed;
+    counter = moved;
+    kept = same;
     goes_on = record {
       still_past = past;
       ages = λ told age is. record {
@@ -204,14 +208,14 @@ module _ {S V : Type 0} (m : Meaning S V) (last_proposer : ℕ) (council council
     older = subst (λ (r : Result ℕ OpAnswer). IfOk r (λ age. age ≡ (kept_of desk.vault).age + 1)) (sym answer_is) (turned _ _ id desk now caller caller_now flow then_ leaves_).one_more;
   }
 
-  goes_down : (result : Result ℕ OpAnswer) → LeavesDesk (FailsToRenew m.disks) (closed_with crash_answer) id desk now caller caller_now flow then_ → council_view council_now ≡ telling (crash_at id (council_view council)) (op.ProposerDown id)
+  goes_down : (result : Result ℕ OpAnswer) → LeavesDesk (FailsToRenew m.disks (tomb_of at.collection.tombstone)) (closed_with crash_answer) id desk now caller caller_now flow then_ → council_view council_now ≡ telling (crash_at id (council_view council)) (op.ProposerDown id)
       → flow_now ≡ abandoned_at id then_ → result ≡ Err (op.ProposerDown id) → Outcome result
   goes_down result leaves_ is flows answer_is = record {
     renews = by_id id refl;
     room = omega (
       arith,
       fits,
-      left_reserves (FailsToRenew m.disks) crash_answer id id callers desk now caller caller_now flow then_ at_caller some leaves_,
+      left_reserves (FailsToRenew m.disks (tomb_of at.collection.tombstone)) crash_answer id id callers desk now caller caller_now flow then_ at_caller some leaves_,
       ap reserved_by is,
       told_reserves (crash_at id (council_view council)).order (op.ProposerDown id),
       crash_reserves id (council_view council),
@@ -222,8 +226,8 @@ module _ {S V : Type 0} (m : Meaning S V) (last_proposer : ℕ) (council council
     err = subst (λ (r : Result ℕ OpAnswer). IfErr r (WasToldOrder new)) (sym answer_is) (told_it (crash_at id (council_view council)) (op.ProposerDown id) (crash_order id (council_view council)) is refl);
   }
     where
-      left_so : LeavesRound (FailsToRenew m.disks) closed_by_crash old id left
-      left_so = left_round (FailsToRenew m.disks) (closed_with crash_answer) closed_by_crash last_proposer council acceptors desks callers flow then_ book id desk now caller caller_now crashed_same at_desk at_caller leaves_
+      left_so : LeavesRound (FailsToRenew m.disks (tomb_of at.collection.tombstone)) closed_by_crash old id left
+      left_so = left_round (FailsToRenew m.disks (tomb_of at.collection.tombstone)) (closed_with crash_answer) closed_by_crash last_proposer council acceptors desks callers flow then_ book id desk now caller caller_now crashed_same at_desk at_caller leaves_
 
       by_id : (n : ℕ) → id ≡ n → RenewsNext m old at id desk new
       by_id zero none =
@@ -258,7 +262,7 @@ module _ {S V : Type 0} (m : Meaning S V) (last_proposer : ℕ) (council council
 
   -- whichever became of it
   pub renewed_so : (moved : Result ℕ VaultError) (result : Result ℕ OpAnswer) → IfOk moved (λ age. LeavesDesk (Renews m.disks at.collection.course.key (tomb_of at.collection.tombstone) age) (closed_with (λ proposed. aged_answer proposed age)) id desk now caller caller_now flow then_)
-      → (IsErrOf moved error.VaultFault → LeavesDesk (FailsToRenew m.disks) (closed_with crash_answer) id desk now caller caller_now flow then_) → (IsErrOf moved error.Spent → ((kept_of desk.vault).age ≡ 2 ^ 48) × (now ≡ desk))
+      → (IsErrOf moved error.VaultFault → LeavesDesk (FailsToRenew m.disks (tomb_of at.collection.tombstone)) (closed_with crash_answer) id desk now caller caller_now flow then_) → (IsErrOf moved error.Spent → ((kept_of desk.vault).age ≡ 2 ^ 48) × (now ≡ desk))
       → (IsErrOf moved error.NoMemory → FindsNoAge m.disks (tomb_of at.collection.tombstone) desk now) → ((IsErrOf moved error.VaultFault → ⊥) → IfErr moved (λ e. (caller_now ≡ caller) × (then_ ≡ flow)))
       → MarksRenewal id moved (council_view council) (council_view council_now) then_ flow_now result → Outcome result
   renewed_so moved result ok fault spent none same (marks.renews age is council_is flows answer_is) =

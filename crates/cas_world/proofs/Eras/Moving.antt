@@ -16,7 +16,7 @@ use Rattle.cas_record.specs.declared.mark.Mark.{Mark}
 use Rattle.cas_record.specs.declared.mark.Mark.TheVariants.{EraEntered}
 use Rattle.cas_record.specs.declared.operator.OpAnswer.{OpAnswer}
 use Rattle.cas_record.specs.declared.operator.OpAnswer.TheVariants as op
-use Rattle.cas_vault.specs.Vault.{disk_of, kept_of, kept_in_era, KeepsBeforeOrAfter, VaultStands, IsPast}
+use Rattle.cas_vault.specs.Vault.{disk_of, kept_of, kept_in_era, KeepsBeforeOrAfter, VaultStands, IsPast, counter_of}
 use Rattle.cas_vault.specs.declared.kept.Kept.{Kept}
 use Rattle.cas_vault.specs.declared.error.VaultError.{VaultError}
 use Rattle.cas_vault.specs.declared.error.VaultError.TheVariants as error
@@ -55,11 +55,13 @@ use Rattle.cas_world.proofs.Stops.Stops.{HaveCopies, copies_idle, copies_still}
 -- ---- vaults
 module _ {V : Type 0} (tells : Type 0) (may_leave : V → List ℕ → Type 0) (faults : V → ℕ) where
   -- it is in the era, whatever a crash leaves
-  pub enters_era : (seen : V → List ℕ) (era : Era) (old new : DeskView V) → old.down ≡ false → new ≡ record old { vault = new.vault; cache = []; round = None } → kept_of new.vault ≡ kept_in_era era.number (kept_of old.vault)
+  pub enters_era : (seen : V → List ℕ) (era : Era) (old new : DeskView V) → old.down ≡ false → new ≡ record old { vault = new.vault; cache = []; round = None } → counter_of new.vault ≡ counter_of old.vault → kept_of new.vault ≡ kept_in_era era.number (kept_of old.vault)
       → (new.down ≡ false → VaultStands tells seen may_leave new.vault) → (tells → (n : ℕ) → IsPast may_leave n old.vault → IsPast may_leave n new.vault) → faults (disk_of old.vault) ≤ faults (disk_of new.vault) → EntersEra (disks tells may_leave faults) era old new
-  enters_era seen era old new up desk kept stands past never_falls = record {
+  enters_era seen era old new up desk counter kept stands past never_falls = record {
     up = up;
     desk = desk;
+    counter = counter;
+    kept = kept;
     still_past = past;
     ages = λ told age is. record {
       kept = omega (arith, is.kept, ap (λ (k : Kept). k.age) kept);
@@ -73,13 +75,14 @@ module _ {V : Type 0} (tells : Type 0) (may_leave : V → List ℕ → Type 0) (
   }
 
   -- it stopped within the write: a crash leaves it in the era, or as it was
-  pub fails_to_enter : (moment : V → ℕ) (left_since : V → ℕ → List ℕ → Type 0) (era : Era) (old new : DeskView V) → old.down ≡ false → IsCrashed old new → kept_of new.vault ≡ kept_of old.vault
+  pub fails_to_enter : (moment : V → ℕ) (left_since : V → ℕ → List ℕ → Type 0) (era : Era) (old new : DeskView V) → old.down ≡ false → IsCrashed old new → counter_of new.vault ≡ counter_of old.vault → kept_of new.vault ≡ kept_of old.vault
       → (tells → (t : ℕ) (c : List ℕ) → t ≤ moment (disk_of new.vault) → may_leave (disk_of new.vault) c → left_since (disk_of new.vault) t c)
       → (tells → LeavesOnly moment left_since (disk_of old.vault) (disk_of new.vault) (KeepsBeforeOrAfter (kept_of old.vault) (kept_in_era era.number (kept_of old.vault))))
       → (tells → (n : ℕ) → IsPast may_leave n old.vault → IsPast may_leave n new.vault) → Rose (faults (disk_of old.vault)) (faults (disk_of new.vault)) → FailsToEnter (disks tells may_leave faults) era old new
-  fails_to_enter moment left_since era old new up crashed same now moments past rose = record {
+  fails_to_enter moment left_since era old new up crashed counter same now moments past rose = record {
     up = up;
     crashed = crashed;
+    shows = record { counter = counter; kept = same };
     still_past = past;
     ages = λ told age is. record {
       kept = omega (arith, is.kept, ap (λ (k : Kept). k.age) same);

@@ -175,7 +175,7 @@ asks_not {S} {V} m old new asking desk now marks answer.RecordFull at count fail
 asks_not {S} {V} m old new asking desk now marks answer.Spent at count fails is =
     steps.is_spent now fails.0 (subst (λ (o : Option ListingView). WhereDrawn o (counter_of desk.vault ≡ 2 ^ 48)) (goes_on_is old asking) fails.1) fails.2 fails.3 is
 asks_not {S} {V} m old new asking desk now marks answer.VaultFault at count fails is =
-    steps.fails now fails.0 (subst (λ (o : Option ListingView). WhereDrawn o (FailsToDraw m.disks [] desk now)) (goes_on_is old asking) fails.1) is
+    steps.fails now fails.0 (subst (λ (o : Option ListingView). WhereDrawn o (FailsToDraw m.disks desk.cache desk now)) (goes_on_is old asking) fails.1) is
 asks_not {S} {V} m old new asking desk now marks (answer.NoMemory proposed) at count fails is =
     steps.no_memory now fails.2 fails.1 fails.3 (is ∙ ap (λ (p : _). told_view (with_desk old 0 now) (op.Stopped (answer.NoMemory p))) fails.0)
 asks_not m old new asking desk now marks (answer.Done state took ballot) at count fails is = absurd fails

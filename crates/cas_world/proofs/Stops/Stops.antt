@@ -16,7 +16,7 @@ use Rattle.cas_proposer.specs.declared.round.Round.{Round}
 use Rattle.cas_vault.specs.declared.kept.Kept.{Kept}
 use Rattle.cas_vault.specs.declared.error.VaultError.{VaultError}
 use Rattle.cas_vault.specs.declared.vault.Vault.{Vault}
-use Rattle.cas_vault.specs.Vault.{kept_of, disk_of, KeptOn, IsPast, VaultStands}
+use Rattle.cas_vault.specs.Vault.{kept_of, disk_of, counter_of, KeptOn, IsPast, VaultStands}
 use Rattle.cas_vault.proofs.Keeping.{same_kept}
 use Rattle.cas_model.specs.Step as step
 use Rattle.cas_model.specs.Step.{StepRestartAcceptor, StepRestartProposer}
@@ -125,10 +125,6 @@ end_goes_on {V} m old new kept disk past = record {
   era = λ tells era other is. record { kept = ap (λ (k : Kept). k.era) kept ∙ is.kept; left = λ c k may on. is.left c k (subst (λ (d : V). m.may_leave d c) disk may) on };
 }
 
-pub kept_same : {V : Type 0} (old new : Vault V) (r : Result ⊤ VaultError) → OnErr r (ShowsTheSame old new) → OnErr r (kept_of new ≡ kept_of old)
-kept_same old new (Ok x) same = same
-kept_same old new (Err e) same = same.kept
-
 -- a restart shows one era, and a crash leaves just that from then on
 pub shows_era : {V : Type 0} (m : DiskMeaning V) (old new : Vault V) (seen : List ℕ) → m.may_leave (disk_of old) seen → KeptOn (kept_of new) seen → ((c : List ℕ) → m.may_leave (disk_of new) c → KeptOn (kept_of new) c)
     → (era other : ℕ) → VaultKeepsEra m era other old → VaultKeepsEra m era era new ⊎ VaultKeepsEra m other other new
@@ -158,6 +154,9 @@ stays_aged m old new same leaves age is = record { kept = subst (λ (k : Kept). 
 
 -- what a restart does to the vault of a desk that was down
 pub record RestartsVault {V : Type 0} (m : DiskMeaning V) (old new : Vault V) (r : Result ⊤ VaultError) : Type 0 where
+  pub counter : OnOk r (counter_of new ≡ (kept_of new).bound)
+  pub image : OnOk r (m.tells → (c : List ℕ) × m.may_leave (disk_of old) c × KeptOn (kept_of new) c)
+  pub unread : OnErr r (ShowsTheSame old new)
   pub still_past : m.tells → (n : ℕ) → IsPast m.may_leave n old → IsPast m.may_leave n new
   pub ages : m.tells → (age : ℕ) → IsAged m age old → IsAged m age new
   pub shows : OnOk r (m.tells → (era other : ℕ) → VaultKeepsEra m era other old → VaultKeepsEra m era era new ⊎ VaultKeepsEra m other other new)
@@ -165,20 +164,26 @@ pub record RestartsVault {V : Type 0} (m : DiskMeaning V) (old new : Vault V) (r
   pub never_falls : m.faults (disk_of old) ≤ m.faults (disk_of new)
 
 pub restarts_vault : {V : Type 0} (m : DiskMeaning V) (old new : Vault V) (r : Result ⊤ VaultError) (seen : List ℕ) → (m.tells → m.may_leave (disk_of old) seen) → (m.tells → OnOk r (KeptOn (kept_of new) seen))
-    → OnOk r (m.tells → (c : List ℕ) → m.may_leave (disk_of new) c → KeptOn (kept_of new) c) → OnErr r (kept_of new ≡ kept_of old)
+    → OnOk r (counter_of new ≡ (kept_of new).bound) → OnOk r (m.tells → (c : List ℕ) → m.may_leave (disk_of new) c → KeptOn (kept_of new) c) → OnErr r (ShowsTheSame old new)
     → (m.tells → (c : List ℕ) → m.may_leave (disk_of new) c → m.may_leave (disk_of old) c) → (m.tells → (n : ℕ) → IsPast m.may_leave n old → IsPast m.may_leave n new) → m.faults (disk_of old) ≤ m.faults (disk_of new) → RestartsVault m old new r
-restarts_vault m old new (Ok x) seen image reopened lasts same leaves past never_falls = record {
+restarts_vault m old new (Ok x) seen image reopened bound lasts same leaves past never_falls = record {
+  counter = bound;
+  image = λ tells. (seen, image tells, reopened tells);
+  unread = tt;
   still_past = past;
   ages = λ tells. shows_age m old new seen (image tells) (reopened tells) (lasts tells);
   shows = λ tells. shows_era m old new seen (image tells) (reopened tells) (lasts tells);
   stays = tt;
   never_falls = never_falls;
 }
-restarts_vault m old new (Err e) seen image reopened lasts same leaves past never_falls = record {
+restarts_vault m old new (Err e) seen image reopened bound lasts same leaves past never_falls = record {
+  counter = tt;
+  image = tt;
+  unread = same;
   still_past = past;
-  ages = λ tells. stays_aged m old new same (leaves tells);
+  ages = λ tells. stays_aged m old new same.kept (leaves tells);
   shows = tt;
-  stays = λ tells. stays_within m old new same (leaves tells);
+  stays = λ tells. stays_within m old new same.kept (leaves tells);
   never_falls = never_falls;
 }
 
@@ -218,6 +223,9 @@ desk_restarted {S} {V} m old id desk now caller eras r at at_caller down ok err 
     by_result : (r : Result ⊤ VaultError) → IsTrue desk.down → OnOk r (now ≡ record desk { vault = now.vault; down = false }) → OnErr r (now ≡ record desk { vault = now.vault }) → RestartsVault m.disks desk.vault now.vault r → Restarts m.disks desk now
     by_result (Ok x) down ok err of = let up : now.down ≡ false = ap (λ (d : DeskView V). d.down) ok in record {
       desk = ok ∙ ap (λ (d : Bool). record desk { vault = now.vault; down = d }) (sym up);
+      counter = λ is_up. of.counter;
+      image = λ is_up. of.image;
+      unread = λ is_down. absurd (cc (is_down, up));
       still_past = of.still_past;
       ages = of.ages;
       shows = λ is_up. of.shows;
@@ -226,6 +234,9 @@ desk_restarted {S} {V} m old id desk now caller eras r at at_caller down ok err 
     }
     by_result (Err e) down ok err of = let still : now.down ≡ true = ap (λ (d : DeskView V). d.down) err ∙ down in record {
       desk = err ∙ ap (λ (d : Bool). record desk { vault = now.vault; down = d }) (sym (ap (λ (d : DeskView V). d.down) err));
+      counter = λ is_up. absurd (cc (is_up, still));
+      image = λ is_up. absurd (cc (is_up, still));
+      unread = λ is_down. of.unread;
       still_past = of.still_past;
       ages = of.ages;
       shows = λ is_up. absurd (cc (is_up, still));

@@ -63,7 +63,7 @@ OpensRound m era key program author old new before after (Some proposing) = Prop
 abbrev pub FailsToOpen : {V : Type 0} → DiskMeaning V → List ℕ → DeskView V → DeskView V → Answer → Type 0
 FailsToOpen m key old new answer.Down = (old.down ≡ true) × (new ≡ old)
 FailsToOpen m key old new answer.Spent = (old.down ≡ false) × (promise_at key old.cache ≡ None) × (counter_of old.vault ≡ 2 ^ 48) × HasKept m old.vault new.vault × (new ≡ record old { vault = new.vault })
-FailsToOpen m key old new answer.VaultFault = (old.down ≡ false) × FailsToDraw m key old new
+FailsToOpen m key old new answer.VaultFault = (old.down ≡ false) × FailsToDraw m (without key old.cache) old new
 FailsToOpen m key old new (answer.NoMemory proposed) = (proposed ≡ false) × (old.down ≡ false) × (ballot : Option Ballot) × LosesMemory m key old new ballot
 FailsToOpen m key old new other = ⊥
 

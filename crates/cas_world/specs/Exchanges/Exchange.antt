@@ -182,13 +182,13 @@ abbrev pub FailsToAsk : {V : Type 0} → DiskMeaning V → DeskView V → DeskVi
 FailsToAsk m old new goes_on marks answer.Down = (old.down ≡ true) × (new ≡ old)
 FailsToAsk m old new goes_on marks answer.RecordFull = (old.down ≡ false) × (new ≡ old) × (most_marks < marks)
 FailsToAsk m old new goes_on marks answer.Spent = (old.down ≡ false) × WhereDrawn goes_on (counter_of old.vault ≡ 2 ^ 48) × HasKept m old.vault new.vault × (new ≡ record old { vault = new.vault })
-FailsToAsk m old new goes_on marks answer.VaultFault = (old.down ≡ false) × WhereDrawn goes_on (FailsToDraw m [] old new)
+FailsToAsk m old new goes_on marks answer.VaultFault = (old.down ≡ false) × WhereDrawn goes_on (FailsToDraw m old.cache old new)
 FailsToAsk m old new goes_on marks (answer.NoMemory proposed) = (proposed ≡ false) × (old.down ≡ false) × (ballot : Option Ballot) × LosesMemory m [] old new ballot
 FailsToAsk m old new goes_on marks other = ⊥
 
 -- why there is no tag
 abbrev pub FailsToTag : {V : Type 0} → DiskMeaning V → Option ListingView → DeskView V → DeskView V → VaultError → Type 0
 FailsToTag m goes_on old new error.Spent = WhereDrawn goes_on (counter_of old.vault ≡ 2 ^ 48) × HasKept m old.vault new.vault × (new ≡ record old { vault = new.vault })
-FailsToTag m goes_on old new error.VaultFault = WhereDrawn goes_on (FailsToDraw m [] old new)
+FailsToTag m goes_on old new error.VaultFault = WhereDrawn goes_on (FailsToDraw m old.cache old new)
 FailsToTag m goes_on old new error.NoMemory = LosesMemory m [] old new None
 FailsToTag m goes_on old new (error.Foreign at) = ⊥

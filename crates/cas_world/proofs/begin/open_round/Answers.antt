@@ -1,11 +1,13 @@
-use Rattle.std.proofs.Common.{◌≡◌, false, Err, refl, sym, ap, subst, ◌∙◌}
+use Rattle.std.proofs.Common.{◌≡◌, ℕ, List, false, Err, refl, sym, ap, subst, ◌∙◌}
 use Rattle.std.specs.Prelude.{Some, None, IsSomeAnd}
 use Rattle.cas_base.proofs.Bools.{false_of_not}
 use Rattle.cas_proposer.specs.Desk.{DeskView, Draws, DrawsFor, IsOpened, promise_used}
 use Rattle.cas_proposer.specs.declared.began.Began.{Began}
 use Rattle.cas_proposer.specs.declared.began.Began.TheVariants as began
 use Rattle.cas_change.specs.Outcome.{outcome_of}
-use Rattle.cas_model.specs.Calls.Desks.{HasDrawn}
+use Rattle.cas_cache.specs.declared.ready.Ready.{Ready}
+use Rattle.cas_proposer.proofs.DeskLemmas.{without_absent}
+use Rattle.cas_model.specs.Calls.Desks.{HasDrawn, FailsToDraw}
 use Rattle.cas_world_calls.specs.Proposing.{ProposesOn, FailsToPropose}
 use Rattle.cas_world.proofs.Calls.Beginning.{drew_by, preparing_desk, gone_from, up_from, lost_at_once, accepting_desk, proposed_at_once, failed_at_once, kept_by, lost_idle, failed_idle, up_desk}
 use Rattle.cas_world.proofs.Parts.{some_and}
@@ -56,9 +58,10 @@ pub returns-in-Err-VaultFault-clause-refused : goal.returns-in-Err-VaultFault-cl
 returns-in-Err-VaultFault-clause-refused g c =
     let told = c.in-Err-VaultFault.ensures in (
       sym c.is_down.ensures ∙ c.if-is_down.false,
-      failed_idle g.V.Disk.tells g.V.Disk.may_leave g.V.Disk.fault_count c.args.key.now c.args.desk.now c.begin.new.self c.requires.idle
+      subst (λ (l : List (List ℕ × Ready)). FailsToDraw (disk_meaning g.V.Disk) l c.args.desk.now c.begin.new.self) (sym (without_absent c.args.key.now c.args.desk.now.cache (told.faulted (ap (λ e. Err e) c.in-Err-VaultFault.field-0-is))))
+      (failed_idle g.V.Disk.tells g.V.Disk.may_leave g.V.Disk.fault_count c.args.desk.now c.begin.new.self c.requires.idle
           (kept_by g.V.Disk.tells g.V.Disk.may_leave g.V.Disk.fault_count g.V.Disk.seen g.V.Disk.moment g.V.Disk.left_since g.met.V.Disk.counts_now c.args.desk.now c.begin.new.self told.same_vault told.still_past told.any_moment told.cause.never_falls)
-          told.refused (told.down.0 (ap (λ e. Err e) c.in-Err-VaultFault.field-0-is)) (told.cause.failed (ap (λ e. Err e) c.in-Err-VaultFault.field-0-is)),
+          told.refused (told.down.0 (ap (λ e. Err e) c.in-Err-VaultFault.field-0-is)) (told.cause.failed (ap (λ e. Err e) c.in-Err-VaultFault.field-0-is))),
     )
 
 pub returns-in-Err-Spent-clause-refused : goal.returns-in-Err-Spent-clause-refused

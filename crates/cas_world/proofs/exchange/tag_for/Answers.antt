@@ -25,7 +25,7 @@ untagged : (g : Over) (c : goal.After-tag-in-None g) (result : Result Ballot Vau
 untagged g c (Ok tag) is = tt
 untagged g c (Err error.VaultFault) is =
     let told = c.tag-in-None.ensures in
-    failed_tag g.V.Disk.tells g.V.Disk.may_leave g.V.Disk.fault_count g.V.Disk.seen g.V.Disk.moment g.V.Disk.left_since g.met.V.Disk.counts_now [] c.args.desk.now c.tag-in-None.new.self c.requires.idle (told.fault is) told.still_past told.any_moment told.cause.never_falls (told.cause.failed is)
+    failed_tag g.V.Disk.tells g.V.Disk.may_leave g.V.Disk.fault_count g.V.Disk.seen g.V.Disk.moment g.V.Disk.left_since g.met.V.Disk.counts_now c.args.desk.now c.tag-in-None.new.self c.requires.idle (told.fault is) told.still_past told.any_moment told.cause.never_falls (told.cause.failed is)
 untagged g c (Err error.Spent) is =
     let told = c.tag-in-None.ensures in
     let still = stays g c error.Spent is (λ e. cc e) in (

@@ -52,6 +52,7 @@ ends : (g : Over) (c : goal.After-done g) → EndsRound (disk_meaning g.V.Disk) 
 ends g c = subst (λ (o : Option Ready). EndsRound (disk_meaning g.V.Disk) c.args.desk.now c.end.new.self c.requires.round o) (offer_is g c) (record {
   desk = c.end.ensures.desk c.requires.round c.requires.is_round;
   counter = c.end.ensures.counter ∙ ap (λ (r : Option Round). counter_without r (counter_of c.args.desk.now.vault)) c.requires.is_round;
+  kept = c.end.ensures.kept;
   goes_on = end_goes_on _ c.args.desk.now.vault c.end.new.self.vault c.end.ensures.kept c.end.ensures.disk c.end.ensures.still_past;
 })
 

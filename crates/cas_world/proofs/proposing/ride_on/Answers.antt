@@ -1,13 +1,15 @@
 use Rattle.std.proofs.Common.{Ok, Err, refl, ap}
 use Rattle.std.specs.Prelude.{None}
-use Rattle.cas_world.proofs.Calls.Beginning.{rides_by, fails_by, loses_by}
+use Rattle.cas_vault.specs.Vault.{counter_of}
+use Rattle.cas_world.proofs.Calls.Beginning.{ride_due, rides_by, fails_by, loses_by}
 use Rattle.cas_world.proofs.proposing.ride_on.Goals as goal
 
 -- src/proposal.rt:91:1
 pub returns-in-Ok-clause-rides : goal.returns-in-Ok-clause-rides
 returns-in-Ok-clause-rides g c round is =
     let told = c.in-Ok.ensures in
-    rides_by g.V.Disk.tells g.V.Disk.may_leave g.V.Disk.fault_count g.V.Disk.seen g.V.Disk.moment g.V.Disk.left_since g.met.V.Disk.counts_now c.args.desk.now c.ride.new.self round c.in-Ok.ride is c.requires.accepting c.requires.up c.requires.proposer
+    let due = ride_due c.args.desk.now.id (counter_of c.args.desk.now.vault) c.in-Ok.ride (λ none. (told.none (ap (λ r. Ok r) none)).0) (λ over. cc (told.not_drawn over)) in
+    rides_by g.V.Disk.tells g.V.Disk.may_leave g.V.Disk.fault_count g.V.Disk.seen g.V.Disk.moment g.V.Disk.left_since g.met.V.Disk.counts_now c.args.desk.now c.ride.new.self round c.in-Ok.ride due is c.requires.accepting c.requires.up c.requires.proposer
     (λ none. (told.none (ap (λ r. Ok r) none)).1)
     (λ b some. told.drawn b (ap (λ r. Ok r) some))
     (λ b some. told.rides b (ap (λ r. Ok r) some))

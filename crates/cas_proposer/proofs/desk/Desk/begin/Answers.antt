@@ -28,3 +28,8 @@ returns-after-matches-clause-refused g c =
     let with_cache : List (List ℕ × Ready) → DeskView g.row.V.Denot = λ l. record { id = c.self.inside.id; vault = c.draw.new.vault; cache = l; round = c.self.inside.round; down = c.match-matches.self } in
     let with_others : DeskView g.row.V.Denot → DeskView g.row.V.Denot = λ d. record { id = d.id; vault = c.draw.new.vault; cache = d.cache; round = d.round; down = c.match-matches.self } in
     ap with_cache same ∙ ap with_others c.self.view_is
+
+pub returns-after-matches-clause-faulted : goal.returns-after-matches-clause-faulted
+returns-after-matches-clause-faulted g c is =
+    let none : promise_at c.args.key.now (promises_of c.self.inside.cache) ≡ None = sym c.in-Ok-take.ensures.ready ∙ c.in-None.is in
+    subst (λ (d : DeskView g.row.V.Denot). promise_at c.args.key.now d.cache ≡ None) c.self.view_is none

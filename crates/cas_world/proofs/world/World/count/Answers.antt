@@ -88,6 +88,7 @@ ends : (g : Over) (c : goal.After-self-in-Some-2-1 g) → EndsRound (disk_meanin
 ends g c = record {
   desk = c.end.ensures.desk (found_short g c).may.round (found_short g c).may.is_round;
   counter = c.end.ensures.counter ∙ ap (λ (r : Option Round). counter_without r (counter_of c.index_mut-desk.result.now.vault)) (found_short g c).may.is_round;
+  kept = c.end.ensures.kept;
   goes_on = end_goes_on _ c.index_mut-desk.result.now.vault c.end.new.self.vault c.end.ensures.kept c.end.ensures.disk c.end.ensures.still_past;
 }
 

@@ -34,6 +34,7 @@ none_open g c =
 crashes : (g : Over) (c : goal.Else-closes g) → Crashes (meaning g.S.Shelf g.V.Disk).disks c.index_mut.result.now c.crash.new.self
 crashes g c = record {
   crashed = c.crash.ensures.crashed;
+  shows = c.crash.ensures.vault;
   goes_on = crash_goes_on _ c.index_mut.result.now.vault c.crash.new.self.vault (g.V.Disk.seen (disk_of c.crash.new.self.vault)) c.crash.ensures.vault.kept c.crash.ensures.image c.crash.ensures.settled c.crash.ensures.still_past c.crash.ensures.never_falls;
 }
 
@@ -85,6 +86,7 @@ closes g c =
     c.index_mut.result.now c.crash.new.self (found g c).round c.index_mut-then-closes.result.now (found g c).call (found g c).at_desk (found g c).at_caller (found g c).is_open (found g c).is_round
     (record {
       crashed = c.crash.ensures.crashed;
+      shows = c.crash.ensures.vault;
       goes_on = crash_goes_on _ c.index_mut.result.now.vault c.crash.new.self.vault (g.V.Disk.seen (disk_of c.crash.new.self.vault)) c.crash.ensures.vault.kept c.crash.ensures.image c.crash.ensures.settled c.crash.ensures.still_past c.crash.ensures.never_falls;
     }))))
 

@@ -32,6 +32,7 @@ ends : (g : Over) (c : After-read_held g) (round : Round) → c.index_mut.result
 ends g c round is = record {
   desk = c.end.ensures.desk round is;
   counter = c.end.ensures.counter ∙ ap (λ (r : Option Round). counter_without r (counter_of c.index_mut.result.now.vault)) is;
+  kept = c.end.ensures.kept;
   goes_on = end_goes_on _ c.index_mut.result.now.vault c.end.new.self.vault c.end.ensures.kept c.end.ensures.disk c.end.ensures.still_past;
 }
 

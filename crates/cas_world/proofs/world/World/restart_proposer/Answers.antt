@@ -14,7 +14,7 @@ use Rattle.cas_proposer.specs.Desk.{DeskView}
 use Rattle.cas_vault.specs.Vault.{kept_of}
 use Rattle.cas_world_calls.specs.Council.{council_view}
 use Rattle.cas_world.proofs.Parts.{set_same}
-use Rattle.cas_world.proofs.Stops.Stops.{on_err_not, on_err_of, on_ok_of, on_ok_so, kept_same, restarts_vault, lasts_then, desk_restarted, desk_tells, desk_is_up, desk_stays_down, copies_still, same_round}
+use Rattle.cas_world.proofs.Stops.Stops.{on_err_not, on_err_of, on_ok_of, on_ok_so, restarts_vault, lasts_then, desk_restarted, desk_tells, desk_is_up, desk_stays_down, copies_still, same_round}
 use Rattle.cas_world.proofs.Parts.{at_place, left_at, seen_from, remembered_then}
 use Rattle.cas_world.proofs.world.World.restart_proposer.Goals as goal
 
@@ -60,7 +60,7 @@ invariant_of-self-then-is_err g c =
     let by = (let its = (at_low (map caller_view c.self.inside.callers.items) c.args.proposer (omega (arith, c.self.invariant.safe.sound.callers, c.requires, ap (λ (v : View _ _). v.last_proposer) c.self.view_is))) in
     subst (λ (i : ℕ). StepRestartProposer (meaning g.S.Shelf g.V.Disk) (view_of c.self.inside.setup.proposers c.self.inside.council c.self.inside.acceptors.items c.self.inside.desks.items c.self.inside.callers.items c.self.inside.flow c.self.inside.record) c.args.proposer (view_of c.self.inside.setup.proposers c.self.inside.council c.self.inside.acceptors.items (slice_set c.self.inside.desks.items i c.restart-restarted.new.self) c.self.inside.callers.items c.self.inside.flow c.self.inside.record)) (sym c.from.ensures)
     (desk_restarted (meaning g.S.Shelf g.V.Disk) (view_of c.self.inside.setup.proposers c.self.inside.council c.self.inside.acceptors.items c.self.inside.desks.items c.self.inside.callers.items c.self.inside.flow c.self.inside.record) c.args.proposer c.index_mut-desk.result.now c.restart-restarted.new.self its.0 c.self.inside.council.eras.0 c.restart-restarted.result (at_place c.self.inside.desks.items c.from.result c.args.proposer c.index_mut-desk.result.now c.from.ensures (omega (arith, c.self.invariant.safe.sound.desks, c.requires, ap (λ (v : View _ _). v.last_proposer) c.self.view_is)) c.index_mut-desk.ensures.value) its.1 (sym c.is_down-was_down.ensures ∙ c.if-not-was_down.false) c.restart-restarted.ensures.desk c.restart-restarted.ensures.refused
-    (restarts_vault (disk_meaning g.V.Disk) c.index_mut-desk.result.now.vault c.restart-restarted.new.self.vault c.restart-restarted.result (g.V.Disk.seen (disk_of c.restart-restarted.new.self.vault)) (λ tells. c.restart-restarted.ensures.image tells (sym c.is_down-was_down.ensures ∙ c.if-not-was_down.false)) (λ tells. c.restart-restarted.ensures.reopened tells (sym c.is_down-was_down.ensures ∙ c.if-not-was_down.false)) (lasts_then (disk_meaning g.V.Disk) g.V.Disk.seen c.index_mut-desk.result.now c.restart-restarted.new.self c.restart-restarted.result c.restart-restarted.ensures.desk c.restart-restarted.ensures.stands) (kept_same _ _ c.restart-restarted.result c.restart-restarted.ensures.same_vault) (λ tells image may. left_at g.V.Disk.moment g.V.Disk.left_since g.V.Disk.may_leave _ _ _ (λ t left later may_now. g.met.V.Disk.counts_now _ t left tells later may_now) (c.restart-restarted.ensures.any_moment tells (sym c.is_down-was_down.ensures ∙ c.if-not-was_down.false)) image may) c.restart-restarted.ensures.still_past c.restart-restarted.ensures.cause.never_falls)
+    (restarts_vault (disk_meaning g.V.Disk) c.index_mut-desk.result.now.vault c.restart-restarted.new.self.vault c.restart-restarted.result (g.V.Disk.seen (disk_of c.restart-restarted.new.self.vault)) (λ tells. c.restart-restarted.ensures.image tells (sym c.is_down-was_down.ensures ∙ c.if-not-was_down.false)) (λ tells. c.restart-restarted.ensures.reopened tells (sym c.is_down-was_down.ensures ∙ c.if-not-was_down.false)) (c.restart-restarted.ensures.counter (sym c.is_down-was_down.ensures ∙ c.if-not-was_down.false)) (lasts_then (disk_meaning g.V.Disk) g.V.Disk.seen c.index_mut-desk.result.now c.restart-restarted.new.self c.restart-restarted.result c.restart-restarted.ensures.desk c.restart-restarted.ensures.stands) c.restart-restarted.ensures.same_vault (λ tells image may. left_at g.V.Disk.moment g.V.Disk.left_since g.V.Disk.may_leave _ _ _ (λ t left later may_now. g.met.V.Disk.counts_now _ t left tells later may_now) (c.restart-restarted.ensures.any_moment tells (sym c.is_down-was_down.ensures ∙ c.if-not-was_down.false)) image may) c.restart-restarted.ensures.still_past c.restart-restarted.ensures.cause.never_falls)
     (on_ok_of c.restart-restarted.result (c.self.inside.council.eras.0 ≡ slice_set c.self.inside.council.eras.0 c.args.proposer (era_shown (council_view c.self.inside.council).plan (era_at (view_of c.self.inside.setup.proposers c.self.inside.council c.self.inside.acceptors.items c.self.inside.desks.items c.self.inside.callers.items c.self.inside.flow c.self.inside.record) c.args.proposer) (kept_of c.restart-restarted.new.self.vault).era)) (sym c.is_err.ensures.value ∙ c.if-is_err.true)) (on_err_of c.restart-restarted.result (c.self.inside.council.eras.0 ≡ c.self.inside.council.eras.0) refl))) in record {
       safe = steps_are_safe (meaning g.S.Shelf g.V.Disk) (view_of c.self.inside.setup.proposers c.self.inside.council c.self.inside.acceptors.items c.self.inside.desks.items c.self.inside.callers.items c.self.inside.flow c.self.inside.record) (step.RestartProposer c.args.proposer) (view_of c.self.inside.setup.proposers c.self.inside.council c.self.inside.acceptors.items (slice_set c.self.inside.desks.items c.from.result c.restart-restarted.new.self) c.self.inside.callers.items c.self.inside.flow c.self.inside.record) c.self.invariant.safe by;
       remembered = remembered_then (meaning g.S.Shelf g.V.Disk) (step.RestartProposer c.args.proposer) by c.self.invariant.remembered;
@@ -72,7 +72,7 @@ pub returns-then-is_err-clause-step : goal.returns-then-is_err-clause-step
 returns-then-is_err-clause-step g c = seen_from (meaning g.S.Shelf g.V.Disk) (step.RestartProposer c.args.proposer) (view_of c.self.inside.setup.proposers c.self.inside.council c.self.inside.acceptors.items (slice_set c.self.inside.desks.items c.from.result c.restart-restarted.new.self) c.self.inside.callers.items c.self.inside.flow c.self.inside.record) c.self.view_is (let its = (at_low (map caller_view c.self.inside.callers.items) c.args.proposer (omega (arith, c.self.invariant.safe.sound.callers, c.requires, ap (λ (v : View _ _). v.last_proposer) c.self.view_is))) in
     subst (λ (i : ℕ). StepRestartProposer (meaning g.S.Shelf g.V.Disk) (view_of c.self.inside.setup.proposers c.self.inside.council c.self.inside.acceptors.items c.self.inside.desks.items c.self.inside.callers.items c.self.inside.flow c.self.inside.record) c.args.proposer (view_of c.self.inside.setup.proposers c.self.inside.council c.self.inside.acceptors.items (slice_set c.self.inside.desks.items i c.restart-restarted.new.self) c.self.inside.callers.items c.self.inside.flow c.self.inside.record)) (sym c.from.ensures)
     (desk_restarted (meaning g.S.Shelf g.V.Disk) (view_of c.self.inside.setup.proposers c.self.inside.council c.self.inside.acceptors.items c.self.inside.desks.items c.self.inside.callers.items c.self.inside.flow c.self.inside.record) c.args.proposer c.index_mut-desk.result.now c.restart-restarted.new.self its.0 c.self.inside.council.eras.0 c.restart-restarted.result (at_place c.self.inside.desks.items c.from.result c.args.proposer c.index_mut-desk.result.now c.from.ensures (omega (arith, c.self.invariant.safe.sound.desks, c.requires, ap (λ (v : View _ _). v.last_proposer) c.self.view_is)) c.index_mut-desk.ensures.value) its.1 (sym c.is_down-was_down.ensures ∙ c.if-not-was_down.false) c.restart-restarted.ensures.desk c.restart-restarted.ensures.refused
-    (restarts_vault (disk_meaning g.V.Disk) c.index_mut-desk.result.now.vault c.restart-restarted.new.self.vault c.restart-restarted.result (g.V.Disk.seen (disk_of c.restart-restarted.new.self.vault)) (λ tells. c.restart-restarted.ensures.image tells (sym c.is_down-was_down.ensures ∙ c.if-not-was_down.false)) (λ tells. c.restart-restarted.ensures.reopened tells (sym c.is_down-was_down.ensures ∙ c.if-not-was_down.false)) (lasts_then (disk_meaning g.V.Disk) g.V.Disk.seen c.index_mut-desk.result.now c.restart-restarted.new.self c.restart-restarted.result c.restart-restarted.ensures.desk c.restart-restarted.ensures.stands) (kept_same _ _ c.restart-restarted.result c.restart-restarted.ensures.same_vault) (λ tells image may. left_at g.V.Disk.moment g.V.Disk.left_since g.V.Disk.may_leave _ _ _ (λ t left later may_now. g.met.V.Disk.counts_now _ t left tells later may_now) (c.restart-restarted.ensures.any_moment tells (sym c.is_down-was_down.ensures ∙ c.if-not-was_down.false)) image may) c.restart-restarted.ensures.still_past c.restart-restarted.ensures.cause.never_falls)
+    (restarts_vault (disk_meaning g.V.Disk) c.index_mut-desk.result.now.vault c.restart-restarted.new.self.vault c.restart-restarted.result (g.V.Disk.seen (disk_of c.restart-restarted.new.self.vault)) (λ tells. c.restart-restarted.ensures.image tells (sym c.is_down-was_down.ensures ∙ c.if-not-was_down.false)) (λ tells. c.restart-restarted.ensures.reopened tells (sym c.is_down-was_down.ensures ∙ c.if-not-was_down.false)) (c.restart-restarted.ensures.counter (sym c.is_down-was_down.ensures ∙ c.if-not-was_down.false)) (lasts_then (disk_meaning g.V.Disk) g.V.Disk.seen c.index_mut-desk.result.now c.restart-restarted.new.self c.restart-restarted.result c.restart-restarted.ensures.desk c.restart-restarted.ensures.stands) c.restart-restarted.ensures.same_vault (λ tells image may. left_at g.V.Disk.moment g.V.Disk.left_since g.V.Disk.may_leave _ _ _ (λ t left later may_now. g.met.V.Disk.counts_now _ t left tells later may_now) (c.restart-restarted.ensures.any_moment tells (sym c.is_down-was_down.ensures ∙ c.if-not-was_down.false)) image may) c.restart-restarted.ensures.still_past c.restart-restarted.ensures.cause.never_falls)
     (on_ok_of c.restart-restarted.result (c.self.inside.council.eras.0 ≡ slice_set c.self.inside.council.eras.0 c.args.proposer (era_shown (council_view c.self.inside.council).plan (era_at (view_of c.self.inside.setup.proposers c.self.inside.council c.self.inside.acceptors.items c.self.inside.desks.items c.self.inside.callers.items c.self.inside.flow c.self.inside.record) c.args.proposer) (kept_of c.restart-restarted.new.self.vault).era)) (sym c.is_err.ensures.value ∙ c.if-is_err.true)) (on_err_of c.restart-restarted.result (c.self.inside.council.eras.0 ≡ c.self.inside.council.eras.0) refl)))
 
 pub returns-then-is_err-clause-tells : goal.returns-then-is_err-clause-tells
@@ -99,7 +99,7 @@ invariant_of-self-2 g c =
     subst (λ (i : ℕ). StepRestartProposer (meaning g.S.Shelf g.V.Disk) (view_of c.self.inside.setup.proposers c.self.inside.council c.self.inside.acceptors.items c.self.inside.desks.items c.self.inside.callers.items c.self.inside.flow c.self.inside.record) c.args.proposer (view_of c.self.inside.setup.proposers c.show.new.self c.self.inside.acceptors.items (slice_set c.self.inside.desks.items i c.restart-restarted.new.self) c.self.inside.callers.items c.self.inside.flow c.self.inside.record)) (sym c.from.ensures)
     (subst (StepRestartProposer (meaning g.S.Shelf g.V.Disk) (view_of c.self.inside.setup.proposers c.self.inside.council c.self.inside.acceptors.items c.self.inside.desks.items c.self.inside.callers.items c.self.inside.flow c.self.inside.record) c.args.proposer) (λ i. record (view_of c.self.inside.setup.proposers c.show.new.self c.self.inside.acceptors.items (slice_set c.self.inside.desks.items c.args.proposer c.restart-restarted.new.self) c.self.inside.callers.items c.self.inside.flow c.self.inside.record) { council = sym c.show.ensures.council i })
     (desk_restarted (meaning g.S.Shelf g.V.Disk) (view_of c.self.inside.setup.proposers c.self.inside.council c.self.inside.acceptors.items c.self.inside.desks.items c.self.inside.callers.items c.self.inside.flow c.self.inside.record) c.args.proposer c.index_mut-desk.result.now c.restart-restarted.new.self its.0 c.show.new.self.eras.0 c.restart-restarted.result (at_place c.self.inside.desks.items c.from.result c.args.proposer c.index_mut-desk.result.now c.from.ensures (omega (arith, c.self.invariant.safe.sound.desks, c.requires, ap (λ (v : View _ _). v.last_proposer) c.self.view_is)) c.index_mut-desk.ensures.value) its.1 (sym c.is_down-was_down.ensures ∙ c.if-not-was_down.false) c.restart-restarted.ensures.desk c.restart-restarted.ensures.refused
-    (restarts_vault (disk_meaning g.V.Disk) c.index_mut-desk.result.now.vault c.restart-restarted.new.self.vault c.restart-restarted.result (g.V.Disk.seen (disk_of c.restart-restarted.new.self.vault)) (λ tells. c.restart-restarted.ensures.image tells (sym c.is_down-was_down.ensures ∙ c.if-not-was_down.false)) (λ tells. c.restart-restarted.ensures.reopened tells (sym c.is_down-was_down.ensures ∙ c.if-not-was_down.false)) (lasts_then (disk_meaning g.V.Disk) g.V.Disk.seen c.index_mut-desk.result.now c.restart-restarted.new.self c.restart-restarted.result c.restart-restarted.ensures.desk c.restart-restarted.ensures.stands) (kept_same _ _ c.restart-restarted.result c.restart-restarted.ensures.same_vault) (λ tells image may. left_at g.V.Disk.moment g.V.Disk.left_since g.V.Disk.may_leave _ _ _ (λ t left later may_now. g.met.V.Disk.counts_now _ t left tells later may_now) (c.restart-restarted.ensures.any_moment tells (sym c.is_down-was_down.ensures ∙ c.if-not-was_down.false)) image may) c.restart-restarted.ensures.still_past c.restart-restarted.ensures.cause.never_falls)
+    (restarts_vault (disk_meaning g.V.Disk) c.index_mut-desk.result.now.vault c.restart-restarted.new.self.vault c.restart-restarted.result (g.V.Disk.seen (disk_of c.restart-restarted.new.self.vault)) (λ tells. c.restart-restarted.ensures.image tells (sym c.is_down-was_down.ensures ∙ c.if-not-was_down.false)) (λ tells. c.restart-restarted.ensures.reopened tells (sym c.is_down-was_down.ensures ∙ c.if-not-was_down.false)) (c.restart-restarted.ensures.counter (sym c.is_down-was_down.ensures ∙ c.if-not-was_down.false)) (lasts_then (disk_meaning g.V.Disk) g.V.Disk.seen c.index_mut-desk.result.now c.restart-restarted.new.self c.restart-restarted.result c.restart-restarted.ensures.desk c.restart-restarted.ensures.stands) c.restart-restarted.ensures.same_vault (λ tells image may. left_at g.V.Disk.moment g.V.Disk.left_since g.V.Disk.may_leave _ _ _ (λ t left later may_now. g.met.V.Disk.counts_now _ t left tells later may_now) (c.restart-restarted.ensures.any_moment tells (sym c.is_down-was_down.ensures ∙ c.if-not-was_down.false)) image may) c.restart-restarted.ensures.still_past c.restart-restarted.ensures.cause.never_falls)
     (on_ok_so c.restart-restarted.result (c.show.new.self.eras.0 ≡ slice_set c.self.inside.council.eras.0 c.args.proposer (era_shown (council_view c.self.inside.council).plan (era_at (view_of c.self.inside.setup.proposers c.self.inside.council c.self.inside.acceptors.items c.self.inside.desks.items c.self.inside.callers.items c.self.inside.flow c.self.inside.record) c.args.proposer) (kept_of c.restart-restarted.new.self.vault).era))
     (c.show.ensures.eras ∙ ap (λ (n : ℕ). slice_set c.self.inside.council.eras.0 c.args.proposer (era_shown (council_view c.self.inside.council).plan (era_at (view_of c.self.inside.setup.proposers c.self.inside.council c.self.inside.acceptors.items c.self.inside.desks.items c.self.inside.callers.items c.self.inside.flow c.self.inside.record) c.args.proposer) n)) c.era-number.ensures))
     (on_err_not c.restart-restarted.result (c.show.new.self.eras.0 ≡ c.self.inside.council.eras.0) (sym c.is_err.ensures.value ∙ c.if-is_err.false))))) in record {
@@ -114,7 +114,7 @@ returns-clause-step g c = seen_from (meaning g.S.Shelf g.V.Disk) (step.RestartPr
     subst (λ (i : ℕ). StepRestartProposer (meaning g.S.Shelf g.V.Disk) (view_of c.self.inside.setup.proposers c.self.inside.council c.self.inside.acceptors.items c.self.inside.desks.items c.self.inside.callers.items c.self.inside.flow c.self.inside.record) c.args.proposer (view_of c.self.inside.setup.proposers c.show.new.self c.self.inside.acceptors.items (slice_set c.self.inside.desks.items i c.restart-restarted.new.self) c.self.inside.callers.items c.self.inside.flow c.self.inside.record)) (sym c.from.ensures)
     (subst (StepRestartProposer (meaning g.S.Shelf g.V.Disk) (view_of c.self.inside.setup.proposers c.self.inside.council c.self.inside.acceptors.items c.self.inside.desks.items c.self.inside.callers.items c.self.inside.flow c.self.inside.record) c.args.proposer) (λ i. record (view_of c.self.inside.setup.proposers c.show.new.self c.self.inside.acceptors.items (slice_set c.self.inside.desks.items c.args.proposer c.restart-restarted.new.self) c.self.inside.callers.items c.self.inside.flow c.self.inside.record) { council = sym c.show.ensures.council i })
     (desk_restarted (meaning g.S.Shelf g.V.Disk) (view_of c.self.inside.setup.proposers c.self.inside.council c.self.inside.acceptors.items c.self.inside.desks.items c.self.inside.callers.items c.self.inside.flow c.self.inside.record) c.args.proposer c.index_mut-desk.result.now c.restart-restarted.new.self its.0 c.show.new.self.eras.0 c.restart-restarted.result (at_place c.self.inside.desks.items c.from.result c.args.proposer c.index_mut-desk.result.now c.from.ensures (omega (arith, c.self.invariant.safe.sound.desks, c.requires, ap (λ (v : View _ _). v.last_proposer) c.self.view_is)) c.index_mut-desk.ensures.value) its.1 (sym c.is_down-was_down.ensures ∙ c.if-not-was_down.false) c.restart-restarted.ensures.desk c.restart-restarted.ensures.refused
-    (restarts_vault (disk_meaning g.V.Disk) c.index_mut-desk.result.now.vault c.restart-restarted.new.self.vault c.restart-restarted.result (g.V.Disk.seen (disk_of c.restart-restarted.new.self.vault)) (λ tells. c.restart-restarted.ensures.image tells (sym c.is_down-was_down.ensures ∙ c.if-not-was_down.false)) (λ tells. c.restart-restarted.ensures.reopened tells (sym c.is_down-was_down.ensures ∙ c.if-not-was_down.false)) (lasts_then (disk_meaning g.V.Disk) g.V.Disk.seen c.index_mut-desk.result.now c.restart-restarted.new.self c.restart-restarted.result c.restart-restarted.ensures.desk c.restart-restarted.ensures.stands) (kept_same _ _ c.restart-restarted.result c.restart-restarted.ensures.same_vault) (λ tells image may. left_at g.V.Disk.moment g.V.Disk.left_since g.V.Disk.may_leave _ _ _ (λ t left later may_now. g.met.V.Disk.counts_now _ t left tells later may_now) (c.restart-restarted.ensures.any_moment tells (sym c.is_down-was_down.ensures ∙ c.if-not-was_down.false)) image may) c.restart-restarted.ensures.still_past c.restart-restarted.ensures.cause.never_falls)
+    (restarts_vault (disk_meaning g.V.Disk) c.index_mut-desk.result.now.vault c.restart-restarted.new.self.vault c.restart-restarted.result (g.V.Disk.seen (disk_of c.restart-restarted.new.self.vault)) (λ tells. c.restart-restarted.ensures.image tells (sym c.is_down-was_down.ensures ∙ c.if-not-was_down.false)) (λ tells. c.restart-restarted.ensures.reopened tells (sym c.is_down-was_down.ensures ∙ c.if-not-was_down.false)) (c.restart-restarted.ensures.counter (sym c.is_down-was_down.ensures ∙ c.if-not-was_down.false)) (lasts_then (disk_meaning g.V.Disk) g.V.Disk.seen c.index_mut-desk.result.now c.restart-restarted.new.self c.restart-restarted.result c.restart-restarted.ensures.desk c.restart-restarted.ensures.stands) c.restart-restarted.ensures.same_vault (λ tells image may. left_at g.V.Disk.moment g.V.Disk.left_since g.V.Disk.may_leave _ _ _ (λ t left later may_now. g.met.V.Disk.counts_now _ t left tells later may_now) (c.restart-restarted.ensures.any_moment tells (sym c.is_down-was_down.ensures ∙ c.if-not-was_down.false)) image may) c.restart-restarted.ensures.still_past c.restart-restarted.ensures.cause.never_falls)
     (on_ok_so c.restart-restarted.result (c.show.new.self.eras.0 ≡ slice_set c.self.inside.council.eras.0 c.args.proposer (era_shown (council_view c.self.inside.council).plan (era_at (view_of c.self.inside.setup.proposers c.self.inside.council c.self.inside.acceptors.items c.self.inside.desks.items c.self.inside.callers.items c.self.inside.flow c.self.inside.record) c.args.proposer) (kept_of c.restart-restarted.new.self.vault).era))
     (c.show.ensures.eras ∙ ap (λ (n : ℕ). slice_set c.self.inside.council.eras.0 c.args.proposer (era_shown (council_view c.self.inside.council).plan (era_at (view_of c.self.inside.setup.proposers c.self.inside.council c.self.inside.acceptors.items c.self.inside.desks.items c.self.inside.callers.items c.self.inside.flow c.self.inside.record) c.args.proposer) n)) c.era-number.ensures))
     (on_err_not c.restart-restarted.result (c.show.new.self.eras.0 ≡ c.self.inside.council.eras.0) (sym c.is_err.ensures.value ∙ c.if-is_err.false)))))
