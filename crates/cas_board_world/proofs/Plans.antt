@@ -158,7 +158,7 @@ open_blamed {S} {V} m old new safe is by = by_case by.opens
     by_case (plans.opens progress middle up none planned welcomes view) =
         subst (IsBlamed m) (sym view) (opened_blamed m old middle by.order.asked progress safe is none planned welcomes
         (λ id was now joins at_was at_now fresh down. by.faulted (new_plan by.order.asked progress) none (ap (λ (v : View S V). v.council.plan) view) id was now joins at_was (subst (λ (v : View S V). IsAt v.acceptors id now) (sym view) at_now) fresh down))
-    by_case (plans.no_memory middle up none welcomes view) = subst (IsBlamed m) (sym view) (on_telling m (welcome_blamed m old middle by.order.asked is welcomes) (told.Stopped (answer.NoMemory false)) tt)
+    by_case (plans.no_memory progress middle up none planned welcomes view) = subst (IsBlamed m) (sym view) (on_telling m (welcome_blamed m old middle by.order.asked is welcomes) (told.Stopped (answer.NoMemory false)) tt)
 
 -- ---- a proposer enters the next era
 left_council : {S V : Type 0} (DeskTurns : DeskView V → DeskView V → Type 0) (closed : CallView → CallView) (old : View S V) (id : ℕ) (new : View S V) → LeavesRound DeskTurns closed old id new → new.council ≡ old.council

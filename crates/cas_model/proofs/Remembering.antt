@@ -839,7 +839,7 @@ opens {S} {V} m old new shelves disks renewed is by = by_case by.opens
         (subst (λ (c : Council). IsPlanned (era_at middle 0) c.used by.order.asked (Ok progress)) (sym (welcome_council m old middle by.order.asked welcomes))
         (subst (λ (c : Course). IsPlanned (era_in c.eras 0) old.council.used by.order.asked (Ok progress)) (sym (welcome_course m old middle by.order.asked welcomes)) planned))
         (welcomed m old middle by.order.asked shelves disks renewed is welcomes))
-    by_case (plans.no_memory middle up none welcomes view) = subst (IsFollowed m) (sym view) (tells_remembered m middle _ (welcomed m old middle by.order.asked shelves disks renewed is welcomes))
+    by_case (plans.no_memory progress middle up none planned welcomes view) = subst (IsFollowed m) (sym view) (tells_remembered m middle _ (welcomed m old middle by.order.asked shelves disks renewed is welcomes))
 
 -- ---- all of them
 led : {S V : Type 0} (m : Meaning S V) (old : View S V) (event : Event) (new : View S V) → m.shelves.tells → m.disks.tells → IsPlain event → AreRenewed m old → IsFollowed m old → Leads event → Step m old event new → IsFollowed m new

@@ -1,13 +1,13 @@
 -- The laws of a cluster as it is seen.
-use Rattle.std.proofs.Common.{◌≡◌, ℕ, true, false, List, Option, None, Some, Ok, reverse, refl, sym, ap, subst, ◌∙◌, inl, inr, arith}
+use Rattle.std.proofs.Common.{◌≡◌, ℕ, true, false, List, [], ◌∷◌, ◌++◌, Option, None, Some, Ok, reverse, refl, sym, ap, subst, ◌∙◌, inl, inr, arith}
 use Rattle.std.specs.Cmp.Lexicographic.{slice_cmp}
 use Rattle.std.specs.FinMap as map
 use Rattle.std.specs.Ordering.{nat_cmp}
-use Rattle.cas_base.proofs.Bools.{true_or_false}
+use Rattle.cas_base.proofs.Bools.{true_or_false, not_both}
 use Rattle.cas_ballot.specs.declared.ballot.Ballot.{Ballot}
 use Rattle.cas_ballot.specs.Ballot.{zero_ballot, BallotAtMost, BallotLess}
 use Rattle.cas_ballot.specs.Members.{has_member}
-use Rattle.cas_ballot.proofs.BallotLemmas.{at_most_antisym, zero_at_most}
+use Rattle.cas_ballot.proofs.BallotLemmas.{at_most_antisym, less_trans, zero_at_most}
 use Rattle.cas_acceptor.specs.Acceptor.{AcceptorView}
 use Rattle.cas_slot.specs.declared.slot.Slot.{Slot}
 use Rattle.cas_slot.specs.Contents.{Contents, nothing}
@@ -19,27 +19,38 @@ use Rattle.cas_record.specs.declared.mark.Mark.TheVariants.{Acked}
 use Rattle.cas_record.specs.Histories.Chain.{chain_of}
 use Rattle.cas_record.specs.Logs.Happening.{Happening, marks_of}
 use Rattle.cas_record.specs.Logs.Orderly.{IsAboveFloors, IsClear, IsNoneOrAbove}
-use Rattle.cas_record.specs.Places.{Stands, IsPrefix}
+use Rattle.cas_record.specs.Places.{Stands, IsPrefix, here}
 use Rattle.cas_record.proofs.Logs.Lemmas.{acked_at, not_zero, acked_proposed}
-use Rattle.cas_model.specs.View.{Meaning, View, CallView, era_at, IsAt}
+use Rattle.cas_model.specs.View.{Meaning, View, CallView, CallerView, era_in, era_at, IsAt}
+use Rattle.cas_quorum.specs.declared.era.Era.{Era}
+use Rattle.cas_record.specs.declared.answer.Answer.{Answer}
+use Rattle.cas_record.specs.declared.answer.Answer.TheVariants as answer
+use Rattle.cas_record.specs.declared.mark.Acknowledgment.{Acknowledgment}
+use Rattle.cas_record.proofs.PlaceLemmas.{newest_or}
+use Rattle.cas_record.proofs.Positions.{read_more}
+use Rattle.cas_proposer.specs.Round.{is_preparing}
+use Rattle.cas_proposer.specs.Desk.{DeskView}
+use Rattle.cas_model.specs.Calls.Step as calls
+use Rattle.cas_model.specs.Calls.Step.{CountsOrEnds, over}
 use Rattle.cas_protocol.specs.Acceptors.{IsLeft, LogTells}
 use Rattle.cas_protocol.specs.Held.{Holds}
 use Rattle.cas_model.specs.History.{IsRemembered}
-use Rattle.cas_model.specs.Parties.{IsAcceptorTrue, IsDeskTrue, IsPrepareTrue, IsAcceptTrue, IsOpenTrue}
-use Rattle.cas_model.specs.Step.{History}
+use Rattle.cas_model.specs.Parties.{IsAcceptorTrue, IsDeskTrue, IsPrepareTrue, IsAcceptTrue, IsRoundTrue, IsOpenTrue}
+use Rattle.cas_model.specs.Step.{OpenRoundAt, History}
 use Rattle.cas_model.specs.Step as step
-use Rattle.cas_model.specs.Laws.{OpeningsAreRemembered, OpeningsOnAreRemembered, StepsAreRemembered, HistoriesAreLegal, IsKeptBy, WhatIsDoneIsKept, FloorsArePassed, MembersAreClear}
+use Rattle.cas_model.specs.Laws.{OpeningsAreRemembered, OpeningsOnAreRemembered, StepsAreRemembered, HistoriesAreLegal, IsKeptBy, WhatIsDoneIsKept, IsDoneAt, DonesStand, FloorsArePassed, MembersAreClear}
 use Rattle.cas_protocol.proofs.Held.{held_by}
 use Rattle.cas_model.proofs.Openings.Opens.{opening_remembered, remembered_on, remembered_legal}
 use Rattle.cas_model.proofs.Collection.Steps.{keeps}
-use Rattle.cas_model.proofs.Places.{some_is}
+use Rattle.cas_model.proofs.Places.{some_is, own_set}
+use Rattle.cas_model.proofs.Calls.Safe.{prepares_is}
 use Rattle.cas_protocol.proofs.Proposes.{all_in_low}
 use Rattle.cas_model.proofs.Safety.Parts.{at_low}
 use Rattle.cas_protocol.specs.Protocol.{IsFloorClear}
 use Rattle.cas_model.specs.Safe.{IsSafe}
 use Rattle.cas_record.specs.Logs.Lawful.{SlotTold}
 use Rattle.cas_record.proofs.Logs.Floors.{accepted_after}
-use Rattle.std.specs.Prelude.{◌≤◌, ◌⊎◌}
+use Rattle.std.specs.Prelude.{◌≤◌, ◌⊎◌, slice_set}
 use Rattle.cas_flow.specs.Flow.{queue_at}
 use Rattle.cas_proposer.specs.declared.round.Round.{Round}
 use Rattle.cas_record.specs.Legal.{HasFloor}
@@ -124,6 +135,7 @@ floors_passed {S} {V} m shelves disks view key floor id desk caller is has at_de
   vault = of.vault.past_floors key floor stood;
   promise = λ ready h. let held = of.cached key ready h in (held.in_hand.above_floors.above stood.stands, held.over_floors floor stood);
   round = λ round is_open same. by_round desk.round round is_open same of.round;
+  ride = λ round ride is_open same accepts rides. by_ride desk.round round ride is_open same accepts rides of.round;
 }
   where
     log : List Happening
@@ -144,6 +156,72 @@ floors_passed {S} {V} m shelves disks view key floor id desk caller is has at_de
     by_round (Some one) round e same true_of =
         let is_it : one ≡ round = some_is e in
         subst (λ (r : Round). BallotLess floor r.ballot) is_it (in_phase true_of.call one (ap (λ (r : Round). r.key) is_it ∙ same) true_of.phase)
+
+    above_ride : (call : CallView) (round : Round) (ride : Ballot) → is_preparing round.phase ≡ false → round.ride ≡ Some ride
+        → IsPrepareTrue log id call (queue_at view.flow id).messages round ⊎ IsAcceptTrue log is.followed.logged.global.made id caller.number call (queue_at view.flow id).messages round → BallotLess round.ballot ride
+    above_ride call round ride accepts rides (inl prepare) = absurd (not_both (prepares_is round.era round.ballot prepare.replies round.phase prepare.preparing.phase).0 accepts)
+    above_ride call round ride accepts rides (inr accept) = (accept.ride ride rides).above
+
+    by_ride : (open_ : Option Round) (round : Round) (ride : Ballot) → open_ ≡ Some round → round.key ≡ key → is_preparing round.phase ≡ false → round.ride ≡ Some ride
+        → IsOpenTrue is.followed.cluster log is.followed.logged.global.made id (era_at view id).number caller (queue_at view.flow id).messages open_ → BallotLess floor ride
+    by_ride None round ride e same accepts rides true_of = absurd (cc e)
+    by_ride (Some one) round ride e same accepts rides true_of =
+        let is_it : one ≡ round = some_is e in
+        let above = subst (λ (r : Round). is_preparing r.phase ≡ false → r.ride ≡ Some ride → BallotLess r.ballot ride) is_it (λ a s. above_ride true_of.call one ride a s true_of.phase) accepts rides in
+        less_trans (by_round (Some one) round e same true_of) above
+
+-- ---- what is told done
+-- a mark that is no floor leaves what is above the floors above them
+still_above : (key : List ℕ) (ballot : Ballot) (a : Acknowledgment) (marks : List Mark) → IsAboveFloors (reverse marks) key ballot → IsAboveFloors (reverse (marks ++ Acked a ∷ [])) key ballot
+still_above key ballot a marks above = record {
+  above = λ floors. elim (newest_or (subst (Stands _) (read_more marks (Acked a)) floors)) [ | inl same ↦ absurd (cc same) | inr older ↦ above.above older ];
+}
+
+-- the round whose accepts are counted is above the floors of its key
+round_above : {S V : Type 0} (m : Meaning S V) (view : View S V) (id : ℕ) (desk : DeskView V) (caller : CallerView) (round : Round) → m.shelves.tells → m.disks.tells → IsRemembered m view → IsAt view.desks id desk → IsAt view.callers id caller → desk.round ≡ Some round
+    → IsAboveFloors (reverse view.marks) round.key round.ballot
+round_above m view id desk caller round shelves disks is at at_caller is_open = record {
+  above = λ stands. (floors_passed m shelves disks view round.key _ id desk caller is (record { state = _; stands = stands }) at at_caller).round round is_open refl;
+}
+
+pub dones_stand : {S V : Type 0} (m : Meaning S V) → DonesStand m
+dones_stand {S} {V} m shelves disks old new id caller call state took ballot is low by at_caller is_open told = in_case by.counts
+  where
+    at : OpenRoundAt old id
+    at = by.at_round
+
+    now_is : (told_so : Answer) → new.callers ≡ slice_set old.callers id (record at.of_call.caller { call = Some (over at.of_call.call told_so) }) → told_so ≡ answer.Done state took ballot
+    now_is told_so callers =
+        let same : caller ≡ record at.of_call.caller { call = Some (over at.of_call.call told_so) } = own_set old.callers id _ caller (subst (λ (l : List CallerView). IsAt l id caller) callers at_caller) in
+        let same_call : call ≡ over at.of_call.call told_so = some_is (sym is_open ∙ ap (λ (c : CallerView). c.call) same) in
+        some_is (sym (ap (λ (c : CallView). c.told) same_call) ∙ told)
+
+    remembered : IsRemembered m new
+    remembered = keeps m old (step.Count id) new shelves disks is by
+
+    of_round : IsRoundTrue is.followed.cluster is.followed.logged.global.log is.followed.logged.global.made id (era_at old id).number at.of_call.caller (queue_at old.flow id).messages at.round
+    of_round = subst (IsOpenTrue is.followed.cluster is.followed.logged.global.log is.followed.logged.global.made id (era_at old id).number at.of_call.caller (queue_at old.flow id).messages) at.is_open
+        (is.followed.logged.agrees.desks id at.desk at.of_call.caller at.at_desk at.of_call.at_caller).round
+
+    in_case : CountsOrEnds m old id at.desk at.round at.of_call.caller at.of_call.call new → IsDoneAt m old id ballot new
+    in_case (calls.counts now confirmers outcome quorum confirmed proposed ends view) =
+        let done : answer.Done outcome.state outcome.took at.round.ballot ≡ answer.Done state took ballot = now_is _ (ap (λ (w : View S V). w.callers) view) in
+        let a : Acknowledgment = record { key = at.round.key; ballot = at.round.ballot; era = at.round.era.number; by = confirmers } in
+        let marked : new.marks ≡ old.marks ++ Acked a ∷ [] = ap (λ (w : View S V). w.marks) view in
+        let above : IsAboveFloors (reverse new.marks) a.key a.ballot = subst (λ (l : List Mark). IsAboveFloors (reverse l) a.key a.ballot) (sym marked)
+            (still_above a.key a.ballot a old.marks (round_above m old id at.desk at.of_call.caller at.round shelves disks is at.at_desk at.of_call.at_caller at.is_open)) in
+        let kept = done_kept m shelves new a remembered (subst (Stands (Acked a)) (sym (ap reverse marked ∙ read_more old.marks (Acked a))) (record { older = reverse old.marks; at = here })) above in
+        let era : a.era ≡ (era_at new id).number = of_round.same_era ∙ ap (λ (l : List Era). (era_in l id).number) (sym (ap (λ (w : View S V). w.eras) view)) in
+        record {
+          acknowledgment = a;
+          marked = marked;
+          same_ballot = cc done;
+          above_floors = above;
+          same_era = era;
+          quorum = kept.quorum id (subst (λ (n : ℕ). id ≤ n) (sym (ap (λ (w : View S V). w.last_proposer) view)) low) era;
+          kept = kept.kept;
+        }
+    in_case (calls.ends now verdict why is_verdict cause ends view) = absurd (cc (now_is _ (ap (λ (w : View S V). w.callers) view)))
 
 -- a crash leaves of an acceptor that is up what is kept of it
 pub kept_by_member : {S V : Type 0} (m : Meaning S V) (view : View S V) (is : IsRemembered m view) (id : ℕ) (acceptor : AcceptorView S) → IsAt view.acceptors id acceptor → acceptor.down ≡ false

@@ -82,7 +82,7 @@ abbrev kept : Kept
 kept = record { bound = 100; age = 0; era = 0 }
 
 -- the image of a disk that keeps it
-kept_image : List ℕ
+abbrev kept_image : List ℕ
 kept_image = 1 ∷ 0 ∷ 0 ∷ 29 ∷ spelling kept ++ replicate 991 0
 
 kept_shown : KeptOn kept kept_image

@@ -1,5 +1,5 @@
 -- What is true of every cluster as it is seen, where its disks tell what they keep.
-use Rattle.std.specs.Prelude.{◌≡◌, ◌⊎◌, ℕ, ◌≤◌, true, false, List, reverse, Some, Ok, Contains}
+use Rattle.std.specs.Prelude.{◌≡◌, ◌⊎◌, ℕ, ◌≤◌, true, false, List, [], ◌∷◌, ◌++◌, reverse, Some, Ok, Contains}
 use Rattle.cas_ballot.specs.declared.ballot.Ballot.{Ballot}
 use Rattle.cas_ballot.specs.Ballot.{BallotAtMost, BallotLess}
 use Rattle.cas_ballot.specs.Members.{has_member}
@@ -10,8 +10,12 @@ use Rattle.cas_slot.specs.Slot.{accepted_ballot}
 use Rattle.cas_slot.specs.Table.{accepted_at}
 use Rattle.cas_acceptor.specs.Acceptor.{AcceptorView}
 use Rattle.cas_cache.specs.declared.ready.Ready.{Ready}
+use Rattle.cas_change.specs.declared.outcome.Took.{Took}
+use Rattle.cas_change.specs.declared.state.State.{State}
 use Rattle.cas_proposer.specs.Desk.{DeskView}
 use Rattle.cas_proposer.specs.declared.round.Round.{Round}
+use Rattle.cas_proposer.specs.Round.{is_preparing}
+use Rattle.cas_record.specs.declared.answer.Answer.TheVariants as answer
 use Rattle.cas_vault.specs.Vault.{IsPast}
 use Rattle.cas_record.specs.declared.mark.Acknowledgment.{Acknowledgment}
 use Rattle.cas_record.specs.declared.mark.Mark.{Mark}
@@ -23,8 +27,8 @@ use Rattle.cas_record.specs.Places.{Stands, IsPrefix}
 use Rattle.cas_model.specs.History.{IsRemembered}
 use Rattle.cas_model.specs.Openings.{Opening, IsOpeningOn}
 use Rattle.cas_model.specs.Safe.{IsSafe}
-use Rattle.cas_model.specs.Step.{Event, Step, IsOpening, History}
-use Rattle.cas_model.specs.View.{Meaning, View, CallerView, IsAt, era_at}
+use Rattle.cas_model.specs.Step.{Event, Step, Count, IsOpening, History}
+use Rattle.cas_model.specs.View.{Meaning, View, CallView, CallerView, IsAt, era_at}
 
 -- A cluster that has just opened is remembered.
 abbrev pub OpeningsAreRemembered : {S V : Type 0} → Meaning S V → Type 0
@@ -59,12 +63,28 @@ pub record AcknowledgedIsKept {S V : Type 0} (m : Meaning S V) (view : View S V)
 abbrev pub WhatIsDoneIsKept : {S V : Type 0} → Meaning S V → Type 0
 WhatIsDoneIsKept {S} {V} m = m.shelves.tells → (view : View S V) (a : Acknowledgment) → IsRemembered m view → Stands (Acked a) (reverse view.marks) → IsAboveFloors (reverse view.marks) a.key a.ballot → AcknowledgedIsKept m view a
 
+-- A count answered that the change is done at this ballot: the acknowledgment that it marked is at that ballot and above each floor of its
+-- key; those that confirmed it are an accept quorum of the proposer's era; and each of them keeps it, whatever a crash now leaves there.
+pub record IsDoneAt {S V : Type 0} (m : Meaning S V) (old : View S V) (id : ℕ) (ballot : Ballot) (new : View S V) : Type 0 where
+  pub acknowledgment : Acknowledgment
+  pub marked : new.marks ≡ old.marks ++ Acked acknowledgment ∷ []
+  pub same_ballot : acknowledgment.ballot ≡ ballot
+  pub above_floors : IsAboveFloors (reverse new.marks) acknowledgment.key acknowledgment.ballot
+  pub same_era : acknowledgment.era ≡ (era_at new id).number
+  pub quorum : holds_acc (era_at new id) acknowledgment.by ≡ true
+  pub kept : (acceptor : ℕ) (one : AcceptorView S) → has_member acknowledgment.by acceptor ≡ true → IsAt new.acceptors acceptor one → IsKeptBy m (reverse new.marks) acknowledgment.key acknowledgment.ballot one
+
+abbrev pub DonesStand : {S V : Type 0} → Meaning S V → Type 0
+DonesStand {S} {V} m = m.shelves.tells → m.disks.tells → (old new : View S V) (id : ℕ) (caller : CallerView) (call : CallView) (state : State) (took : Took) (ballot : Ballot) → IsRemembered m old → id ≤ old.last_proposer
+    → Step m old (Count id) new → IsAt new.callers id caller → caller.call ≡ Some call → call.told ≡ Some (answer.Done state took ballot) → IsDoneAt m old id ballot new
+
 -- The proposer draws nothing at or below the floor, whatever a crash now leaves of its vault; and the promise that it holds of the key, the
 -- round that it has open for the key and the ballot that rides with that are above the floor.
 pub record IsPastFloor {S V : Type 0} (m : Meaning S V) (desk : DeskView V) (key : List ℕ) (floor : Ballot) : Type 0 where
   pub vault : IsPast m.disks.may_leave floor.counter desk.vault
   pub promise : (ready : Ready) → Contains desk.cache (key, ready) → BallotLess floor ready.ballot × BallotAtMost floor ready.read
   pub round : (round : Round) → desk.round ≡ Some round → round.key ≡ key → BallotLess floor round.ballot
+  pub ride : (round : Round) (ride : Ballot) → desk.round ≡ Some round → round.key ≡ key → is_preparing round.phase ≡ false → round.ride ≡ Some ride → BallotLess floor ride
 
 -- All proposers are past each floor.
 abbrev pub FloorsArePassed : {S V : Type 0} → Meaning S V → Type 0

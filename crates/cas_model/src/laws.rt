@@ -3,7 +3,7 @@
 
 ghost use Rattle.cas_model.specs.View.{meaning};
 ghost use Rattle.cas_model.specs.SafeLaws.{OpeningsAreSafe, OpeningsOnAreSafe, StepsAreSafe, LittleIsReserved, FullForRounds, FullForExchanges, FinishedHaveEntered};
-ghost use Rattle.cas_model.specs.Laws.{OpeningsAreRemembered, OpeningsOnAreRemembered, StepsAreRemembered, HistoriesAreLegal, WhatIsDoneIsKept, FloorsArePassed, MembersAreClear};
+ghost use Rattle.cas_model.specs.Laws.{OpeningsAreRemembered, OpeningsOnAreRemembered, StepsAreRemembered, HistoriesAreLegal, WhatIsDoneIsKept, DonesStand, FloorsArePassed, MembersAreClear};
 ghost use Rattle.cas_model.specs.Collection.Laws.{RequestsAreAged, RemovalsAreDone, CollectedHaveFloors};
 ghost use Rattle.cas_model.specs.Witness.{ShownHistory};
 
@@ -42,8 +42,14 @@ pub fn what_is_done_is_kept<S: Shelf, V: Disk>()
     ensures { WhatIsDoneIsKept (meaning S.Shelf V.Disk) }
 {}
 
+/// What a count tells its caller is done, is acknowledged at the ballot that it tells, which is above each floor of its key. It stands on the
+/// shelves of those that confirmed it, who are an accept quorum of the proposer's era, whatever a crash now leaves of each.
+pub fn what_is_told_done_stands<S: Shelf, V: Disk>()
+    ensures { DonesStand (meaning S.Shelf V.Disk) }
+{}
+
 /// All proposers are past each floor: none draws a ballot at or below it, whatever a crash now leaves of its vault, and the promise that one
-/// holds of the key and the round that it has open for the key are above it.
+/// holds of the key, the round that it has open for the key and the ballot that rides with that are above it.
 pub fn floors_are_passed<S: Shelf, V: Disk>()
     ensures { FloorsArePassed (meaning S.Shelf V.Disk) }
 {}

@@ -252,7 +252,7 @@ module _ {S V : Type 0} (m : Meaning S V) (old new : View S V) where
   opens_plan asked desk (plans.is_busy plan up planned is) = same old new _ is refl refl (λ u. told_so old.council.order _ tt)
   opens_plan asked desk (plans.refuses fault up unplanned planned is) = same old new _ is refl refl (λ u. told_so old.council.order _ tt)
   opens_plan asked desk (plans.opens progress middle up unplanned planned by is) = after old middle new _ (welcomes asked middle by) is refl refl (λ u. hushed_so middle.council.order)
-  opens_plan asked desk (plans.no_memory middle up unplanned by is) = after old middle new _ (welcomes asked middle by) is refl refl (λ u. told_so middle.council.order _ tt)
+  opens_plan asked desk (plans.no_memory progress middle up unplanned planned by is) = after old middle new _ (welcomes asked middle by) is refl refl (λ u. told_so middle.council.order _ tt)
 
   enters : (plan : PlanView) (next : Era) (desk : DeskView V) → plans.EntersNext m old plan next desk new → Adds old new
   enters plan next desk (plans.enters middle room by is) =

@@ -1,13 +1,16 @@
 //! The ends of the two phases of a round.
 
 ghost use Rattle.std.specs.Prelude.{◌≡◌, ◌≤◌, true, false, None, Some, slice_get, is_some, not, reverse, IsTrue, IsSome, IsSomeAnd, IfSome, IfOk, IfErr, OnOk, OnErr};
+ghost use Rattle.cas_ballot.specs.declared.ballot.Ballot.{Ballot as ABallot};
 ghost use Rattle.cas_change.specs.declared.outcome.Outcome.{Outcome};
+ghost use Rattle.cas_change.specs.declared.outcome.Took.{Took as ATook};
+ghost use Rattle.cas_change.specs.declared.state.State.{State as AState};
 ghost use Rattle.cas_model_causes.specs.Calls.Told.{PreparesBy, AcceptsBy, TellsAbove};
 ghost use Rattle.cas_protocol.specs.Proposers.{state_read};
 ghost use Rattle.cas_model.specs.Calls.Step.{offered_by};
 ghost use Rattle.cas_model.specs.Step.{Step, Propose, Count};
 ghost use Rattle.cas_model.specs.View.{CallerView, meaning, disk_meaning};
-ghost use Rattle.cas_model.specs.Laws.{AcknowledgedIsKept};
+ghost use Rattle.cas_model.specs.Laws.{AcknowledgedIsKept, IsDoneAt};
 ghost use Rattle.cas_world.specs.Calls.Count.{MayCount, Counts};
 ghost use Rattle.cas_world_calls.specs.Proposing.{FailsToPropose};
 ghost use Rattle.cas_world.specs.Calls.Reading.{MayEndPrepare, ReadsRound, Proposes, EndsShort, HasProposed};
@@ -78,7 +81,8 @@ impl<S: Shelf, V: Disk> World<S, V> {
     /// marked, and otherwise it is unsettled, by the first of the causes that [`World::propose`] names. It takes no memory.
     ///
     /// Where the shelves and the disks tell what they keep, what is acknowledged, this change among it, stands on the shelves of those
-    /// that confirmed it, who are an accept quorum, whatever a crash now leaves of each, until a floor is made at or above it.
+    /// that confirmed it, who are an accept quorum, whatever a crash now leaves of each, until a floor is made at or above it. A change that is
+    /// told done is acknowledged at the ballot that is told, above each floor of its key.
     pub fn count(&mut self, proposer: u8) -> Answer
         requires known { proposer ≤ self.old.last_proposer }
         requires counting { IsInPhase self.old proposer false }
@@ -90,6 +94,9 @@ impl<S: Shelf, V: Disk> World<S, V> {
         ensures kept { S.tells → V.tells → (a : AnAcknowledgment) → Stands (Acked a)
             (reverse self.new.marks) → IsAboveFloors (reverse self.new.marks) a.key a.ballot
             → AcknowledgedIsKept (meaning S.Shelf V.Disk) self.new a }
+        ensures done { S.tells → V.tells
+            → (state : AState) (took : ATook) (ballot : ABallot) → result ≡ Answer.Done state took ballot
+            → IsDoneAt (meaning S.Shelf V.Disk) self.old proposer ballot self.new }
     {
         let place = usize::from(proposer);
         let desk = &mut self.desks[place];

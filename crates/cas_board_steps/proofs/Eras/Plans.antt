@@ -188,7 +188,7 @@ opens_or_tells {S} {V} m old new asked was by = by_case by.opens
     by_case (plans.is_down down is) = told_then old old new asked (op.Stopped answer.Down) (same_view old) refl was.order was.exchange is (λ told same. subst (IsMidway asked) same (tt, tt))
     by_case (plans.is_busy plan up is_plan is) = told_then old old new asked (op.Busy _) (same_view old) refl was.order was.exchange is (λ told same. subst (IsMidway asked) same (tt, tt))
     by_case (plans.refuses fault up none planned is) = told_then old old new asked (op.Refused fault) (same_view old) refl was.order was.exchange is (λ told same. subst (IsMidway asked) same (tt, tt))
-    by_case (plans.no_memory middle up none welcomes is) =
+    by_case (plans.no_memory progress middle up none planned welcomes is) =
         let w = welcomed m old middle by.order.asked welcomes in
         told_then old middle new asked (op.Stopped (answer.NoMemory false)) w.0 w.1 was.order was.exchange is (λ told same. subst (IsMidway asked) same (tt, tt))
     by_case (plans.opens progress middle up none planned welcomes is) =

@@ -235,7 +235,7 @@ plan_renewed m old new asked desk (plans.is_down down is) were = none_moved m ol
 plan_renewed m old new asked desk (plans.is_busy plan up busy is) were = none_moved m old new (collection_of is) (desks_of is) were
 plan_renewed m old new asked desk (plans.refuses fault up none planned is) were = none_moved m old new (collection_of is) (desks_of is) were
 plan_renewed m old new asked desk (plans.opens progress middle up none planned welcomes is) were = none_moved m middle new (collection_of is) (desks_of is) (welcome_renewed m old middle asked welcomes were)
-plan_renewed m old new asked desk (plans.no_memory middle up none welcomes is) were = none_moved m middle new (collection_of is) (desks_of is) (welcome_renewed m old middle asked welcomes were)
+plan_renewed m old new asked desk (plans.no_memory progress middle up none planned welcomes is) were = none_moved m middle new (collection_of is) (desks_of is) (welcome_renewed m old middle asked welcomes were)
 
 enter_renewed : {S V : Type 0} (m : Meaning S V) (old new : View S V) (plan : PlanView) (next : Era) (desk : DeskView V) → m.disks.tells → IsAt old.desks plan.entered desk → plans.EntersNext m old plan next desk new → AreRenewed m old → AreRenewed m new
 enter_renewed {S} {V} m old new plan next desk tells at (plans.enters middle room leaves is) were =

@@ -421,7 +421,7 @@ open_collecting {S} {V} m old new by was = in_case by.opens
               let same : by.order ≡ order = some_is (sym by.is_open ∙ ap (λ (f : Frame). f.council.order) (sym (welcome_frame m old middle by.order.asked welcomes)) ∙ is_open) in
               absurd (planned_apart (era_at old 0) old.council.used by.order.asked _ key planned (ap (λ (o : OrderView). o.asked) same ∙ is_for));
         }) (same_collecting old middle (welcome_frame m old middle by.order.asked welcomes) was))
-    in_case (plans.no_memory middle up none welcomes is) =
+    in_case (plans.no_memory progress middle up none planned welcomes is) =
         same_collecting (told_view middle _) new (ap frame_of is) (told_collecting middle _ (same_collecting old middle (welcome_frame m old middle by.order.asked welcomes) was))
 
 pub enter_collecting : {S V : Type 0} (m : Meaning S V) (old new : View S V) (id : ℕ) → StepEnterEra m old id new → IsCollectingSafe old → IsCollectingSafe new

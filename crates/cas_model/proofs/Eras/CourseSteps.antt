@@ -117,7 +117,7 @@ open_on {S} {V} m old new by was = by_case by.opens
         let begins = planned_starts (era_at old 0) old.council.used by.order.asked progress settled.under_way.whole planned in
         subst IsCourse (sym (ap course_of view ∙ ap (λ (c : Course). course c.last_proposer c.eras (Some (plans.new_plan by.order.asked progress)) c.entries) (welcome_course m old middle by.order.asked welcomes)))
         (course_opened old.last_proposer old.eras (entries_in old.marks) by.order.asked progress begins.era begins.start settled)
-    by_case (plans.no_memory middle up none welcomes view) = subst IsCourse (sym (ap course_of view ∙ welcome_course m old middle by.order.asked welcomes)) was
+    by_case (plans.no_memory progress middle up none planned welcomes view) = subst IsCourse (sym (ap course_of view ∙ welcome_course m old middle by.order.asked welcomes)) was
 
 -- a proposer enters the next era
 pub enters_course : {S V : Type 0} (m : Meaning S V) (old middle : View S V) (plan : PlanView) (next : Era) → LeavesRound (EntersEra m.disks next) (closed_by (answer.Moved next.number) (cause.Moved next.number)) old plan.entered middle

@@ -51,7 +51,7 @@ open_safe {S} {V} m old new was by = by_case by.opens
     by_case (plans.refuses fault up none planned view) = subst IsSound (sym view) (told_view_safe old _ was)
     by_case (plans.opens progress middle up none planned welcomes view) = subst IsSound (sym view) (let safe = welcome_safe m old middle by.order.asked was welcomes in
         planned_safe middle _ _ safe (begun_safe middle.council.plan middle.council.exchange (plans.new_plan by.order.asked progress) (ap (λ (c : Course). c.plan) (welcome_course m old middle by.order.asked welcomes) ∙ none) refl safe.council.1))
-    by_case (plans.no_memory middle up none welcomes view) = subst IsSound (sym view) (told_view_safe middle _ (welcome_safe m old middle by.order.asked was welcomes))
+    by_case (plans.no_memory progress middle up none planned welcomes view) = subst IsSound (sym view) (told_view_safe middle _ (welcome_safe m old middle by.order.asked was welcomes))
 
 -- ---- a proposer enters the next era
 -- its desk has no open round then

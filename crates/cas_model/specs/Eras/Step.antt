@@ -59,7 +59,7 @@ pub data OpensPlan {S V : Type 0} (m : Meaning S V) (old : View S V) (asked : As
   refuses : (fault : PlanFault) → desk.down ≡ false → old.council.plan ≡ None → IsPlanned (era_at old 0) old.council.used asked (Err fault) → new ≡ told_view old (told.Refused fault) → OpensPlan m old asked desk new
   opens : (progress : Progress) (middle : View S V) → desk.down ≡ false → old.council.plan ≡ None → IsPlanned (era_at old 0) old.council.used asked (Ok progress) → Welcomes m old asked middle
       → new ≡ opened_plan middle asked progress → OpensPlan m old asked desk new
-  no_memory : (middle : View S V) → desk.down ≡ false → old.council.plan ≡ None → Welcomes m old asked middle → new ≡ told_view middle (told.Stopped (answer.NoMemory false)) → OpensPlan m old asked desk new
+  no_memory : (progress : Progress) (middle : View S V) → desk.down ≡ false → old.council.plan ≡ None → IsPlanned (era_at old 0) old.council.used asked (Ok progress) → Welcomes m old asked middle → new ≡ told_view middle (told.Stopped (answer.NoMemory false)) → OpensPlan m old asked desk new
 
 -- an acceptor that was to join, and of whose shelf no start ever succeeded, is down then only where the shelf's count of faults rose
 abbrev pub FailsByFaults : {S V : Type 0} → Meaning S V → View S V → Asked → View S V → Type 0

@@ -232,7 +232,7 @@ plan_passes {S} {V} m old new id by = in_case by.opens
     in_case (plans.refuses fault up none planned is) = same_desks old new id (ap (λ (w : View S V). w.desks) is)
     in_case (plans.opens progress middle up none planned welcomes is) =
         ([], nothing (passes_both old middle new id (welcome_passes m old middle id by.order.asked welcomes) (passes_same middle new id (ap (λ (w : View S V). w.desks) is))))
-    in_case (plans.no_memory middle up none welcomes is) =
+    in_case (plans.no_memory progress middle up none planned welcomes is) =
         ([], nothing (passes_both old middle new id (welcome_passes m old middle id by.order.asked welcomes) (passes_same middle new id (ap (λ (w : View S V). w.desks) is))))
 
 enter_passes : {S V : Type 0} (m : Meaning S V) (old new : View S V) (id proposer : ℕ) → id ≢ proposer → StepEnterEra m old proposer new → Something old new id

@@ -311,7 +311,7 @@ plan_stays {S} {V} m old new id by = in_case by.opens
     in_case (plans.is_busy plan up busy is) = stays_same old new id (ap (λ (w : View S V). w.flow) is) (ap (λ (w : View S V). w.callers) is)
     in_case (plans.refuses fault up none planned is) = stays_same old new id (ap (λ (w : View S V). w.flow) is) (ap (λ (w : View S V). w.callers) is)
     in_case (plans.opens progress middle up none planned welcomes is) = told middle (welcome_stays m old middle id by.order.asked welcomes) (ap (λ (w : View S V). w.flow) is) (ap (λ (w : View S V). w.callers) is)
-    in_case (plans.no_memory middle up none welcomes is) = told middle (welcome_stays m old middle id by.order.asked welcomes) (ap (λ (w : View S V). w.flow) is) (ap (λ (w : View S V). w.callers) is)
+    in_case (plans.no_memory progress middle up none planned welcomes is) = told middle (welcome_stays m old middle id by.order.asked welcomes) (ap (λ (w : View S V). w.flow) is) (ap (λ (w : View S V). w.callers) is)
 
 enter_stays : {S V : Type 0} (m : Meaning S V) (old new : View S V) (id proposer : ℕ) → id ≢ exchange_place → id ≢ proposer → StepEnterEra m old proposer new → Stays old new id
 enter_stays {S} {V} m old new id proposer apart other_one by = in_case by.enters

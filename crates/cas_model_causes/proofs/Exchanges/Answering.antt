@@ -172,7 +172,7 @@ open_same {S} {V} m old new by = by_case by.opens
     by_case (plans.is_busy plan up busy is) = alike old _ new is refl refl
     by_case (plans.refuses fault up none planned is) = alike old _ new is refl refl
     by_case (plans.opens progress middle up none planned welcomes is) = both old middle new (welcome_same m old middle by.order.asked welcomes) (alike middle _ new is refl refl)
-    by_case (plans.no_memory middle up none welcomes is) = both old middle new (welcome_same m old middle by.order.asked welcomes) (alike middle _ new is refl refl)
+    by_case (plans.no_memory progress middle up none planned welcomes is) = both old middle new (welcome_same m old middle by.order.asked welcomes) (alike middle _ new is refl refl)
 
 enter_answers : {S V : Type 0} (m : Meaning S V) (old new : View S V) (id : ℕ) → IsSound old → StepEnterEra m old id new → IsAnswering old → IsAnswering new
 enter_answers {S} {V} m old new id sound by was = by_case by.enters

@@ -297,7 +297,7 @@ open_asked {S} {V} m old new same by was = by_case by.opens
               let before = was.asks exchange key (sym (ap (λ (c : Council). c.exchange) (welcome_council m old middle by.order.asked welcomes)) ∙ sym (ap (λ (w : View S V). w.council.exchange) view) ∙ is_open) asks in
               absurd (no_change by.order.asked key (subst (λ (o : OrderView). IsProbeOf o.asked key) (some_is (sym before.0.is_open ∙ by.is_open)) before.0.is_for) change);
         }
-    by_case (plans.no_memory middle up none welcomes view) = told middle _ (welcomed middle welcomes) view
+    by_case (plans.no_memory progress middle up none planned welcomes view) = told middle _ (welcomed middle welcomes) view
 
 -- an era is entered for a change of membership, and so no probe is open
 enter_asked : {S V : Type 0} (m : Meaning S V) (old new : View S V) (id : ℕ) → plans.StepEnterEra m old id new → IsAsked old → IsAsked new
@@ -508,7 +508,7 @@ open_led {S} {V} m old new safe by unled = by_case by.opens
           unled = λ plan is none_led. ap (λ (l : List Era). era_in l 0) same ∙ sym begins.era ∙ ap (λ (p : PlanView). p.progress.era) (some_is (sym (ap (λ (w : View S V). w.council.plan) view) ∙ is));
           everyone_then = in_eras old new same;
         }
-    by_case (plans.no_memory middle up none welcomes view) = led old _ new view (welcomed middle welcomes) (ap (λ (c : Council). c.plan) (welcome_council m old middle by.order.asked welcomes)) unled
+    by_case (plans.no_memory progress middle up none planned welcomes view) = led old _ new view (welcomed middle welcomes) (ap (λ (c : Council). c.plan) (welcome_council m old middle by.order.asked welcomes)) unled
 
 enter_unled : {S V : Type 0} (m : Meaning S V) (old new : View S V) (id : ℕ) → IsSafe old → plans.StepEnterEra m old id new → IsUnled (course_of old) → IsUnled (course_of new)
 enter_unled {S} {V} m old new id safe by unled = by_case by.enters

@@ -397,7 +397,7 @@ module _ {S V : Type 0} (m : Meaning S V) (shelves : m.shelves.tells) (P : ℕ �
       in_case (plans.is_busy plan up busy is) = to _ new is (record { acceptors = was.acceptors; flows = was.flows })
       in_case (plans.refuses fault up none planned is) = to _ new is (record { acceptors = was.acceptors; flows = was.flows })
       in_case (plans.opens progress middle up none planned welcomes is) = let mid = welcome_steps old middle welcomes was in to _ new is (record { acceptors = mid.acceptors; flows = mid.flows })
-      in_case (plans.no_memory middle up none welcomes is) = let mid = welcome_steps old middle welcomes was in to _ new is (record { acceptors = mid.acceptors; flows = mid.flows })
+      in_case (plans.no_memory progress middle up none planned welcomes is) = let mid = welcome_steps old middle welcomes was in to _ new is (record { acceptors = mid.acceptors; flows = mid.flows })
 
   enter_steps : (old new : View S V) (id : ℕ) → plans.StepEnterEra m old id new → AreWithin m P old → AreWithin m P new
   enter_steps old new id by was = in_case by.enters

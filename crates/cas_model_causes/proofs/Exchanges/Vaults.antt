@@ -201,7 +201,7 @@ module _ {S V : Type 0} (m : Meaning S V) (tells : m.disks.tells) where
       in_case (plans.is_busy plan up busy is) = alike old _ new is refl
       in_case (plans.refuses fault up none planned is) = alike old _ new is refl
       in_case (plans.opens progress middle up none planned welcomes is) = alike old _ new is (welcome_kept old middle welcomes)
-      in_case (plans.no_memory middle up none welcomes is) = alike old _ new is (welcome_kept old middle welcomes)
+      in_case (plans.no_memory progress middle up none planned welcomes is) = alike old _ new is (welcome_kept old middle welcomes)
 
   enter_kept : (old new : View S V) (id : ℕ) → plans.StepEnterEra m old id new → Kept old new
   enter_kept old new id by = in_case by.enters

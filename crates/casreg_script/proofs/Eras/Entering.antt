@@ -72,7 +72,7 @@ open_keeps {S} {V} m old new by = by_case by.opens
     by_case (plans.is_busy plan up is_plan is) = opens_by old _ new is refl refl refl
     by_case (plans.refuses fault up none_yet planned is) = opens_by old _ new is refl refl refl
     by_case (plans.opens progress middle up none_yet planned welcomes is) = then_opens old middle new (welcomes_keep m old middle by.order.asked welcomes) (opens_by middle _ new is refl refl refl)
-    by_case (plans.no_memory middle up none_yet welcomes is) = then_opens old middle new (welcomes_keep m old middle by.order.asked welcomes) (opens_by middle _ new is refl refl refl)
+    by_case (plans.no_memory progress middle up none_yet planned welcomes is) = then_opens old middle new (welcomes_keep m old middle by.order.asked welcomes) (opens_by middle _ new is refl refl refl)
 
 -- ---- no memory for a key
 pub key_keeps : {S V : Type 0} (old new : View S V) → StepRefuseKey old new → KeepsCalls old new

@@ -1,4 +1,4 @@
-use Rattle.std.proofs.Common.{◌≡◌, ℕ, [], Option, None, Some, slice_set, refl, sym, ap, subst, ◌∙◌, arith}
+use Rattle.std.proofs.Common.{◌≡◌, ℕ, [], Option, None, Some, slice_set, absurd, refl, sym, ap, subst, ◌∙◌, arith}
 use Rattle.std.specs.Prelude.{IsSome, IfSome}
 use Rattle.cas_model.specs.History.{IsRemembered}
 use Rattle.cas_world.proofs.Calls.Told.{count_cause, count_above}
@@ -12,7 +12,7 @@ use Rattle.cas_model.specs.Step.{StepCount}
 use Rattle.cas_model.specs.Calls.Desks.{EndsRound}
 use Rattle.cas_model.specs.View.{View, IsAt, meaning, disk_meaning}
 use Rattle.cas_model.proofs.Safety.Steps.{steps_are_safe}
-use Rattle.cas_model.proofs.ViewLaws.{done_kept}
+use Rattle.cas_model.proofs.ViewLaws.{done_kept, dones_stand}
 use Rattle.cas_model.specs.Council.{reserved_by}
 use Rattle.cas_world_calls.specs.Council.{council_view}
 use Rattle.cas_world_calls.specs.Call.{over}
@@ -79,6 +79,13 @@ returns-in-None-clause-told g c seen at_seen =
 pub returns-in-None-clause-kept : goal.returns-in-None-clause-kept
 returns-in-None-clause-kept g c shelves vaults a stands above = done_kept _ shelves _ a (remembered_then _ (step.Count c.args.proposer) (acknowledges g c) c.self.invariant.remembered shelves vaults) stands above
 
+pub returns-in-None-clause-done : goal.returns-in-None-clause-done
+returns-in-None-clause-done g c shelves vaults state took ballot is =
+    let m = meaning g.S.Shelf g.V.Disk in
+    let told = returns-in-None-clause-told g c _ (subst (λ (v : View _ _). IsAt v.callers c.args.proposer _) c.self.view_is (found g c).at_caller) in
+    dones_stand m shelves vaults c.args.self.now _ c.args.proposer told.caller told.call state took ballot (subst (IsRemembered m) c.self.view_is (c.self.invariant.remembered shelves vaults)) c.requires.known
+    (returns-in-None-clause-step g c) told.at_caller told.is_open (told.told ∙ ap (λ a. Some a) is)
+
 -- ---- no quorum accepted
 found_short : (g : Over) (c : goal.After-self-in-Some-2-1 g) → IsCounting c.self.inside.desks.items c.self.inside.callers.items c.args.proposer c.index_mut-desk.result.now c.index_mut-caller.result.now c.self.inside.record.room
 found_short g c = counting c.self.inside.setup.proposers c.self.inside.council c.self.inside.acceptors.items c.self.inside.desks.items c.self.inside.callers.items c.self.inside.flow c.self.inside.record c.args.self.now c.from-place.result c.args.proposer c.index_mut-desk.result.now c.index_mut-caller.result.now
@@ -138,3 +145,6 @@ returns-in-Some-clause-cause g c = count_cause (meaning g.S.Shelf g.V.Disk) c.ar
 pub returns-in-Some-clause-above : goal.returns-in-Some-clause-above
 returns-in-Some-clause-above g c shelves vaults = count_above (meaning g.S.Shelf g.V.Disk) c.args.self.now _ c.args.proposer (answer.Unsettled c.in-Some.why) (returns-in-Some-clause-step g c) (returns-in-Some-clause-told g c) shelves vaults
     (subst (λ (v : View _ _). IsRemembered (meaning g.S.Shelf g.V.Disk) v) c.self.view_is (c.self.invariant.remembered shelves vaults))
+
+pub returns-in-Some-clause-done : goal.returns-in-Some-clause-done
+returns-in-Some-clause-done g c shelves vaults state took ballot is = absurd (cc is)

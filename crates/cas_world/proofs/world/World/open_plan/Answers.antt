@@ -57,7 +57,7 @@ returns-in-Err-clause-err g c = told_last c.args.self.now c.refuse-in-Err.new.se
 pub returns-in_default-clause-step : goal.returns-in_default-clause-step
 returns-in_default-clause-step g c =
     opens_plan (meaning g.S.Shelf g.V.Disk) c.args.self.now c.refuse-in_default.new.self c.args.kind c.args.id c.index.result.now (subst (λ (v : View g.row.S.Denot g.row.V.Denot). IsSafe v) c.self.view_is c.self.invariant.safe) c.requires (subst (λ (v : View g.row.S.Denot g.row.V.Denot). IsAt v.desks 0 c.index.result.now) c.self.view_is (at_place c.self.inside.desks.items 0 0 c.index.result.now refl (omega (arith, c.self.invariant.safe.sound.desks)) c.index.ensures))
-    (plans.no_memory c.welcome.new.self (sym c.is_down.ensures ∙ c.if-is_down.false) (sym (ap (λ (v : View g.row.S.Denot g.row.V.Denot). v.council.plan) c.self.view_is) ∙ ap (option_map plan_view) (none_there c.self.inside.council.plan (sym c.is_some.ensures ∙ c.if-is_some.false))) c.welcome.ensures.welcomes (c.refuse-in_default.ensures.told ∙ ap (told_view c.welcome.new.self) c.no_memory.ensures)) (none_begins (meaning g.S.Shelf g.V.Disk) c.args.self.now c.welcome.new.self c.refuse-in_default.new.self (asked_to c.args.kind c.args.id) _ (welcome_council (meaning g.S.Shelf g.V.Disk) c.args.self.now c.welcome.new.self (asked_to c.args.kind c.args.id) c.welcome.ensures.welcomes) c.refuse-in_default.ensures.told)
+    (plans.no_memory c.in-Ok.plan c.welcome.new.self (sym c.is_down.ensures ∙ c.if-is_down.false) (sym (ap (λ (v : View g.row.S.Denot g.row.V.Denot). v.council.plan) c.self.view_is) ∙ ap (option_map plan_view) (none_there c.self.inside.council.plan (sym c.is_some.ensures ∙ c.if-is_some.false))) (planned_from c.args.kind c.args.id (era_at c.args.self.now 0) c.era-2.result.now c.args.self.now.council.used c.self.inside.council.used (Ok c.in-Ok.plan) c.era-2.ensures (ap (λ (v : View g.row.S.Denot g.row.V.Denot). v.council.used) c.self.view_is) (sym c.plan.ensures ∙ c.in-Ok.is)) c.welcome.ensures.welcomes (c.refuse-in_default.ensures.told ∙ ap (told_view c.welcome.new.self) c.no_memory.ensures)) (none_begins (meaning g.S.Shelf g.V.Disk) c.args.self.now c.welcome.new.self c.refuse-in_default.new.self (asked_to c.args.kind c.args.id) _ (welcome_council (meaning g.S.Shelf g.V.Disk) c.args.self.now c.welcome.new.self (asked_to c.args.kind c.args.id) c.welcome.ensures.welcomes) c.refuse-in_default.ensures.told)
 
 pub returns-in_default-clause-err : goal.returns-in_default-clause-err
 returns-in_default-clause-err g c =
