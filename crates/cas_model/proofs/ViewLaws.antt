@@ -159,7 +159,7 @@ floors_passed {S} {V} m shelves disks view key floor id desk caller is has at_de
 
     above_ride : (call : CallView) (round : Round) (ride : Ballot) → is_preparing round.phase ≡ false → round.ride ≡ Some ride
         → IsPrepareTrue log id call (queue_at view.flow id).messages round ⊎ IsAcceptTrue log is.followed.logged.global.made id caller.number call (queue_at view.flow id).messages round → BallotLess round.ballot ride
-    above_ride call round ride accepts rides (inl prepare) = absurd (not_both (prepares_is round.era round.ballot prepare.replies round.phase prepare.preparing.phase).0 accepts)
+    above_ride call round ride accepts rides (inl prepare) = absurd (not_both _ (prepares_is round.era round.ballot prepare.replies round.phase prepare.preparing.phase).0 accepts)
     above_ride call round ride accepts rides (inr accept) = (accept.ride ride rides).above
 
     by_ride : (open_ : Option Round) (round : Round) (ride : Ballot) → open_ ≡ Some round → round.key ≡ key → is_preparing round.phase ≡ false → round.ride ≡ Some ride

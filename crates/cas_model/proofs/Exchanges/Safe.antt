@@ -32,6 +32,7 @@ use Rattle.cas_model.specs.Frames.Step.{harmed_by, replied_flow, votes_marked}
 use Rattle.cas_model.proofs.Frames.Harms.{has_of_map, member_low}
 use Rattle.cas_model.proofs.Calls.Safe.{about_members}
 use Rattle.cas_model.proofs.Openings.Safe.{no_members}
+use Rattle.cas_model.proofs.Calls.Failing.{failed_still}
 use Rattle.cas_model.proofs.Stops.Safe.{AreFit, fit_fewer, desk_idles, acceptor_safe, room_not_found_safe}
 use Rattle.cas_model.proofs.Frames.Safe.{Moves, taken_moves, replied_moves, IsWithin, Spends, spends_harm, taken_others, replied_others}
 use Rattle.cas_model.specs.Council.{place_in, has_ended, Question, NextKeys, NewAges, Removal, IsReplyTo, phase_for, ExchangeView, OrderView, PlanView, without_partial, with_listing, hushed, silent_order, at_rest, ask_of, exchange_place, reserved_for_order, reserved_for_exchange, telling, Probe}
@@ -211,7 +212,7 @@ ask_safe {S} {V} m old question new was by = by_case by.asks
     by_case (council.fails now up fault view) =
         let failed = where_drawn (listing_for old.council question) fault in
         subst IsSound (sym view) (told_view_safe (with_desk old 0 now) _ (desk_changes old 0 by.desk now was may.at_desk may.idle
-        (ap (λ (d : DeskView V). d.id) failed.desk) (ap (λ (d : DeskView V). d.round) failed.desk) (fit_fewer [] by.desk.cache now.cache failed.cache)))
+        (ap (λ (d : DeskView V). d.id) failed.desk) (ap (λ (d : DeskView V). d.round) failed.desk) (fit_fewer [] by.desk.cache now.cache (failed_still m.disks [] by.desk now failed))))
     by_case (council.no_memory now tag up loss view) =
         subst IsSound (sym view) (told_view_safe (with_desk old 0 now) _ (desk_changes old 0 by.desk now was may.at_desk may.idle
         (ap (λ (d : DeskView V). d.id) loss.desk) (ap (λ (d : DeskView V). d.round) loss.desk) (fit_fewer [] by.desk.cache now.cache loss.cache)))

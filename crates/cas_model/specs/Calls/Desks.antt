@@ -1,5 +1,5 @@
 -- What a step does to a desk and its vault.
-use Rattle.std.specs.Prelude.{◌≡◌, ◌⊎◌, ⊥, ℕ, ◌+◌, ◌^◌, ◌≤◌, max, true, false, List, [], Option, None, Some}
+use Rattle.std.specs.Prelude.{◌≡◌, ◌⊎◌, ℕ, ◌+◌, ◌^◌, ◌≤◌, max, true, false, List, [], Option, None, Some}
 use Rattle.cas_base.specs.Faults.{Rose}
 use Rattle.cas_ballot.specs.declared.ballot.Ballot.{Ballot}
 use Rattle.cas_ballot.specs.Ballot.{FitsBallot}
