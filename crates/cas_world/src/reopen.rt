@@ -7,7 +7,7 @@ ghost use Rattle.cas_vault.specs.Error.{HasVaultCause};
 ghost use Rattle.cas_vault.specs.Vault.{disk_of, VaultStands};
 ghost use Rattle.cas_model.specs.Openings.{mark_of};
 ghost use Rattle.cas_model.specs.View.{IsAt, disk_meaning};
-ghost use Rattle.cas_world.specs.Openings.OpeningOn.{opening_of, greatest_counter, placed_as, placed, VaultIsRefused, VaultIsTakenUp, IsTakenUpOver, AreTakenUpBelow, AVaultIsNotTakenUp, IsFaultOfVault, fault_of_vault};
+ghost use Rattle.cas_world.specs.Openings.OpeningOn.{opening_of, placed_as, placed, GoesOnPast, VaultIsRefused, VaultIsTakenUp, IsTakenUpOver, AreTakenUpBelow, AVaultIsNotTakenUp, IsFaultOfVault, fault_of_vault};
 
 use crate::fault::OpenFault;
 use crate::open::ACCEPTORS;
@@ -64,17 +64,6 @@ fn place<S: Shelf>(id: AcceptorId, shelf: S, is_member: bool) -> Acceptor<S>
     }
 }
 
-/// The greatest counter among the ballots of the floors, or 0.
-pub(crate) fn greatest_counter(floors: &[OpeningFloor]) -> u64
-    ensures { result ≡ greatest_counter floors.now }
-{
-    let mut greatest = 0;
-    for floor in floors {
-        greatest = floor.ballot.counter.max(greatest);
-    }
-    greatest
-}
-
 /// A record that begins with a mark for each floor, in their order.
 pub(crate) fn record_of(alloc: Global, mut floors: Vec<OpeningFloor>) -> Result<Record, AllocError>
     ensures { IfOk result
@@ -106,7 +95,7 @@ pub(crate) fn take_up_desks<V: Disk>(
     requires disks { proposers < vec_len disks.old }
     requires none { desks.old.items ≡ [] }
     requires room { proposers + 1 ≤ vec_capacity desks.old }
-    ensures ok { OnOk result (AreTakenUpBelow (disk_meaning V.Disk) V.fault_count past
+    ensures ok { OnOk result (AreTakenUpBelow (disk_meaning V.Disk) V.seen V.fault_count past
         (reverse disks.old.items) (proposers + 1) desks.new.items) }
     ensures left { OnOk result
         (reverse disks.new.items ≡ drop (proposers + 1) (reverse disks.old.items)) }
@@ -138,7 +127,7 @@ fn take_up_desk<V: Disk>(
     past: u64,
 ) -> Result<Desk<V>, (OpenFault, V)>
     requires { past ≤ 2 ^ 48 }
-    ensures desk { IfOk result (IsTakenUpOver (disk_meaning V.Disk) V.fault_count past id disk) }
+    ensures desk { IfOk result (IsTakenUpOver (disk_meaning V.Disk) V.seen V.fault_count past id disk) }
     ensures fault { IfErr result (λ back. IsFaultOfVault (disk_meaning V.Disk) V.seen
         (64 + id) (V.fault_count disk) (V.fault_count back.1) back.1 back.0) }
     ensures never_falls { IfErr result (λ back. V.fault_count disk ≤ V.fault_count back.1) }
@@ -164,6 +153,8 @@ fn take_up_desk<V: Disk>(
 fn take_up<V: Disk>(vault: &mut Vault<V>, is_new: bool, past: u64) -> Result<(), VaultError>
     requires { past ≤ 2 ^ 48 }
     ensures ok { OnOk result (VaultIsTakenUp (disk_meaning V.Disk) past vault.new) }
+    ensures goes_on { OnOk result
+        (GoesOnPast (disk_meaning V.Disk) past is_new (disk_of vault.old) vault.new) }
     ensures stands { OnOk result (VaultStands V.tells V.seen V.may_leave vault.new) }
     ensures err { IfErr result (VaultIsRefused (disk_meaning V.Disk) V.seen vault.new) }
     ensures cause { HasVaultCause result

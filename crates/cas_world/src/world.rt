@@ -25,7 +25,7 @@ ghost use Rattle.cas_record.specs.Places.{Stands};
 
 use crate::fault::OpenFault;
 use crate::open::{Lists, Setup, first_members, give_disks, give_shelves, start, take_shelves};
-use crate::reopen::{OpeningFloor, greatest_counter, place_shelves, record_of, take_up_desks};
+use crate::reopen::{OpeningFloor, place_shelves, record_of, take_up_desks};
 use cas_acceptor::Acceptor;
 use cas_ballot::{AcceptorId, Members};
 use cas_change::Key;
@@ -146,8 +146,8 @@ impl<S: Shelf, V: Disk> World<S, V> {
 
     /// A world that goes on from what stood before. The history of each key opens with its floor, which the shelf of each member holds
     /// and of which the record has a mark, in the order of the list. The vaults of the proposers are started where their disks are empty
-    /// and reopened where they are not; each proposer goes on above all that it ever drew and above each floor, one age older, and in
-    /// era 0 over the members. Acceptors that were used before never join.
+    /// and reopened where they are not; each proposer goes on above all that it ever drew and above `past`, which is at least
+    /// the counter of each floor, one age older, and in era 0 over the members. Acceptors that were used before never join.
     ///
     /// After an `Err` the shelves and the disks come back in their places. [`OpenFault::DiskFault`], [`OpenFault::Foreign`] and
     /// [`OpenFault::Spent`] tell the first vault that was not taken up: its disk failed, it is no vault, or its age is 2^48.
@@ -159,13 +159,15 @@ impl<S: Shelf, V: Disk> World<S, V> {
         floors: Vec<OpeningFloor>,
         mut shelves: Vec<S>,
         mut vaults: Vec<V>,
+        past: u64,
     ) -> Result<World<S, V>, (OpenFault, Vec<S>, Vec<V>)>
         requires some { 0 < config.acceptors }
         requires few { config.acceptors ≤ 9 }
         requires count { length members ≡ config.acceptors }
         requires proposers { config.proposers ≤ 16 }
         requires floors { AreOpenings (openings_of floors.items) }
-        requires counters { greatest_counter floors.items ≤ 2 ^ 48 }
+        requires counters { greatest_counter floors.items ≤ past }
+        requires past { past ≤ 2 ^ 48 }
         requires marks { vec_len floors ≤ most_marks }
         requires shelves { vec_len shelves ≡ 64 }
         requires vaults { vec_len vaults ≡ 17 }
@@ -176,14 +178,12 @@ impl<S: Shelf, V: Disk> World<S, V> {
         ensures places { IfOk result HasPlaces }
         ensures last_proposer { IfOk result (λ world. world.last_proposer ≡ config.proposers) }
         ensures shelves { IfOk result (λ world. world.acceptors ≡ placed members 0 shelves.items) }
-        ensures vaults { IfOk result (λ world. AreTakenUpBelow (disk_meaning V.Disk) V.fault_count
-            (greatest_counter floors.items) vaults.items (config.proposers + 1) world.desks) }
-        ensures fault { IfErr result (λ back. DoesNotGoOn (disk_meaning V.Disk) V.seen V.fault_count
-            (greatest_counter floors.items)
+        ensures vaults { IfOk result (λ world. AreTakenUpBelow (disk_meaning V.Disk) V.seen V.fault_count
+            past vaults.items (config.proposers + 1) world.desks) }
+        ensures fault { IfErr result (λ back. DoesNotGoOn (disk_meaning V.Disk) V.seen V.fault_count past
             config.proposers shelves.items vaults.items back.0 back.1.items back.2.items) }
         ensures back { IfErr result (λ back. (vec_len back.1 ≡ 64) × (vec_len back.2 ≡ 17)) }
     {
-        let past = greatest_counter(&floors);
         let record = match record_of(alloc, floors) {
             Ok(record) => record,
             Err(_) => return Err((OpenFault::NoMemory, shelves, vaults)),

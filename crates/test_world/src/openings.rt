@@ -96,7 +96,7 @@ fn opened_on(alloc: Global, vaults: Vec<MemoryDisk>) -> Result<Play<MapShelf, Me
     let shelves = shelves(alloc, &floor)?;
     let mut floors = Vec::with_capacity(alloc, 1)?;
     floors.push_reserved(floor);
-    match Player::open_on(alloc, among(3), members, floors, shelves, vaults) {
+    match Player::open_on(alloc, among(3), members, floors, shelves, vaults, 7) {
         Some(player) => Ok(Play::new(alloc, player)),
         None => Err(Fail::from("a world in memory opens")),
     }

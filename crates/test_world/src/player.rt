@@ -100,9 +100,11 @@ impl<S: Shelf + Drop, V: Disk + Drop> Player<S, V> {
         floors: Vec<OpeningFloor>,
         shelves: Vec<S>,
         vaults: Vec<V>,
+        past: u64,
     ) -> Option<Player<S, V>>
         requires floors { AreOpenings (openings_of floors.items) }
-        requires counters { greatest_counter floors.items ≤ 2 ^ 48 }
+        requires counters { greatest_counter floors.items ≤ past }
+        requires past { past ≤ 2 ^ 48 }
         requires marks { vec_len floors ≤ most_marks }
         requires held { MembersHold S.is_up S.contents members
             (openings_of floors.items) shelves.items }
@@ -116,7 +118,7 @@ impl<S: Shelf + Drop, V: Disk + Drop> Player<S, V> {
         if members.count() != u32::from(config.acceptors) {
             return None;
         }
-        match World::open_on(alloc, config, members, members, floors, shelves, vaults) {
+        match World::open_on(alloc, config, members, members, floors, shelves, vaults, past) {
             Ok(world) => Some(Player {
                 world,
                 proposers: config.proposers,

@@ -111,35 +111,27 @@ dropped_all zero (x ∷ xs) low = absurd (omega (arith, low))
 dropped_all (suc n) [] low = refl
 dropped_all (suc n) (x ∷ xs) low = dropped_all n xs (omega (arith, low))
 
--- one more that is looked at
-pub one_more_counter : (floors : List OpeningFloor) (place : ℕ) (floor : OpeningFloor) (last_proposer : ℕ) → IsAt floors place floor
-    → max (max floor.ballot.counter last_proposer) (greatest_counter (drop (place + 1) floors)) ≡ max last_proposer (greatest_counter (drop place floors))
-one_more_counter [] place floor last_proposer at = absurd (cc at)
-one_more_counter (first ∷ floors) zero floor last_proposer at = subst (λ (x : OpeningFloor). max (max floor.ballot.counter last_proposer) (greatest_counter floors) ≡ max last_proposer (max x.ballot.counter (greatest_counter floors))) (sym (some_is at)) (omega arith)
-one_more_counter (first ∷ floors) (suc place) floor last_proposer at =
-    ap (λ (n : ℕ). max (max floor.ballot.counter last_proposer) (greatest_counter (drop n (first ∷ floors)))) (let e : suc place + 1 ≡ suc (place + 1) = omega arith in e) ∙ one_more_counter floors place floor last_proposer at
-
-open_desk : {S V : Type 0} (m : Meaning S V) (faults : V → ℕ) (floors : List OpeningFloor) (id : ℕ) (disk : V) (desk : DeskView V) → IsTakenUpOver m.disks faults (greatest_counter floors) id disk desk → IsOpenDesk m (openings_of floors) id desk
-open_desk {S} {V} m faults floors id disk desk over = record {
+open_desk : {S V : Type 0} (m : Meaning S V) (seen : V → List ℕ) (faults : V → ℕ) (past : ℕ) (floors : List OpeningFloor) (id : ℕ) (disk : V) (desk : DeskView V) → IsTakenUpOver m.disks seen faults past id disk desk → greatest_counter floors ≤ past → IsOpenDesk m (openings_of floors) id desk
+open_desk {S} {V} m seen faults past floors id disk desk over low = record {
   same_id = ap (λ (d : DeskView V). d.id) over.is;
   in_era = λ tells. record {
     kept = over.vault.era;
     left = λ c kept may on. inl (ap (λ (k : Kept). k.era) (same_kept kept (kept_of desk.vault) c on (over.vault.lasts tells c may)) ∙ over.vault.era);
   };
-  past = λ tells o h. lower_past o.ballot.counter (greatest_counter floors) (below_greatest floors o (has o (openings_of floors) h)) (over.vault.is_past tells);
+  past = λ tells o h. lower_past o.ballot.counter past (omega (arith, low, below_greatest floors o (has o (openings_of floors) h))) (over.vault.is_past tells);
   no_promise = ap (λ (d : DeskView V). d.cache) over.is;
   none_open = ap (λ (d : DeskView V). d.round) over.is;
 }
 
 -- ---- one more vault that is taken up
-pub one_more_taken : {V : Type 0} (m : DiskMeaning V) (faults : V → ℕ) (past : ℕ) (disks : List V) (number : ℕ) (desks : List (DeskView V)) (disk : V) (desk : DeskView V) → AreTakenUpBelow m faults past disks number desks → IsAt disks number disk
-    → IsTakenUpOver m faults past number disk desk → AreTakenUpBelow m faults past disks (number + 1) (desks ++ desk ∷ [])
-one_more_taken {V} m faults past disks number desks disk desk before at over = record {
+pub one_more_taken : {V : Type 0} (m : DiskMeaning V) (seen : V → List ℕ) (faults : V → ℕ) (past : ℕ) (disks : List V) (number : ℕ) (desks : List (DeskView V)) (disk : V) (desk : DeskView V) → AreTakenUpBelow m seen faults past disks number desks → IsAt disks number disk
+    → IsTakenUpOver m seen faults past number disk desk → AreTakenUpBelow m seen faults past disks (number + 1) (desks ++ desk ∷ [])
+one_more_taken {V} m seen faults past disks number desks disk desk before at over = record {
   places = length_push desks desk ∙ ap (λ (n : ℕ). n + 1) before.places;
   each = λ id x at_x. elim (at_pushed desks desk id x at_x) [
     | inl earlier ↦ before.each id x earlier
     | inr last ↦ (let e : id ≡ number = last.0 ∙ before.places in
-        (disk, subst (λ (i : ℕ). IsAt disks i disk) (sym e) at, subst (λ (i : ℕ). IsTakenUpOver m faults past i disk x) (sym e) (subst (λ (y : DeskView V). IsTakenUpOver m faults past number disk y) (sym last.1) over)))
+        (disk, subst (λ (i : ℕ). IsAt disks i disk) (sym e) at, subst (λ (i : ℕ). IsTakenUpOver m seen faults past i disk x) (sym e) (subst (λ (y : DeskView V). IsTakenUpOver m seen faults past number disk y) (sym last.1) over)))
   ];
 }
 
@@ -149,10 +141,10 @@ marks_are [] = refl
 marks_are (floor ∷ floors) = ap (λ (l : List Mark). mark_of (opening_of floor) ∷ l) (marks_are floors)
 
 -- ---- the whole
-module _ {S V : Type 0} (m : Meaning S V) (is_up : S → Type 0) (disk_faults : V → ℕ) (members used : List ℕ) (floors : List OpeningFloor) (last_proposer : ℕ) (shelves : List S) (disks : List V) (council : Council) (desks : List (DeskView V)) (callers : List Caller) (flow : FlowView) (book : Book)
+module _ {S V : Type 0} (m : Meaning S V) (is_up : S → Type 0) (seen : V → List ℕ) (disk_faults : V → ℕ) (past : ℕ) (members used : List ℕ) (floors : List OpeningFloor) (last_proposer : ℕ) (shelves : List S) (disks : List V) (council : Council) (desks : List (DeskView V)) (callers : List Caller) (flow : FlowView) (book : Book)
     (member_set : IsMemberSet members) (some : 0 < length members) (few_members : length members ≤ 9) (few_proposers : last_proposer ≤ 16) (all_shelves : length shelves ≡ 64) (openings : AreOpenings (openings_of floors)) (few_marks : length floors ≤ most_marks)
     (lasts : (shelf : S) → m.shelves.tells → is_up shelf → OnlyLeaves (m.shelves.contents shelf) (m.shelves.may_leave shelf)) (held : MembersHold is_up m.shelves.contents members (openings_of floors) shelves)
-    (taken : AreTakenUpBelow m.disks disk_faults (greatest_counter floors) disks (last_proposer + 1) desks) (eras_are : council ≡ opening_council (majority_era 0 members) (union_of used members)) (callers_are : callers ≡ replicate (last_proposer + 1) unbegun) (flow_is : flow ≡ empty_flow)
+    (low_past : greatest_counter floors ≤ past) (taken : AreTakenUpBelow m.disks seen disk_faults past disks (last_proposer + 1) desks) (eras_are : council ≡ opening_council (majority_era 0 members) (union_of used members)) (callers_are : callers ≡ replicate (last_proposer + 1) unbegun) (flow_is : flow ≡ empty_flow)
     (marks : book.marks ≡ map (λ (floor : OpeningFloor). mark_of (opening_of floor)) floors) where
   pub is_opening_on : IsOpeningOn m members (union_of used members) (openings_of floors) (view_of last_proposer council (placed members 0 shelves) desks callers flow book)
   is_opening_on = record {
@@ -179,7 +171,7 @@ module _ {S V : Type 0} (m : Meaning S V) (is_up : S → Type 0) (disk_faults : 
     desks = λ id desk at.
         (let low : id < length desks = slice_get_within desks id desk at in
         let found = taken.each id desk at in
-        (omega (arith, low, taken.places), open_desk m disk_faults floors id found.0 desk found.2));
+        (omega (arith, low, taken.places), open_desk m seen disk_faults past floors id found.0 desk found.2 low_past));
     callers = fresh_callers (last_proposer + 1) callers callers_are;
     flow = flow_is;
     marks = marks ∙ marks_are floors;

@@ -1,11 +1,11 @@
 -- What a world that goes on from what stood before is opened from, and what comes back where it is not.
-use Rattle.std.specs.Prelude.{◌≡◌, ⊤, ℕ, suc, ◌+◌, ◌≤◌, ◌^◌, max, Bool, true, false, List, [], ◌∷◌, ◌++◌, length, map, drop, None, if◌then◌else◌}
+use Rattle.std.specs.Prelude.{◌≡◌, ⊤, ℕ, suc, ◌+◌, ◌≤◌, ◌^◌, max, Bool, true, false, List, [], ◌∷◌, ◌++◌, length, ◌==◌, map, drop, None, if◌then◌else◌}
 use Rattle.cas_base.specs.Faults.{Rose}
 use Rattle.cas_acceptor.specs.Acceptor.{AcceptorView}
 use Rattle.cas_ballot.specs.Members.{has_member}
 use Rattle.cas_proposer.specs.Desk.{DeskView}
 use Rattle.cas_slot.specs.Contents.{Contents}
-use Rattle.cas_vault.specs.Vault.{disk_of, counter_of, kept_of, KeptOn, IsPast, IsForeignAt}
+use Rattle.cas_vault.specs.Vault.{disk_of, counter_of, kept_of, fresh, KeptOn, IsPast, IsForeignAt}
 use Rattle.cas_vault.specs.declared.error.VaultError.{VaultError}
 use Rattle.cas_vault.specs.declared.error.VaultError.TheVariants as vault_error
 use Rattle.cas_vault.specs.declared.kept.Kept.{Kept}
@@ -45,6 +45,15 @@ pub record MembersHold {S : Type 0} (is_up : S → Type 0) (contents : S → Con
   pub holds : (id : ℕ) (shelf : S) → has_member members id ≡ true → IsAt shelves id shelf → HoldsFloors floors (contents shelf)
 
 -- ---- vaults that are taken up
+-- A vault goes on from what it kept before, which is nothing where it is started, and what a crash may have left on its disk where it is
+-- reopened: its counter is the greater of that bound and this number, it is one age older, and it is in era 0. The disk keeps all of that.
+pub record GoesOnPast {V : Type 0} (m : DiskMeaning V) (past : ℕ) (is_new : Bool) (disk : V) (vault : Vault V) : Type 0 where
+  pub before : Kept
+  pub counter : counter_of vault ≡ max before.bound past
+  pub kept : kept_of vault ≡ record { bound = counter_of vault; age = before.age + 1; era = 0 }
+  pub started : is_new ≡ true → before ≡ fresh
+  pub reopened : is_new ≡ false → m.tells → (image : List ℕ) × m.may_leave disk image × KeptOn before image
+
 -- it is past the counter and in era 0, and a crash leaves just what it keeps
 pub record VaultIsTakenUp {V : Type 0} (m : DiskMeaning V) (past : ℕ) (vault : Vault V) : Type 0 where
   pub counter : past ≤ counter_of vault
@@ -58,10 +67,13 @@ VaultIsRefused m seen vault (vault_error.Foreign at) = m.tells → IsForeignAt (
 VaultIsRefused m seen vault vault_error.Spent = ((kept_of vault).age ≡ 2 ^ 48) × (m.tells → (c : List ℕ) → m.may_leave (disk_of vault) c → KeptOn (kept_of vault) c)
 VaultIsRefused m seen vault other = ⊤
 
--- the desk of that proposer, over a vault on that disk that was taken up
-pub record IsTakenUpOver {V : Type 0} (m : DiskMeaning V) (faults : V → ℕ) (past id : ℕ) (disk : V) (desk : DeskView V) : Type 0 where
+-- the desk of that proposer, over a vault on that disk that was taken up; the vault was started exactly where the disk had no bytes
+pub record IsTakenUpOver {V : Type 0} (m : DiskMeaning V) (seen : V → List ℕ) (faults : V → ℕ) (past id : ℕ) (disk : V) (desk : DeskView V) : Type 0 where
   pub is : desk ≡ record { id = id; vault = desk.vault; cache = []; round = None; down = false }
   pub vault : VaultIsTakenUp m past desk.vault
+  pub is_new : Bool
+  pub empty : m.tells → is_new ≡ (length (seen disk) == 0)
+  pub goes_on : GoesOnPast m past is_new disk desk.vault
   pub never_falls : faults disk ≤ faults (disk_of desk.vault)
 
 -- the disk of this number failed, or is foreign at that byte, or keeps an age that is at its end; otherwise there was no memory
@@ -79,15 +91,15 @@ fault_of_vault disk vault_error.Spent = Spent disk
 fault_of_vault disk vault_error.NoMemory = NoMemory
 
 -- the desks of the proposers from 0 on below this one, over the first of these disks
-pub record AreTakenUpBelow {V : Type 0} (m : DiskMeaning V) (faults : V → ℕ) (past : ℕ) (disks : List V) (number : ℕ) (desks : List (DeskView V)) : Type 0 where
+pub record AreTakenUpBelow {V : Type 0} (m : DiskMeaning V) (seen : V → List ℕ) (faults : V → ℕ) (past : ℕ) (disks : List V) (number : ℕ) (desks : List (DeskView V)) : Type 0 where
   pub places : length desks ≡ number
-  pub each : (id : ℕ) (desk : DeskView V) → IsAt desks id desk → (disk : V) × IsAt disks id disk × IsTakenUpOver m faults past id disk desk
+  pub each : (id : ℕ) (desk : DeskView V) → IsAt desks id desk → (disk : V) × IsAt disks id disk × IsTakenUpOver m seen faults past id disk desk
 
 -- those of the proposers below one up to this; the disk of that one was not taken up, and stands before those that are left
 pub record AVaultIsNotTakenUp {V : Type 0} (m : DiskMeaning V) (seen : V → List ℕ) (faults : V → ℕ) (past : ℕ) (disks : List V) (last_proposer : ℕ) (fault : OpenFault) (desks : List (DeskView V)) (left : List V) : Type 0 where
   pub number : ℕ
   pub to : number ≤ last_proposer
-  pub made : AreTakenUpBelow m faults past disks number desks
+  pub made : AreTakenUpBelow m seen faults past disks number desks
   pub disk : V
   pub at_disk : IsAt disks number disk
   pub now : V

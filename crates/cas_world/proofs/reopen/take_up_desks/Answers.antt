@@ -12,17 +12,17 @@ use Rattle.cas_model.specs.View.{disk_meaning}
 id_is : (option : Option ℕ) (id number : ℕ) → option ≡ Some id → IfSome option (λ (i : ℕ). i ≡ number) → id ≡ number
 id_is option id number some is = subst (λ (o : Option ℕ). IfSome o (λ (i : ℕ). i ≡ number)) some is
 
-made : (g : Over) (c : In-Ok g) → AreTakenUpBelow (disk_meaning g.V.Disk) g.V.Disk.fault_count c.args.past (reverse c.args.disks.now.items) (c.loop-number.number + 1) (c.loop-number.desks.items ++ c.in-Ok.desk ∷ [])
-made g c = one_more_taken (disk_meaning g.V.Disk) g.V.Disk.fault_count c.args.past (reverse c.args.disks.now.items) c.loop-number.number c.loop-number.desks.items c.unwrap-disk.result c.in-Ok.desk c.loop-number.invariant.made
+made : (g : Over) (c : In-Ok g) → AreTakenUpBelow (disk_meaning g.V.Disk) g.V.Disk.seen g.V.Disk.fault_count c.args.past (reverse c.args.disks.now.items) (c.loop-number.number + 1) (c.loop-number.desks.items ++ c.in-Ok.desk ∷ [])
+made g c = one_more_taken (disk_meaning g.V.Disk) g.V.Disk.seen g.V.Disk.fault_count c.args.past (reverse c.args.disks.now.items) c.loop-number.number c.loop-number.desks.items c.unwrap-disk.result c.in-Ok.desk c.loop-number.invariant.made
     (next_disk (reverse c.args.disks.now.items) c.loop-number.disks.items c.pop.new.self.items c.loop-number.number c.unwrap-disk.result c.pop.result c.pop.ensures.items c.unwrap-disk.ensures c.loop-number.invariant.left).0
-    (subst (λ (i : ℕ). IsTakenUpOver (disk_meaning g.V.Disk) g.V.Disk.fault_count c.args.past i c.unwrap-disk.result c.in-Ok.desk) (id_is c.new.result c.unwrap-id.result c.loop-number.number c.unwrap-id.ensures c.new.ensures.value) (c.in-Ok.ensures {u = tt}).desk)
+    (subst (λ (i : ℕ). IsTakenUpOver (disk_meaning g.V.Disk) g.V.Disk.seen g.V.Disk.fault_count c.args.past i c.unwrap-disk.result c.in-Ok.desk) (id_is c.new.result c.unwrap-id.result c.loop-number.number c.unwrap-id.ensures c.new.ensures.value) (c.in-Ok.ensures {u = tt}).desk)
 
 left : (g : Over) (c : In-Ok g) → reverse c.pop.new.self.items ≡ drop (c.loop-number.number + 1) (reverse c.args.disks.now.items)
 left g c = (next_disk (reverse c.args.disks.now.items) c.loop-number.disks.items c.pop.new.self.items c.loop-number.number c.unwrap-disk.result c.pop.result c.pop.ensures.items c.unwrap-disk.ensures c.loop-number.invariant.left).1
 
 pub loop-number-preserved : goal.loop-number-preserved
 loop-number-preserved g c = record {
-  made = subst (λ (l : List (DeskView _)). AreTakenUpBelow (disk_meaning g.V.Disk) g.V.Disk.fault_count c.args.past (reverse c.args.disks.now.items) (c.loop-number.number + 1) l) (sym c.push_reserved.ensures.items) (made g (goal.at.loop-number-preserved g c).In-Ok);
+  made = subst (λ (l : List (DeskView _)). AreTakenUpBelow (disk_meaning g.V.Disk) g.V.Disk.seen g.V.Disk.fault_count c.args.past (reverse c.args.disks.now.items) (c.loop-number.number + 1) l) (sym c.push_reserved.ensures.items) (made g (goal.at.loop-number-preserved g c).In-Ok);
   left = left g (goal.at.loop-number-preserved g c).In-Ok;
   room = omega (arith, c.loop-number.invariant.room, c.push_reserved.ensures.capacity);
   capacity = c.pop.ensures.capacity ∙ c.loop-number.invariant.capacity;
@@ -31,8 +31,8 @@ loop-number-preserved g c = record {
 pub returns-in-Ok-clause-ok : goal.returns-in-Ok-clause-ok
 returns-in-Ok-clause-ok g c =
     let last : c.loop-number.number ≡ c.args.proposers = omega arith in
-    subst (λ (n : ℕ). AreTakenUpBelow (disk_meaning g.V.Disk) g.V.Disk.fault_count c.args.past (reverse c.args.disks.now.items) (n + 1) c.push_reserved.new.self.items) last
-    (subst (λ (l : List (DeskView _)). AreTakenUpBelow (disk_meaning g.V.Disk) g.V.Disk.fault_count c.args.past (reverse c.args.disks.now.items) (c.loop-number.number + 1) l) (sym c.push_reserved.ensures.items) (made g (goal.at.returns-in-Ok-clause-ok g c).In-Ok))
+    subst (λ (n : ℕ). AreTakenUpBelow (disk_meaning g.V.Disk) g.V.Disk.seen g.V.Disk.fault_count c.args.past (reverse c.args.disks.now.items) (n + 1) c.push_reserved.new.self.items) last
+    (subst (λ (l : List (DeskView _)). AreTakenUpBelow (disk_meaning g.V.Disk) g.V.Disk.seen g.V.Disk.fault_count c.args.past (reverse c.args.disks.now.items) (c.loop-number.number + 1) l) (sym c.push_reserved.ensures.items) (made g (goal.at.returns-in-Ok-clause-ok g c).In-Ok))
 
 pub returns-in-Ok-clause-left : goal.returns-in-Ok-clause-left
 returns-in-Ok-clause-left g c =

@@ -6,7 +6,7 @@ use Rattle.cas_model.specs.View.{disk_meaning}
 
 abbrev pub invariant-loop-number : goal.invariant-loop-number
 invariant-loop-number g l = record {
-  made : AreTakenUpBelow (disk_meaning g.V.Disk) g.V.Disk.fault_count l.fn.past (reverse l.fn.disks.items) l.number l.desks.items;
+  made : AreTakenUpBelow (disk_meaning g.V.Disk) g.V.Disk.seen g.V.Disk.fault_count l.fn.past (reverse l.fn.disks.items) l.number l.desks.items;
   left : reverse l.disks.items ≡ drop l.number (reverse l.fn.disks.items);
   room : l.fn.proposers + 1 ≤ vec_capacity l.desks;
   capacity : vec_capacity l.disks ≡ vec_capacity l.fn.disks;

@@ -12,7 +12,7 @@ use Rattle.cas_world_calls.specs.Council.{opening_council}
 use Rattle.cas_world_calls.specs.declared.council.Council.{Council}
 use Rattle.cas_world.specs.Openings.Opening.{shelves_of, disks_of}
 use Rattle.cas_world.specs.Openings.OpeningOn as opening
-use Rattle.cas_world.specs.Openings.OpeningOn.{greatest_counter, AreTakenUpBelow, AVaultIsNotTakenUp}
+use Rattle.cas_world.specs.Openings.OpeningOn.{AreTakenUpBelow, AVaultIsNotTakenUp}
 use Rattle.cas_world.specs.World.{IsWorld, view_of}
 use Rattle.cas_model.specs.Openings.{IsOpeningOn}
 use Rattle.cas_model.specs.SafeLaws.{HasPlaces}
@@ -25,9 +25,9 @@ use Rattle.cas_world.proofs.world.World.open_on.Goals.{In-Ok-take_up_desks, In-E
 disks_there : (g : Over) (c : In-Ok-take_up_desks g) → reverse c.reverse.new.self.items ≡ c.args.vaults.items
 disks_there g c = ap (λ (l : List _). reverse l) c.reverse.ensures.items ∙ reverse-reverse c.args.vaults.items
 
-taken : (g : Over) (c : In-Ok-take_up_desks g) → AreTakenUpBelow (disk_meaning g.V.Disk) g.V.Disk.fault_count (greatest_counter c.args.floors.items) c.args.vaults.items (c.args.config.proposers + 1) c.take_up_desks.new.desks.items
-taken g c = subst (λ (n : ℕ). AreTakenUpBelow (disk_meaning g.V.Disk) g.V.Disk.fault_count n c.args.vaults.items (c.args.config.proposers + 1) c.take_up_desks.new.desks.items) (c.greatest_counter-past.ensures ∙ ap (λ (l : List _). greatest_counter l) c.deref.ensures.value)
-    (subst (λ (l : List _). AreTakenUpBelow (disk_meaning g.V.Disk) g.V.Disk.fault_count c.greatest_counter-past.result l (c.args.config.proposers + 1) c.take_up_desks.new.desks.items) (disks_there g c) (c.in-Ok-take_up_desks.ensures {u = tt}).ok)
+taken : (g : Over) (c : In-Ok-take_up_desks g) → AreTakenUpBelow (disk_meaning g.V.Disk) g.V.Disk.seen g.V.Disk.fault_count c.args.past c.args.vaults.items (c.args.config.proposers + 1) c.take_up_desks.new.desks.items
+taken g c =
+    subst (λ (l : List _). AreTakenUpBelow (disk_meaning g.V.Disk) g.V.Disk.seen g.V.Disk.fault_count c.args.past l (c.args.config.proposers + 1) c.take_up_desks.new.desks.items) (disks_there g c) (c.in-Ok-take_up_desks.ensures {u = tt}).ok
 
 council_is : (council : Council) (era : Era) (used members all : List ℕ) (n : ℕ) → council ≡ opening_council era all → era ≡ majority_era n members → all ≡ union_of used members → council ≡ opening_council (majority_era n members) (union_of used members)
 council_is council era used members all n is era_is all_is = is ∙ ap (λ (e : Era). opening_council e all) era_is ∙ ap (opening_council (majority_era n members)) all_is
@@ -43,35 +43,35 @@ invariant_of-result g c = record {
 pub invariant_of-result-in-Ok-take_up_desks : goal.invariant_of-result-in-Ok-take_up_desks
 invariant_of-result-in-Ok-take_up_desks g c =
     subst (λ (l : List (AcceptorView _)). IsWorld (meaning g.S.Shelf g.V.Disk) (view_of c.args.config.proposers c.new-in-Ok-take_up_desks.result l c.take_up_desks.new.desks.items c.in-Ok-new.lists.callers.items c.in-Ok-new.lists.flow c.in-Ok.record) c.in-Ok-new.lists.callers.items c.in-Ok.record.room) (sym c.place_shelves.ensures.acceptors)
-    (is_world_on (meaning g.S.Shelf g.V.Disk) g.S.Shelf.is_up g.V.Disk.fault_count c.args.members c.args.used c.args.floors.items c.args.config.proposers c.args.shelves.items c.args.vaults.items c.new-in-Ok-take_up_desks.result
+    (is_world_on (meaning g.S.Shelf g.V.Disk) g.S.Shelf.is_up g.V.Disk.seen g.V.Disk.fault_count c.args.past c.args.members c.args.used c.args.floors.items c.args.config.proposers c.args.shelves.items c.args.vaults.items c.new-in-Ok-take_up_desks.result
     c.take_up_desks.new.desks.items c.in-Ok-new.lists.callers.items c.in-Ok-new.lists.flow c.in-Ok.record c.majority.ensures.set (omega (arith, c.requires.some, c.requires.count)) (omega (arith, c.requires.few, c.requires.count)) c.requires.proposers (sym c.args.shelves.ok.0 ∙ c.requires.shelves) c.requires.floors
-    (omega (arith, c.args.floors.ok.0, c.requires.marks)) g.met.S.Shelf.up_is_kept c.requires.held (taken g (goal.at.invariant_of-result-in-Ok-take_up_desks g c).In-Ok-take_up_desks)
+    (omega (arith, c.args.floors.ok.0, c.requires.marks)) g.met.S.Shelf.up_is_kept c.requires.held c.requires.counters (taken g (goal.at.invariant_of-result-in-Ok-take_up_desks g c).In-Ok-take_up_desks)
     (council_is _ _ _ _ _ _ c.new-in-Ok-take_up_desks.ensures c.majority.ensures.value c.union.ensures) (c.in-Ok-new.ensures {u = tt}).callers (c.in-Ok-new.ensures {u = tt}).flow (c.in-Ok.ensures {u = tt}))
 
 pub returns-in-Ok-take_up_desks-clause-opening : goal.returns-in-Ok-take_up_desks-clause-opening
 returns-in-Ok-take_up_desks-clause-opening g c =
     subst (λ (l : List (AcceptorView _)). IsOpeningOn (meaning g.S.Shelf g.V.Disk) c.args.members (union_of c.args.used c.args.members) (opening.openings_of c.args.floors.items) (view_of c.args.config.proposers c.new-in-Ok-take_up_desks.result l c.take_up_desks.new.desks.items c.in-Ok-new.lists.callers.items c.in-Ok-new.lists.flow c.in-Ok.record)) (sym c.place_shelves.ensures.acceptors)
-    (is_opening_on (meaning g.S.Shelf g.V.Disk) g.S.Shelf.is_up g.V.Disk.fault_count c.args.members c.args.used c.args.floors.items c.args.config.proposers c.args.shelves.items c.args.vaults.items c.new-in-Ok-take_up_desks.result
+    (is_opening_on (meaning g.S.Shelf g.V.Disk) g.S.Shelf.is_up g.V.Disk.seen g.V.Disk.fault_count c.args.past c.args.members c.args.used c.args.floors.items c.args.config.proposers c.args.shelves.items c.args.vaults.items c.new-in-Ok-take_up_desks.result
     c.take_up_desks.new.desks.items c.in-Ok-new.lists.callers.items c.in-Ok-new.lists.flow c.in-Ok.record c.majority.ensures.set (omega (arith, c.requires.some, c.requires.count)) (omega (arith, c.requires.few, c.requires.count)) c.requires.proposers (sym c.args.shelves.ok.0 ∙ c.requires.shelves) c.requires.floors
-    (omega (arith, c.args.floors.ok.0, c.requires.marks)) g.met.S.Shelf.up_is_kept c.requires.held (taken g (goal.at.returns-in-Ok-take_up_desks-clause-opening g c).In-Ok-take_up_desks)
+    (omega (arith, c.args.floors.ok.0, c.requires.marks)) g.met.S.Shelf.up_is_kept c.requires.held c.requires.counters (taken g (goal.at.returns-in-Ok-take_up_desks-clause-opening g c).In-Ok-take_up_desks)
     (council_is _ _ _ _ _ _ c.new-in-Ok-take_up_desks.ensures c.majority.ensures.value c.union.ensures) (c.in-Ok-new.ensures {u = tt}).callers (c.in-Ok-new.ensures {u = tt}).flow (c.in-Ok.ensures {u = tt}))
 
 pub returns-in-Ok-take_up_desks-clause-places : goal.returns-in-Ok-take_up_desks-clause-places
 returns-in-Ok-take_up_desks-clause-places g c =
     subst (λ (l : List (AcceptorView _)). HasPlaces (view_of c.args.config.proposers c.new-in-Ok-take_up_desks.result l c.take_up_desks.new.desks.items c.in-Ok-new.lists.callers.items c.in-Ok-new.lists.flow c.in-Ok.record)) (sym c.place_shelves.ensures.acceptors)
-    (has_places_on (meaning g.S.Shelf g.V.Disk) g.S.Shelf.is_up g.V.Disk.fault_count c.args.members c.args.used c.args.floors.items c.args.config.proposers c.args.shelves.items c.args.vaults.items c.new-in-Ok-take_up_desks.result
+    (has_places_on (meaning g.S.Shelf g.V.Disk) g.S.Shelf.is_up g.V.Disk.seen g.V.Disk.fault_count c.args.past c.args.members c.args.used c.args.floors.items c.args.config.proposers c.args.shelves.items c.args.vaults.items c.new-in-Ok-take_up_desks.result
     c.take_up_desks.new.desks.items c.in-Ok-new.lists.callers.items c.in-Ok-new.lists.flow c.in-Ok.record c.majority.ensures.set (omega (arith, c.requires.some, c.requires.count)) (omega (arith, c.requires.few, c.requires.count)) c.requires.proposers (sym c.args.shelves.ok.0 ∙ c.requires.shelves) c.requires.floors
-    (omega (arith, c.args.floors.ok.0, c.requires.marks)) g.met.S.Shelf.up_is_kept c.requires.held (taken g (goal.at.returns-in-Ok-take_up_desks-clause-places g c).In-Ok-take_up_desks)
+    (omega (arith, c.args.floors.ok.0, c.requires.marks)) g.met.S.Shelf.up_is_kept c.requires.held c.requires.counters (taken g (goal.at.returns-in-Ok-take_up_desks-clause-places g c).In-Ok-take_up_desks)
     (council_is _ _ _ _ _ _ c.new-in-Ok-take_up_desks.ensures c.majority.ensures.value c.union.ensures) (c.in-Ok-new.ensures {u = tt}).callers (c.in-Ok-new.ensures {u = tt}).flow (c.in-Ok.ensures {u = tt}))
 
 pub returns-in-Ok-take_up_desks-clause-vaults : goal.returns-in-Ok-take_up_desks-clause-vaults
 returns-in-Ok-take_up_desks-clause-vaults g c = taken g (goal.at.returns-in-Ok-take_up_desks-clause-vaults g c).In-Ok-take_up_desks
 
 -- ---- one is not
-fails : (g : Over) (c : In-Err-take_up_desks g) → AVaultIsNotTakenUp (disk_meaning g.V.Disk) g.V.Disk.seen g.V.Disk.fault_count (greatest_counter c.args.floors.items) c.args.vaults.items c.args.config.proposers c.in-Err-take_up_desks.fault c.take_up_desks.new.desks.items (reverse c.take_up_desks.new.disks.items)
-fails g c = subst (λ (n : ℕ). AVaultIsNotTakenUp (disk_meaning g.V.Disk) g.V.Disk.seen g.V.Disk.fault_count n c.args.vaults.items c.args.config.proposers c.in-Err-take_up_desks.fault c.take_up_desks.new.desks.items (reverse c.take_up_desks.new.disks.items)) (c.greatest_counter-past.ensures ∙ ap (λ (l : List _). greatest_counter l) c.deref.ensures.value)
-    (subst (λ (l : List _). AVaultIsNotTakenUp (disk_meaning g.V.Disk) g.V.Disk.seen g.V.Disk.fault_count c.greatest_counter-past.result l c.args.config.proposers c.in-Err-take_up_desks.fault c.take_up_desks.new.desks.items (reverse c.take_up_desks.new.disks.items))
-    (ap (λ (l : List _). reverse l) c.reverse.ensures.items ∙ reverse-reverse c.args.vaults.items) (c.in-Err-take_up_desks.ensures {u = tt}).err)
+fails : (g : Over) (c : In-Err-take_up_desks g) → AVaultIsNotTakenUp (disk_meaning g.V.Disk) g.V.Disk.seen g.V.Disk.fault_count c.args.past c.args.vaults.items c.args.config.proposers c.in-Err-take_up_desks.fault c.take_up_desks.new.desks.items (reverse c.take_up_desks.new.disks.items)
+fails g c =
+    subst (λ (l : List _). AVaultIsNotTakenUp (disk_meaning g.V.Disk) g.V.Disk.seen g.V.Disk.fault_count c.args.past l c.args.config.proposers c.in-Err-take_up_desks.fault c.take_up_desks.new.desks.items (reverse c.take_up_desks.new.disks.items))
+    (ap (λ (l : List _). reverse l) c.reverse.ensures.items ∙ reverse-reverse c.args.vaults.items) (c.in-Err-take_up_desks.ensures {u = tt}).err
 
 -- as many shelves and as many disks as there were
 shelves_back : (g : Over) (c : In-Err-take_up_desks g) → length c.place_shelves.new.acceptors.items ≡ 64
@@ -79,7 +79,7 @@ shelves_back g c = ap (λ (l : List _). length l) c.place_shelves.ensures.accept
 
 disks_back : (g : Over) (c : In-Err-take_up_desks g) → length c.take_up_desks.new.desks.items + length (reverse c.take_up_desks.new.disks.items) ≡ 17
 disks_back g c =
-    none_lost_on (disk_meaning g.V.Disk) g.V.Disk.seen g.V.Disk.fault_count (greatest_counter c.args.floors.items) c.args.vaults.items c.args.config.proposers c.in-Err-take_up_desks.fault c.take_up_desks.new.desks.items (reverse c.take_up_desks.new.disks.items)
+    none_lost_on (disk_meaning g.V.Disk) g.V.Disk.seen g.V.Disk.fault_count c.args.past c.args.vaults.items c.args.config.proposers c.in-Err-take_up_desks.fault c.take_up_desks.new.desks.items (reverse c.take_up_desks.new.disks.items)
     (omega (arith, c.args.vaults.ok.0, c.requires.vaults, c.requires.proposers)) (fails g c)
     ∙ (sym c.args.vaults.ok.0 ∙ c.requires.vaults)
 
