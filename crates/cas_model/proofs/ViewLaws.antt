@@ -174,7 +174,7 @@ floors_passed {S} {V} m shelves disks view key floor id desk caller is has at_de
 -- a mark that is no floor leaves what is above the floors above them
 still_above : (key : List ℕ) (ballot : Ballot) (a : Acknowledgment) (marks : List Mark) → IsAboveFloors (reverse marks) key ballot → IsAboveFloors (reverse (marks ++ Acked a ∷ [])) key ballot
 still_above key ballot a marks above = record {
-  above = λ floors. elim (newest_or (subst (Stands _) (read_more marks (Acked a)) floors)) [ | inl same ↦ absurd (cc same) | inr older ↦ above.above older ];
+  above = λ floors. elim (newest_or (subst (Stands _) (read_more marks (Acked a)) floors)) [ inl same ↦ absurd (cc same) | inr older ↦ above.above older ];
 }
 
 -- the round whose accepts are counted is above the floors of its key
@@ -209,7 +209,7 @@ dones_stand {S} {V} m shelves disks old new id caller call state took ballot is 
         let a : Acknowledgment = record { key = at.round.key; ballot = at.round.ballot; era = at.round.era.number; by = confirmers } in
         let marked : new.marks ≡ old.marks ++ Acked a ∷ [] = ap (λ (w : View S V). w.marks) view in
         let above : IsAboveFloors (reverse new.marks) a.key a.ballot = subst (λ (l : List Mark). IsAboveFloors (reverse l) a.key a.ballot) (sym marked)
-            (still_above a.key a.ballot a old.marks (round_above m old id at.desk at.of_call.caller at.round shelves disks is at.at_desk at.of_call.at_caller at.is_open)) in
+        (still_above a.key a.ballot a old.marks (round_above m old id at.desk at.of_call.caller at.round shelves disks is at.at_desk at.of_call.at_caller at.is_open)) in
         let kept = done_kept m shelves new a remembered (subst (Stands (Acked a)) (sym (ap reverse marked ∙ read_more old.marks (Acked a))) (record { older = reverse old.marks; at = here })) above in
         let era : a.era ≡ (era_at new id).number = of_round.same_era ∙ ap (λ (l : List Era). (era_in l id).number) (sym (ap (λ (w : View S V). w.eras) view)) in
         record {

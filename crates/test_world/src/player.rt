@@ -118,7 +118,9 @@ impl<S: Shelf + Drop, V: Disk + Drop> Player<S, V> {
         if members.count() != u32::from(config.acceptors) {
             return None;
         }
-        match World::open_on(alloc, config, members, members, floors, shelves, vaults, past) {
+        match World::open_on(
+            alloc, config, members, members, floors, shelves, vaults, past,
+        ) {
             Ok(world) => Some(Player {
                 world,
                 proposers: config.proposers,

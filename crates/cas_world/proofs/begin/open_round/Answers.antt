@@ -59,7 +59,7 @@ returns-in-Err-VaultFault-clause-refused g c =
     let told = c.in-Err-VaultFault.ensures in (
       sym c.is_down.ensures ∙ c.if-is_down.false,
       subst (λ (l : List (List ℕ × Ready)). FailsToDraw (disk_meaning g.V.Disk) l c.args.desk.now c.begin.new.self) (sym (without_absent c.args.key.now c.args.desk.now.cache (told.faulted (ap (λ e. Err e) c.in-Err-VaultFault.field-0-is))))
-      (failed_idle g.V.Disk.tells g.V.Disk.may_leave g.V.Disk.fault_count c.args.desk.now c.begin.new.self c.requires.idle
+          (failed_idle g.V.Disk.tells g.V.Disk.may_leave g.V.Disk.fault_count c.args.desk.now c.begin.new.self c.requires.idle
           (kept_by g.V.Disk.tells g.V.Disk.may_leave g.V.Disk.fault_count g.V.Disk.seen g.V.Disk.moment g.V.Disk.left_since g.met.V.Disk.counts_now c.args.desk.now c.begin.new.self told.same_vault told.still_past told.any_moment told.cause.never_falls)
           told.refused (told.down.0 (ap (λ e. Err e) c.in-Err-VaultFault.field-0-is)) (told.cause.failed (ap (λ e. Err e) c.in-Err-VaultFault.field-0-is))),
     )
