@@ -9,8 +9,8 @@ use Rattle.cas_store.specs.declared.rack.Rack.{Rack}
 use Rattle.casreg_script.specs.Script.{opening_state}
 use Rattle.casreg_progress.proofs.Runs.{runs_are_done}
 use Rattle.cas_world.specs.Openings.Opening.{members_to}
-use Rattle.casreg_command.specs.Causes.{AreDoneAlong, IsNewOver, Ran, Wrote, ran}
-use Rattle.casreg_command.specs.Words.{AreWords, acceptors_of, proposers_of}
+use Rattle.casreg_command.specs.Causes.{WentIn, CameOut, AreDoneAlong, IsNewOver, Ran, WroteScript}
+use Rattle.casreg_command.specs.Words.{acceptors_of, proposers_of}
 use Rattle.casreg_command.specs.declared.words.Request.{Request}
 use Rattle.casreg_command.specs.declared.status.Status.{Status}
 use Rattle.casreg_command.specs.declared.status.Status.TheVariants as status
@@ -30,10 +30,16 @@ safe_done meant tells tries P input old new world back status.NoMemory safe by =
 safe_done meant tells tries P input old new world back (status.Endless line) safe by = runs_are_done meant tries (opening_state world) by.last by.wrote.lines by.wrote.answers safe by.wrote.run
 
 -- a run over a new world
-pub ran_over : {D : Type 0} {meant : Meaning (DiskShelf D) D} {m : RackMeaning D} {words : List (List ℕ)} {P : List (List ℕ) → Type 0} {input old new : Option (List ℕ)} {harms harms_then : List ℕ} {rack asked back : Rack D} {result : Status} (options : Options) (world : View (DiskShelf D) D) → AreWords words (request.Script options) → IsAllEmpty m rack asked
-    → IsNewOver meant options.acceptors options.proposers asked world → Ran meant m.tells options.tries P input old new world result back → Wrote meant m words P input old new harms harms_then rack result back
-ran_over {D} {meant} {m} {words} {P} {input} {old} {new} {harms} {harms_then} {rack} {asked} {back} {result} options world are empty over by =
-    ran options world are empty over by (safe_done meant m.tells options.tries P input old new world back result (opens_are_safe meant (members_to options.acceptors) world over.opening over.places) by)
+pub ran_over : {D : Type 0} {meant : Meaning (DiskShelf D) D} {m : RackMeaning D} {given : WentIn D} {out : CameOut D} (options : Options) (rack : Rack D) (world : View (DiskShelf D) D) → IsAllEmpty m given.rack rack → IsNewOver meant options.acceptors options.proposers rack world
+    → Ran meant m.tells options.tries out.HadEnded given.input given.written out.written world out.status out.rack → WroteScript meant m options given out
+ran_over {meant = meant} {m} {given} {out} options rack world empty over by = record {
+  rack = rack;
+  empty = empty;
+  world = world;
+  over = over;
+  ran = by;
+  done = safe_done meant m.tells options.tries out.HadEnded given.input given.written out.written world out.rack out.status (opens_are_safe meant (members_to options.acceptors) world over.opening over.places) by;
+}
 
 -- ---- the world that was asked for
 -- a new world of as many acceptors and proposers as are asked for is one of a request that asks for the same

@@ -13,8 +13,10 @@ use Rattle.cas_world.specs.declared.fault.OpenFault.{OpenFault}
 use Rattle.cas_world.specs.declared.fault.OpenFault.TheVariants as opening
 use Rattle.casreg_script.specs.Script.{State}
 use Rattle.casreg_script.specs.declared.load.Load.{Load}
-use Rattle.casreg_command.specs.Causes.{IsDisk, of_acceptor, of_vault, AreDisksToBlame, WroteIn, Wrote, wrong_words, no_words_read, not_empty, not_opened, ran, loaded, no_board, raced, WroteSummary, whole, sink_failed, no_text, broke_off}
+use Rattle.casreg_command.specs.Causes.{IsDisk, of_acceptor, of_vault, AreDisksToBlame, WentIn, CameOut, NothingRan, WroteIn, WroteBy, Wrote, no_words_read, not_empty, not_opened, no_board, WroteSummary, whole, sink_failed, no_text, broke_off}
 use Rattle.casreg_command.specs.Words.{acceptors_of, proposers_of}
+use Rattle.casreg_command.specs.declared.words.Request.{Request}
+use Rattle.casreg_command.specs.declared.words.Request.TheVariants as request
 use Rattle.std.specs.Prelude.{Result, Ok, Err}
 use Rattle.cas_lines.specs.declared.lines.LineFault.TheVariants as fault
 use Rattle.casreg_race.specs.declared.race.RaceFault.{RaceFault}
@@ -129,12 +131,19 @@ race_blamed m rack back (Err (race.NotRun fault.NoMemory)) = tt
 race_blamed m rack back (Err (race.CutOff text.WriteFault)) = tt
 race_blamed m rack back (Err (race.CutOff text.NoMemory)) = tt
 
-pub blamed : {D : Type 0} (meant : Meaning (DiskShelf D) D) (m : RackMeaning D) (words : List (List ℕ)) (P : List (List ℕ) → Type 0) (input old new : Option (List ℕ)) (harms harms_then : List ℕ) (rack : Rack D) (result : Status) (back : Rack D) → Wrote meant m words P input old new harms harms_then rack result back → AreDisksToBlame m rack back result
-blamed meant m words P input old new harms harms_then rack result back (wrong_words same) = tt
-blamed meant m words P input old new harms harms_then rack result back (no_words_read same) = tt
-blamed meant m words P input old new harms harms_then rack result back (not_empty fault is same) = rack_blamed m rack back fault is
-blamed meant m words P input old new harms harms_then rack result back (not_opened {asked = asked} request fault are empty closed same) = opening_blamed m (acceptors_of request) (proposers_of request) rack asked back fault empty closed
-blamed meant m words P input old new harms harms_then rack result back (ran options world are empty over run done) = ran_blamed meant m options.tries P input old new _ run.last rack back result run.wrote
-blamed meant m words P input old new harms harms_then rack result back (loaded load world are empty over run) = load_blamed meant m load old new world run.last rack back result run.wrote
-blamed meant m words P input old new harms harms_then rack result back (no_board options are empty same) = tt
-blamed meant m words P input old new harms harms_then rack result back (raced options are empty over) = subst (λ (s : Status). AreDisksToBlame m rack back s) (sym over.is) (race_blamed m rack back over.ended)
+-- where nothing ran
+nothing_blamed : {D : Type 0} (m : RackMeaning D) (asked : Request) (given : WentIn D) (out : CameOut D) → NothingRan m asked given out → AreDisksToBlame m given.rack out.rack out.status
+nothing_blamed m asked given out (no_words_read is same) = subst (λ (s : Status). AreDisksToBlame m given.rack out.rack s) (sym is) tt
+nothing_blamed m asked given out (not_empty fault not is) = subst (λ (s : Status). AreDisksToBlame m given.rack out.rack s) (sym is) (rack_blamed m given.rack out.rack fault not)
+nothing_blamed m asked given out (not_opened empty fault are closed is) =
+    subst (λ (s : Status). AreDisksToBlame m given.rack out.rack s) (sym is) (opening_blamed m (acceptors_of asked) (proposers_of asked) given.rack empty out.rack fault are closed)
+nothing_blamed m asked given out (no_board options empty race are is) = subst (λ (s : Status). AreDisksToBlame m given.rack out.rack s) (sym is) tt
+
+by_request : {D : Type 0} (meant : Meaning (DiskShelf D) D) (m : RackMeaning D) (asked : Request) (given : WentIn D) (out : CameOut D) → WroteBy meant m asked given out → AreDisksToBlame m given.rack out.rack out.status
+by_request meant m (request.Script options) given out by = ran_blamed meant m options.tries out.HadEnded given.input given.written out.written _ by.ran.last given.rack out.rack out.status by.ran.wrote
+by_request meant m (request.Race options) given out by = subst (λ (s : Status). AreDisksToBlame m given.rack out.rack s) (sym by.raced.is) (race_blamed m given.rack out.rack by.raced.ended)
+by_request meant m (request.Load load) given out by = load_blamed meant m load given.written out.written by.world by.loaded.last given.rack out.rack out.status by.loaded.wrote
+
+pub blamed : {D : Type 0} (meant : Meaning (DiskShelf D) D) (m : RackMeaning D) (asked : Request) (given : WentIn D) (out : CameOut D) → Wrote meant m asked given out → AreDisksToBlame m given.rack out.rack out.status
+blamed meant m asked given out (inl nothing) = nothing_blamed m asked given out nothing.why
+blamed meant m asked given out (inr by) = by_request meant m asked given out by

@@ -30,7 +30,7 @@ use Rattle.cas_store.specs.declared.rack.RackFault.{RackFault}
 use Rattle.cas_store.specs.declared.rack.Rack.{Rack}
 use Rattle.casreg_script.specs.Stage.{Stage}
 use Rattle.casreg_script.specs.declared.load.Load.{Load}
-use Rattle.casreg_command.specs.Causes.{AnswersTo, AreFirstLines, WroteIn, EndsIn, IsOfDisk, IsRackOf, Ran, Loaded, WroteSummary, Wrote, not_empty, not_opened, no_board, status_of, LoadEnds, whole, sink_failed, no_text, broke_off}
+use Rattle.casreg_command.specs.Causes.{AnswersTo, AreFirstLines, WroteIn, EndsIn, IsOfDisk, IsRackOf, Ran, Loaded, WroteSummary, WentIn, CameOut, NothingRan, WroteBy, Wrote, not_opened, no_board, status_of, LoadEnds, whole, sink_failed, no_text, broke_off}
 use Rattle.cas_model.specs.View.{Meaning, disk_meaning}
 use Rattle.casreg_script.specs.Script.{State, opening_state, AnswersLine, RanOrNot, not_run, ran, one_more, text_of, transcript_of}
 use Rattle.casreg_command.specs.Status.{status_of_fault, status_of_rack, status_of_opening}
@@ -213,6 +213,16 @@ completes_of (Some bytes) status.TooManyLines read wrote u r w ends no_read no_w
 completes_of (Some bytes) status.NoMemory read wrote u r w ends no_read no_write = inr (inl refl)
 completes_of (Some bytes) (status.Endless line) read wrote u r w ends no_read no_write = inl (ap status_of (sym (ends (TooLong line) refl)))
 
+-- where there was no memory, no end of the input is told
+pub no_end : (ending : Ending) → status.NoMemory ≡ status_of ending → ⊥
+no_end Whole is = cc is
+no_end TooMany is = cc is
+no_end (TooLong line) is = cc is
+
+pub no_memory_completes : (input : Option (List ℕ)) → IfSome input (λ bytes. (status.NoMemory ≡ status_of (ending_of bytes)) ⊎ (status.NoMemory ≡ status.NoMemory) ⊎ IsOfDisk status.NoMemory)
+no_memory_completes None = tt
+no_memory_completes (Some bytes) = inr (inl refl)
+
 -- and so does a load, which has no input
 pub load_completes_of : (result : Status) → LoadEnds result → (result ≡ status.WriteFault → ⊥) → (result ≡ status.Ok) ⊎ (result ≡ status.NoMemory) ⊎ IsOfDisk result
 load_completes_of status.Ok ends no_write = inl refl
@@ -265,22 +275,25 @@ loaded_from meant tells load old new world closed marks result back wrote marks_
 }
 
 -- ---- nothing was run
-pub wrote_not_empty : {D : Type 0} (meant : Meaning (DiskShelf D) D) (m : RackMeaning D) (words : List (List ℕ)) (P : List (List ℕ) → Type 0) (input old : Option (List ℕ)) (harms harms_then : List ℕ) (rack back : Rack D) (fault : RackFault) (result : Status) → result ≡ status_of_rack fault → IsNotEmpty m rack fault back
-    → Wrote meant m words P input old old harms harms_then rack result back
-wrote_not_empty meant m words P input old harms harms_then rack back fault result is not = subst (λ (s : Status). Wrote meant m words P input old old harms harms_then rack s back) (sym is) (not_empty fault not refl)
+pub wrote_nothing : {D : Type 0} (meant : Meaning (DiskShelf D) D) (m : RackMeaning D) (asked : Request) (given : WentIn D) (out : CameOut D) → NothingRan m asked given out → out.written ≡ given.written → Wrote meant m asked given out
+wrote_nothing meant m asked given out why same = inl (record { why = why; unwritten = same })
 
-pub wrote_not_opened : {D : Type 0} (meant : Meaning (DiskShelf D) D) (m : RackMeaning D) (words : List (List ℕ)) (P : List (List ℕ) → Type 0) (input old : Option (List ℕ)) (harms harms_then : List ℕ) (rack asked back : Rack D) (request : Request) (fault : OpenFault) (result : Status) (acceptors proposers : ℕ) → acceptors ≡ acceptors_of request → proposers ≡ proposers_of request
-    → result ≡ status_of_opening fault → AreWords words request → IsAllEmpty m rack asked → StaysClosed m.faults acceptors proposers asked.acceptors.items asked.vaults.items fault back.acceptors.items back.vaults.items → Wrote meant m words P input old old harms harms_then rack result back
-wrote_not_opened meant m words P input old harms harms_then rack asked back request fault result acceptors proposers are_acceptors are_proposers is are empty closed =
-    let by_acceptors = subst (λ (n : ℕ). StaysClosed m.faults n proposers asked.acceptors.items asked.vaults.items fault back.acceptors.items back.vaults.items) are_acceptors closed in
-    let by_both = subst (λ (n : ℕ). StaysClosed m.faults (acceptors_of request) n asked.acceptors.items asked.vaults.items fault back.acceptors.items back.vaults.items) are_proposers by_acceptors in
-    subst (λ (s : Status). Wrote meant m words P input old old harms harms_then rack s back) (sym is) (not_opened request fault are empty by_both refl)
+-- the store did not open
+pub closed_still : {D : Type 0} (m : RackMeaning D) (asked : Request) (given : WentIn D) (out : CameOut D) (empty : Rack D) (fault : OpenFault) (acceptors proposers : ℕ) → acceptors ≡ acceptors_of asked → proposers ≡ proposers_of asked → out.status ≡ status_of_opening fault
+    → IsAllEmpty m given.rack empty → StaysClosed m.faults acceptors proposers empty.acceptors.items empty.vaults.items fault out.rack.acceptors.items out.rack.vaults.items → NothingRan m asked given out
+closed_still m asked given out empty fault acceptors proposers are_acceptors are_proposers is are_empty closed =
+    not_opened empty fault are_empty
+    (subst (λ (n : ℕ). StaysClosed m.faults (acceptors_of asked) n empty.acceptors.items empty.vaults.items fault out.rack.acceptors.items out.rack.vaults.items) are_proposers
+    (subst (λ (n : ℕ). StaysClosed m.faults n proposers empty.acceptors.items empty.vaults.items fault out.rack.acceptors.items out.rack.vaults.items) are_acceptors closed))
+    is
 
 -- the board of a race did not open, or there was no memory for it
-pub wrote_no_board : {D : Type 0} (meant : Meaning (DiskShelf D) D) (m : RackMeaning D) (words : List (List ℕ)) (P : List (List ℕ) → Type 0) (input old : Option (List ℕ)) (harms harms_then : List ℕ) (rack asked back : Rack D) (asks : Request) (options : Options) (fault : OpenFault) (result : Status) (acceptors proposers : ℕ) → acceptors ≡ acceptors_of asks → proposers ≡ proposers_of asks
-    → asks ≡ request.Race options → result ≡ status_of_opening fault → AreWords words asks → IsAllEmpty m rack asked → (fault ≡ opening.NoMemory) ⊎ StaysClosed m.faults acceptors proposers asked.acceptors.items asked.vaults.items fault back.acceptors.items back.vaults.items
-    → Wrote meant m words P input old old harms harms_then rack result back
-wrote_no_board meant m words P input old harms harms_then rack asked back asks options fault result acceptors proposers are_acceptors are_proposers is_race is are empty (inl none) =
-    subst (λ (s : Status). Wrote meant m words P input old old harms harms_then rack s back) (sym (is ∙ ap status_of_opening none)) (no_board options (subst (AreWords words) is_race are) empty refl)
-wrote_no_board meant m words P input old harms harms_then rack asked back asks options fault result acceptors proposers are_acceptors are_proposers is_race is are empty (inr closed) =
-    wrote_not_opened meant m words P input old harms harms_then rack asked back asks fault result acceptors proposers are_acceptors are_proposers is are empty closed
+pub no_race : {D : Type 0} (m : RackMeaning D) (asked : Request) (given : WentIn D) (out : CameOut D) (options : Options) (empty : Rack D) (fault : OpenFault) (acceptors proposers : ℕ) → acceptors ≡ acceptors_of asked → proposers ≡ proposers_of asked → asked ≡ request.Race options
+    → out.status ≡ status_of_opening fault → IsAllEmpty m given.rack empty → (fault ≡ opening.NoMemory) ⊎ StaysClosed m.faults acceptors proposers empty.acceptors.items empty.vaults.items fault out.rack.acceptors.items out.rack.vaults.items → NothingRan m asked given out
+no_race m asked given out options empty fault acceptors proposers are_acceptors are_proposers is_race is are_empty (inl none) = no_board options empty is_race are_empty (is ∙ ap status_of_opening none)
+no_race m asked given out options empty fault acceptors proposers are_acceptors are_proposers is_race is are_empty (inr closed) =
+    closed_still m asked given out empty fault acceptors proposers are_acceptors are_proposers is are_empty closed
+
+-- ---- by what was asked for
+pub wrote_by : {D : Type 0} (meant : Meaning (DiskShelf D) D) (m : RackMeaning D) (asked other : Request) (given : WentIn D) (out : CameOut D) → asked ≡ other → WroteBy meant m other given out → Wrote meant m asked given out
+wrote_by meant m asked other given out is wrote = inr (subst (λ (r : Request). WroteBy meant m r given out) (sym is) wrote)

@@ -68,20 +68,41 @@ IsOfDisk (status.NotEmpty disk) = ⊤
 IsOfDisk (status.DiskFault disk) = ⊤
 IsOfDisk other = ⊥
 
--- a status by the words, the input where its source tells it, and the faults of source and sink before and after
-pub record Causes (words : List (List ℕ)) (input : Option (List ℕ)) (source_old source_new sink_old sink_new : ℕ) (result : Status) : Type 0 where
-  pub usage : result ≡ status.Usage → (request : Request) → AreWords words request → ⊥
-  pub no_words : ((request : Request) → AreWords words request → ⊥) → (result ≡ status.Usage) ⊎ (result ≡ status.NoMemory)
-  pub read_fault : result ≡ status.ReadFault → Rose source_old source_new
-  pub write_fault : result ≡ status.WriteFault → Rose sink_old sink_new
+-- ---- what goes in and what comes out
+-- what a command is given: what its source has still to give and what its sink holds, where they tell it, their counts of faults, how many
+-- frames each fate has harmed, and the rack
+pub record WentIn (D : Type 0) : Type 0 where
+  pub input : Option (List ℕ)
+  pub written : Option (List ℕ)
+  pub source_faults : ℕ
+  pub sink_faults : ℕ
+  pub harms : List ℕ
+  pub rack : Rack D
+
+-- what comes of it: the status, which lines had ended where the source failed, what the sink holds then, the same counts, and the rack
+pub record CameOut (D : Type 0) : Type 1 where
+  pub status : Status
+  pub HadEnded : List (List ℕ) → Type 0
+  pub written : Option (List ℕ)
+  pub source_faults : ℕ
+  pub sink_faults : ℕ
+  pub harms : List ℕ
+  pub rack : Rack D
+
+-- why a status comes
+pub record Causes {D : Type 0} (words : List (List ℕ)) (given : WentIn D) (out : CameOut D) : Type 0 where
+  pub usage : out.status ≡ status.Usage → (request : Request) → AreWords words request → ⊥
+  pub no_words : ((request : Request) → AreWords words request → ⊥) → (out.status ≡ status.Usage) ⊎ (out.status ≡ status.NoMemory)
+  pub read_fault : out.status ≡ status.ReadFault → Rose given.source_faults out.source_faults
+  pub write_fault : out.status ≡ status.WriteFault → Rose given.sink_faults out.sink_faults
   -- of a script or a race 0, 7 and 9 come by where the input ends alone
-  pub ends : (asked : Request) → ReadsLines asked → AreWords words asked → (ending : Ending) → result ≡ status_of ending → IfSome input (λ bytes. ending_of bytes ≡ ending)
+  pub ends : (asked : Request) → ReadsLines asked → AreWords words asked → (ending : Ending) → out.status ≡ status_of ending → IfSome given.input (λ bytes. ending_of bytes ≡ ending)
   -- with the right words and no fault of source and sink one of these comes, unless there is no memory, or a disk is not empty or fails
   -- as the store is opened
-  pub completes : (asked : Request) → ReadsLines asked → AreWords words asked → (Rose source_old source_new → ⊥) → (Rose sink_old sink_new → ⊥)
-      → IfSome input (λ bytes. (result ≡ status_of (ending_of bytes)) ⊎ (result ≡ status.NoMemory) ⊎ IsOfDisk result)
+  pub completes : (asked : Request) → ReadsLines asked → AreWords words asked → (Rose given.source_faults out.source_faults → ⊥) → (Rose given.sink_faults out.sink_faults → ⊥)
+      → IfSome given.input (λ bytes. (out.status ≡ status_of (ending_of bytes)) ⊎ (out.status ≡ status.NoMemory) ⊎ IsOfDisk out.status)
   -- and so does 0 of a load, which reads nothing
-  pub load_completes : (load : Load) → AreWords words (request.Load load) → (Rose sink_old sink_new → ⊥) → (result ≡ status.Ok) ⊎ (result ≡ status.NoMemory) ⊎ IsOfDisk result
+  pub load_completes : (load : Load) → AreWords words (request.Load load) → (Rose given.sink_faults out.sink_faults → ⊥) → (out.status ≡ status.Ok) ⊎ (out.status ≡ status.NoMemory) ⊎ IsOfDisk out.status
 
 -- ---- disks
 -- the disk of that number: those of acceptors are numbered from 0 on, and those of vaults from 64 on
@@ -223,18 +244,57 @@ AreDoneAlong {meant = meant} status.NoMemory by = AreDoneWhereReady meant by.wro
 AreDoneAlong {meant = meant} (status.Endless line) by = AreDoneWhereReady meant by.wrote.run
 
 -- ---- all of it
--- What was written by the end, and the rack that comes back: nothing, where the words are none of a command, where there was no memory,
--- where a disk is not known to be empty, or where the store did not open; or what a script or a load wrote, from a new world over the rack on
--- to one whose record is legal, and along a script was done what nothing stood against; or what a race wrote, over disks that were empty.
-pub data Wrote {D : Type 0} (meant : Meaning (DiskShelf D) D) (m : RackMeaning D) (words : List (List ℕ)) (HadEnded : List (List ℕ) → Type 0) (input old new : Option (List ℕ)) (harms harms_then : List ℕ) (rack : Rack D) : Status → Rack D → Type 0 where
-  wrong_words : new ≡ old → Wrote meant m words HadEnded input old new harms harms_then rack status.Usage rack
-  no_words_read : new ≡ old → Wrote meant m words HadEnded input old new harms harms_then rack status.NoMemory rack
-  not_empty : {back : Rack D} (fault : RackFault) → IsNotEmpty m rack fault back → new ≡ old → Wrote meant m words HadEnded input old new harms harms_then rack (status_of_rack fault) back
-  not_opened : {asked back : Rack D} (request : Request) (fault : OpenFault) → AreWords words request → IsAllEmpty m rack asked
-      → StaysClosed m.faults (acceptors_of request) (proposers_of request) asked.acceptors.items asked.vaults.items fault back.acceptors.items back.vaults.items → new ≡ old → Wrote meant m words HadEnded input old new harms harms_then rack (status_of_opening fault) back
-  ran : {asked back : Rack D} {result : Status} (options : Options) (world : View (DiskShelf D) D) → AreWords words (request.Script options) → IsAllEmpty m rack asked → IsNewOver meant options.acceptors options.proposers asked world
-      → (by : Ran meant m.tells options.tries HadEnded input old new world result back) → AreDoneAlong result by → Wrote meant m words HadEnded input old new harms harms_then rack result back
-  loaded : {asked back : Rack D} {result : Status} (load : Load) (world : View (DiskShelf D) D) → AreWords words (request.Load load) → IsAllEmpty m rack asked → IsNewOver meant load.acceptors load.proposers asked world
-      → Loaded meant m.tells load old new world result back → Wrote meant m words HadEnded input old new harms harms_then rack result back
-  no_board : {asked back : Rack D} (options : Options) → AreWords words (request.Race options) → IsAllEmpty m rack asked → new ≡ old → Wrote meant m words HadEnded input old new harms harms_then rack status.NoMemory back
-  raced : {asked back : Rack D} {result : Status} (options : Options) → AreWords words (request.Race options) → IsAllEmpty m rack asked → RacedOver m options input old new harms harms_then result back → Wrote meant m words HadEnded input old new harms harms_then rack result back
+-- why a command whose words are right runs nothing: there was no memory, a disk is not known to be empty, the store did not open, or there was
+-- no memory for the board of a race
+pub data NothingRan {D : Type 0} (m : RackMeaning D) (asked : Request) (given : WentIn D) (out : CameOut D) : Type 0 where
+  no_words_read : out.status ≡ status.NoMemory → out.rack ≡ given.rack → NothingRan m asked given out
+  not_empty : (fault : RackFault) → IsNotEmpty m given.rack fault out.rack → out.status ≡ status_of_rack fault → NothingRan m asked given out
+  not_opened : (empty : Rack D) (fault : OpenFault) → IsAllEmpty m given.rack empty
+      → StaysClosed m.faults (acceptors_of asked) (proposers_of asked) empty.acceptors.items empty.vaults.items fault out.rack.acceptors.items out.rack.vaults.items → out.status ≡ status_of_opening fault → NothingRan m asked given out
+  no_board : (options : Options) (empty : Rack D) → asked ≡ request.Race options → IsAllEmpty m given.rack empty → out.status ≡ status.NoMemory → NothingRan m asked given out
+
+-- then nothing is written
+pub record WroteNothing {D : Type 0} (m : RackMeaning D) (asked : Request) (given : WentIn D) (out : CameOut D) : Type 0 where
+  pub why : NothingRan m asked given out
+  pub unwritten : out.written ≡ given.written
+
+-- What a script wrote: all disks were empty, a new world opened over them, the script ran from that world to one whose record is legal, and
+-- along it was done what nothing stood against.
+pub record WroteScript {D : Type 0} (meant : Meaning (DiskShelf D) D) (m : RackMeaning D) (options : Options) (given : WentIn D) (out : CameOut D) : Type 0 where
+  pub rack : Rack D
+  pub empty : IsAllEmpty m given.rack rack
+  pub world : View (DiskShelf D) D
+  pub over : IsNewOver meant options.acceptors options.proposers rack world
+  pub ran : Ran meant m.tells options.tries out.HadEnded given.input given.written out.written world out.status out.rack
+  pub done : AreDoneAlong out.status ran
+
+-- what a load wrote, from a new world over empty disks to one whose record is legal
+pub record WroteLoad {D : Type 0} (meant : Meaning (DiskShelf D) D) (m : RackMeaning D) (load : Load) (given : WentIn D) (out : CameOut D) : Type 0 where
+  pub rack : Rack D
+  pub empty : IsAllEmpty m given.rack rack
+  pub world : View (DiskShelf D) D
+  pub over : IsNewOver meant load.acceptors load.proposers rack world
+  pub loaded : Loaded meant m.tells load given.written out.written world out.status out.rack
+
+-- what a race wrote over empty disks
+pub record WroteRaceOver {D : Type 0} (m : RackMeaning D) (options : Options) (given : WentIn D) (out : CameOut D) : Type 0 where
+  pub rack : Rack D
+  pub empty : IsAllEmpty m given.rack rack
+  pub raced : RacedOver m options given.input given.written out.written given.harms out.harms out.status out.rack
+
+-- what a command wrote, by what it is
+abbrev pub WroteBy : {D : Type 0} → Meaning (DiskShelf D) D → RackMeaning D → Request → WentIn D → CameOut D → Type 0
+WroteBy meant m (request.Script options) given out = WroteScript meant m options given out
+WroteBy meant m (request.Race options) given out = WroteRaceOver m options given out
+WroteBy meant m (request.Load load) given out = WroteLoad meant m load given out
+
+abbrev pub Wrote : {D : Type 0} → Meaning (DiskShelf D) D → RackMeaning D → Request → WentIn D → CameOut D → Type 0
+Wrote meant m asked given out = WroteNothing m asked given out ⊎ WroteBy meant m asked given out
+
+-- What becomes of a command: what was written, where its words are of one; nothing, and the rack comes back as it was, where they are of none;
+-- why its status comes; and that of a disk which the status names.
+pub record RanCommand {D : Type 0} (meant : Meaning (DiskShelf D) D) (m : RackMeaning D) (words : List (List ℕ)) (given : WentIn D) (out : CameOut D) : Type 0 where
+  pub wrote : (asked : Request) → AreWords words asked → Wrote meant m asked given out
+  pub refused : ((asked : Request) → AreWords words asked → ⊥) → (out.written ≡ given.written) × (out.rack ≡ given.rack)
+  pub causes : Causes words given out
+  pub disks : AreDisksToBlame m given.rack out.rack out.status

@@ -9,7 +9,7 @@ ghost use Rattle.cas_model.specs.View.{meaning};
 ghost use Rattle.cas_store.specs.Rack.{rack_meaning};
 ghost use Rattle.casreg_script.specs.Script.{State, IsInState};
 ghost use Rattle.casreg_script.specs.Stage.{AllIdle};
-ghost use Rattle.casreg_command.specs.Causes.{AreDisksToBlame, Causes, EndsIn, LoadEnds, Ran, ReadsLines, Wrote, status_of};
+ghost use Rattle.casreg_command.specs.Causes.{EndsIn, LoadEnds, Ran, RanCommand, ReadsLines, Wrote, status_of};
 ghost use Rattle.casreg_script.specs.declared.load.Load.{Load as ALoad};
 ghost use Rattle.casreg_command.specs.Words.{AreWords, AreOptionsInRange, IsInRange, acceptors_of, proposers_of};
 ghost use Rattle.casreg_command.specs.declared.words.Options.{Options as ScriptOptions};
@@ -65,14 +65,25 @@ pub fn cluster<R: Threads + Wait + Sync, S: Source, K: Sink, D: Disk + Send + Dr
     // over the lines that its seed draws, in a new world over the rack's disks; the record of that run is legal, and the rack that comes back
     // holds the disks of its last world. Of a race, what was written is the text of a legal record in which each caller's own marks are those of
     // what its lines ask for, in their order, with the answers that are written, and tell of no more losses than its fate counted harms.
-    ensures wrote { Wrote (meaning ⟦<DiskShelf<D> as Shelf>⟧ D.Disk) (rack_meaning D.Disk)
-        (map string_bytes words.now) (FailsBehind S.take_gives source.old source.new)
-        (S.remaining source.old) (K.contents sink.old) (K.contents sink.new) (map F.harm_count
-        fates.old.items) (map F.harm_count fates.new.items) rack result.0 result.1 }
-    ensures causes { Causes (map string_bytes words.now)
-        (S.remaining source.old) (S.faults_of source.old)
-        (S.faults_of source.new) (K.faults_of sink.old) (K.faults_of sink.new) result.0 }
-    ensures disks { AreDisksToBlame (rack_meaning D.Disk) rack result.1 result.0 }
+    ensures ran { RanCommand
+        (meaning ⟦<DiskShelf<D> as Shelf>⟧ D.Disk) (rack_meaning D.Disk) (map string_bytes words.now)
+        (record {
+          input = S.remaining source.old;
+          written = K.contents sink.old;
+          source_faults = S.faults_of source.old;
+          sink_faults = K.faults_of sink.old;
+          harms = map F.harm_count fates.old.items;
+          rack = rack;
+        })
+        (record {
+          status = result.0;
+          HadEnded = FailsBehind S.take_gives source.old source.new;
+          written = K.contents sink.new;
+          source_faults = S.faults_of source.new;
+          sink_faults = K.faults_of sink.new;
+          harms = map F.harm_count fates.new.items;
+          rack = result.1;
+        }) }
     ensures read { (asked : ARequest)
         → ReadsLines asked → AreWords (map string_bytes words.now) asked
         → result.0 ≡ Status.Ok → IsAtEnd (S.remaining source.new) }
@@ -107,11 +118,25 @@ fn run<R: Threads + Wait + Sync, S: Source, K: Sink, D: Disk + Send + Drop, F: F
     requires vaults { vec_len rack.vaults ≡ 17 }
     requires fates { vec_len fates.old ≡ 17 }
     requires range { IsInRange request }
-    ensures wrote { (words : List (List ℕ)) → AreWords words request
-        → Wrote (meaning ⟦<DiskShelf<D> as Shelf>⟧ D.Disk) (rack_meaning D.Disk) words
-        (FailsBehind S.take_gives source.old source.new) (S.remaining source.old)
-        (K.contents sink.old) (K.contents sink.new) (map F.harm_count fates.old.items)
-        (map F.harm_count fates.new.items) rack result.0 result.1 }
+    ensures wrote { Wrote
+        (meaning ⟦<DiskShelf<D> as Shelf>⟧ D.Disk) (rack_meaning D.Disk) request
+        (record {
+          input = S.remaining source.old;
+          written = K.contents sink.old;
+          source_faults = S.faults_of source.old;
+          sink_faults = K.faults_of sink.old;
+          harms = map F.harm_count fates.old.items;
+          rack = rack;
+        })
+        (record {
+          status = result.0;
+          HadEnded = FailsBehind S.take_gives source.old source.new;
+          written = K.contents sink.new;
+          source_faults = S.faults_of source.new;
+          sink_faults = K.faults_of sink.new;
+          harms = map F.harm_count fates.new.items;
+          rack = result.1;
+        }) }
     ensures usage { result.0 ≢ Status.Usage }
     ensures read_fault { result.0 ≡ Status.ReadFault
         → Rose (S.faults_of source.old) (S.faults_of source.new) }

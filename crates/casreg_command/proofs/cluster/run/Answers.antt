@@ -1,24 +1,24 @@
 use Rattle.cas_model.specs.View.{meaning}
 use Rattle.cas_disk_shelf.specs.declared.shelf.DiskShelf.{DiskShelf}
 use Rattle.cas_store.specs.Rack.{rack_meaning}
-use Rattle.std.proofs.Common.{refl, subst}
-use Rattle.casreg_command.specs.Causes.{loaded, raced}
-use Rattle.casreg_command.specs.Words.{AreWords}
+use Rattle.std.proofs.Common.{refl}
+use Rattle.casreg_command.specs.Causes.{not_empty}
 use Rattle.casreg_command.specs.declared.words.Request.TheVariants as request
 use Rattle.casreg_command.proofs.Along.{ran_over, new_of}
-use Rattle.casreg_command.proofs.Written.{stored, wrote_not_empty, wrote_not_opened, wrote_no_board, summed_ends}
+use Rattle.casreg_command.proofs.Written.{stored, wrote_nothing, closed_still, no_race, wrote_by, summed_ends}
 use Rattle.casreg_script.proofs.Opened.{new_idle, new_quiet}
 use Rattle.casreg_command.proofs.cluster.run.Goals as goal
 
 pub returns-in-Err-clause-wrote : goal.returns-in-Err-clause-wrote
-returns-in-Err-clause-wrote g c words are = wrote_not_empty (stored g.D.Disk) (rack_meaning g.D.Disk) words _ _ _ _ _ c.args.rack c.expect_empty.new.self c.in-Err.fault c.from.result c.from.ensures c.in-Err.ensures.err
+returns-in-Err-clause-wrote g c = wrote_nothing (stored g.D.Disk) (rack_meaning g.D.Disk) c.args.request _ _ (not_empty c.in-Err.fault c.in-Err.ensures.err c.from.ensures) refl
 
 pub run_script-requires-clause-idle : goal.run_script-requires-clause-idle
 run_script-requires-clause-idle g c = new_idle _ _ c.in-Ok.store.world c.in-Ok.ensures.opening c.in-Ok.ensures.places
 
 pub returns-in-Err-open-clause-wrote : goal.returns-in-Err-open-clause-wrote
-returns-in-Err-open-clause-wrote g c words are =
-    wrote_not_opened (stored g.D.Disk) (rack_meaning g.D.Disk) words _ _ _ _ _ c.args.rack c.expect_empty.new.self c.in-Err-open.rack c.args.request c.in-Err-open.fault c.from-in-Err-open.result c.config_of-config.result.acceptors c.config_of-config.result.proposers c.config_of-config.ensures.acceptors c.config_of-config.ensures.proposers c.from-in-Err-open.ensures are c.in_default.ensures.ok c.in-Err-open.ensures.fault
+returns-in-Err-open-clause-wrote g c =
+    wrote_nothing (stored g.D.Disk) (rack_meaning g.D.Disk) c.args.request _ _ (closed_still (rack_meaning g.D.Disk) c.args.request _ _ c.expect_empty.new.self c.in-Err-open.fault c.config_of-config.result.acceptors c.config_of-config.result.proposers c.config_of-config.ensures.acceptors c.config_of-config.ensures.proposers c.from-in-Err-open.ensures
+    c.in_default.ensures.ok c.in-Err-open.ensures.fault) refl
 
 pub run_script-requires-clause-quiet : goal.run_script-requires-clause-quiet
 run_script-requires-clause-quiet g c = new_quiet _ _ c.in-Ok.store.world c.in-Ok.ensures.opening
@@ -30,27 +30,37 @@ pub load_store-requires-clause-quiet : goal.load_store-requires-clause-quiet
 load_store-requires-clause-quiet g c = new_quiet _ _ c.in-Ok-open-2.store.world c.in-Ok-open-2.ensures.opening
 
 pub returns-in-Ok-clause-wrote : goal.returns-in-Ok-clause-wrote
-returns-in-Ok-clause-wrote g c words are = ran_over c.in-Script.options c.in-Ok.store.world (subst (AreWords words) c.in-Script.is are) c.in_default.ensures.ok
+returns-in-Ok-clause-wrote g c = wrote_by (stored g.D.Disk) (rack_meaning g.D.Disk) c.args.request (request.Script c.in-Script.options) _ _ c.in-Script.is (ran_over c.in-Script.options c.expect_empty.new.self c.in-Ok.store.world c.in_default.ensures.ok
     (new_of c.config_of-config.result.acceptors c.config_of-config.result.proposers c.args.request (request.Script c.in-Script.options) c.config_of-config.ensures.acceptors c.config_of-config.ensures.proposers c.in-Script.is
     (record { opening = c.in-Ok.ensures.opening; places = c.in-Ok.ensures.places; last_proposer = c.in-Ok.ensures.last_proposer; shelves = c.in-Ok.ensures.acceptors; vaults = c.in-Ok.ensures.vaults }))
-    c.run_script.ensures.ran
+    c.run_script.ensures.ran)
 
 pub returns-in-Ok-open-2-clause-wrote : goal.returns-in-Ok-open-2-clause-wrote
-returns-in-Ok-open-2-clause-wrote g c words are = loaded c.in-Load.load c.in-Ok-open-2.store.world (subst (AreWords words) c.in-Load.is are) c.in_default.ensures.ok
-    (new_of c.config_of-config.result.acceptors c.config_of-config.result.proposers c.args.request (request.Load c.in-Load.load) c.config_of-config.ensures.acceptors c.config_of-config.ensures.proposers c.in-Load.is
-    (record { opening = c.in-Ok-open-2.ensures.opening; places = c.in-Ok-open-2.ensures.places; last_proposer = c.in-Ok-open-2.ensures.last_proposer; shelves = c.in-Ok-open-2.ensures.acceptors; vaults = c.in-Ok-open-2.ensures.vaults }))
-    c.load_store.ensures.loaded
+returns-in-Ok-open-2-clause-wrote g c = wrote_by (stored g.D.Disk) (rack_meaning g.D.Disk) c.args.request (request.Load c.in-Load.load) _ _ c.in-Load.is (record {
+  rack = c.expect_empty.new.self;
+  empty = c.in_default.ensures.ok;
+  world = c.in-Ok-open-2.store.world;
+  over = new_of c.config_of-config.result.acceptors c.config_of-config.result.proposers c.args.request (request.Load c.in-Load.load) c.config_of-config.ensures.acceptors c.config_of-config.ensures.proposers c.in-Load.is
+      (record { opening = c.in-Ok-open-2.ensures.opening; places = c.in-Ok-open-2.ensures.places; last_proposer = c.in-Ok-open-2.ensures.last_proposer; shelves = c.in-Ok-open-2.ensures.acceptors; vaults = c.in-Ok-open-2.ensures.vaults });
+  loaded = c.load_store.ensures.loaded;
+})
 
 pub returns-in-Ok-open-2-clause-loads : goal.returns-in-Ok-open-2-clause-loads
 returns-in-Ok-open-2-clause-loads g c load is = (refl, summed_ends c.load_store.result.0 c.load_store.ensures.loaded.wrote)
 
 pub returns-in-Err-open-3-clause-wrote : goal.returns-in-Err-open-3-clause-wrote
-returns-in-Err-open-3-clause-wrote g c words are =
-    wrote_not_opened (stored g.D.Disk) (rack_meaning g.D.Disk) words _ _ _ _ _ c.args.rack c.expect_empty.new.self c.in-Err-open-3.rack c.args.request c.in-Err-open-3.fault c.from-in-Err-open-3.result c.config_of-config.result.acceptors c.config_of-config.result.proposers c.config_of-config.ensures.acceptors c.config_of-config.ensures.proposers c.from-in-Err-open-3.ensures are c.in_default.ensures.ok c.in-Err-open-3.ensures.fault
+returns-in-Err-open-3-clause-wrote g c =
+    wrote_nothing (stored g.D.Disk) (rack_meaning g.D.Disk) c.args.request _ _ (closed_still (rack_meaning g.D.Disk) c.args.request _ _ c.expect_empty.new.self c.in-Err-open-3.fault c.config_of-config.result.acceptors c.config_of-config.result.proposers c.config_of-config.ensures.acceptors c.config_of-config.ensures.proposers c.from-in-Err-open-3.ensures
+    c.in_default.ensures.ok c.in-Err-open-3.ensures.fault) refl
 
 pub returns-in-Err-open-2-clause-wrote : goal.returns-in-Err-open-2-clause-wrote
-returns-in-Err-open-2-clause-wrote g c words are =
-    wrote_no_board (stored g.D.Disk) (rack_meaning g.D.Disk) words _ _ _ _ _ c.args.rack c.expect_empty.new.self c.in-Err-open-2.rack c.args.request c.in-Race.options c.in-Err-open-2.fault c.from-in-Err-open-2.result c.config_of-config.result.acceptors c.config_of-config.result.proposers c.config_of-config.ensures.acceptors c.config_of-config.ensures.proposers c.in-Race.is c.from-in-Err-open-2.ensures are c.in_default.ensures.ok c.in-Err-open-2.ensures.fault
+returns-in-Err-open-2-clause-wrote g c =
+    wrote_nothing (stored g.D.Disk) (rack_meaning g.D.Disk) c.args.request _ _ (no_race (rack_meaning g.D.Disk) c.args.request _ _ c.in-Race.options c.expect_empty.new.self c.in-Err-open-2.fault c.config_of-config.result.acceptors c.config_of-config.result.proposers c.config_of-config.ensures.acceptors c.config_of-config.ensures.proposers c.in-Race.is c.from-in-Err-open-2.ensures
+    c.in_default.ensures.ok c.in-Err-open-2.ensures.fault) refl
 
 pub returns-in-Ok-open-clause-wrote : goal.returns-in-Ok-open-clause-wrote
-returns-in-Ok-open-clause-wrote g c words are = raced c.in-Race.options (subst (AreWords words) c.in-Race.is are) c.in_default.ensures.ok c.race_board.ensures.raced
+returns-in-Ok-open-clause-wrote g c = wrote_by (stored g.D.Disk) (rack_meaning g.D.Disk) c.args.request (request.Race c.in-Race.options) _ _ c.in-Race.is (record {
+  rack = c.expect_empty.new.self;
+  empty = c.in_default.ensures.ok;
+  raced = c.race_board.ensures.raced;
+})
