@@ -1,6 +1,6 @@
 -- Rounds that begin and propose at a desk, and what is lost with the memory.
 use Rattle.std.proofs.Common.{◌≡◌, ◌⊎◌, ◌+◌, ◌≤◌, ℕ, Bool, true, false, not, if◌then◌else◌, List, refl, sym, ap, subst, ◌∙◌, arith, inl, inr}
-use Rattle.std.specs.Prelude.{[], Option, Some, None, is_none, nat_lt, IsTrue}
+use Rattle.std.specs.Prelude.{◌^◌, [], Option, Some, None, is_none, nat_lt, IsTrue}
 use Rattle.cas_base.proofs.Bools.{and_right}
 use Rattle.cas_base.specs.Faults.{Rose}
 use Rattle.cas_proposer.proofs.DeskLemmas.{without_absent}

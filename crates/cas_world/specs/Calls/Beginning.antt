@@ -9,7 +9,7 @@ use Rattle.cas_flow.specs.Flow.{FlowView}
 use Rattle.cas_proposer.specs.Desk.{DeskView}
 use Rattle.cas_proposer.specs.declared.round.Round.{Round}
 use Rattle.cas_quorum.specs.declared.era.Era.{Era}
-use Rattle.cas_cache.specs.Entries.{promise_at}
+use Rattle.cas_cache.specs.Entries.{promise_at, without}
 use Rattle.cas_vault.specs.Vault.{counter_of, kept_of}
 use Rattle.cas_record.specs.declared.answer.Answer.{Answer}
 use Rattle.cas_record.specs.declared.answer.Answer.TheVariants as answer

@@ -1,4 +1,4 @@
-use Rattle.std.proofs.Common.{◌≡◌, ◌≢◌, [], Option, Some, map, string_bytes, absurd, refl, sym, ◌∙◌, subst, inl, inr}
+use Rattle.std.proofs.Common.{◌≡◌, ◌≢◌, [], Option, Some, map, string_bytes, refl, sym, ◌∙◌, subst, inl, inr}
 use Rattle.std.specs.Prelude.{MatchOption}
 use Rattle.casreg_command.specs.Causes.{ReadsLines, Wrote, no_words_read}
 use Rattle.casreg_command.specs.Words.{AreWords, faults_of}
