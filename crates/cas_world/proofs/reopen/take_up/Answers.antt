@@ -19,19 +19,19 @@ record GoesOnFrom {V : Type 0} (m : DiskMeaning V) (is_new : _) (disk : V) (vaul
 begun : (g : Over) (c : goal.In_ok-enter_era g) → GoesOnFrom (disk_meaning g.V.Disk) c.args.is_new (disk_of c.args.vault.now) c.if-is_new.vault
 begun g c = elim c.if-is_new.branch [
   | then-is_new+in_ok-start w ↦ record {
-      before = fresh;
-      counter = ap counter_of w.vault-is ∙ (w.in_ok-start.ensures {u = tt}).counter;
-      kept = ap kept_of w.vault-is ∙ (w.in_ok-start.ensures {u = tt}).kept;
-      started = λ is. refl;
-      reopened = λ is. absurd (cc (is, w.if-is_new.true));
-    }
+    before = fresh;
+    counter = ap counter_of w.vault-is ∙ (w.in_ok-start.ensures {u = tt}).counter;
+    kept = ap kept_of w.vault-is ∙ (w.in_ok-start.ensures {u = tt}).kept;
+    started = λ is. refl;
+    reopened = λ is. absurd (cc (is, w.if-is_new.true));
+  }
   | else-is_new+in_ok-reopen w ↦ record {
-      before = kept_of w.reopen.new.self;
-      counter = ap counter_of w.vault-is ∙ (w.in_ok-reopen.ensures {u = tt}).counter;
-      kept = ap kept_of w.vault-is;
-      started = λ is. absurd (cc (is, w.if-is_new.false));
-      reopened = λ is tells. (g.V.Disk.seen (disk_of w.reopen.new.self), w.reopen.ensures.image tells, (w.in_ok-reopen.ensures {u = tt}).reopened tells);
-    }
+    before = kept_of w.reopen.new.self;
+    counter = ap counter_of w.vault-is ∙ (w.in_ok-reopen.ensures {u = tt}).counter;
+    kept = ap kept_of w.vault-is;
+    started = λ is. absurd (cc (is, w.if-is_new.false));
+    reopened = λ is tells. (g.V.Disk.seen (disk_of w.reopen.new.self), w.reopen.ensures.image tells, (w.in_ok-reopen.ensures {u = tt}).reopened tells);
+  }
 ]
 
 -- what is kept once the age is raised and era 0 entered
