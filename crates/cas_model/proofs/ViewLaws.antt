@@ -158,7 +158,8 @@ floors_passed {S} {V} m shelves disks view key floor id desk caller is has at_de
         subst (λ (r : Round). BallotLess floor r.ballot) is_it (in_phase true_of.call one (ap (λ (r : Round). r.key) is_it ∙ same) true_of.phase)
 
     above_ride : (call : CallView) (round : Round) (ride : Ballot) → is_preparing round.phase ≡ false → round.ride ≡ Some ride
-        → IsPrepareTrue log id call (queue_at view.flow id).messages round ⊎ IsAcceptTrue log is.followed.logged.global.made id caller.number call (queue_at view.flow id).messages round → BallotLess round.ballot ride
+        → IsPrepareTrue log id call (queue_at view.flow id).messages round ⊎ IsAcceptTrue log is.followed.logged.global.made id caller.number call (queue_at view.flow id).messages round
+        → BallotLess round.ballot ride
     above_ride call round ride accepts rides (inl prepare) = absurd (not_both _ (prepares_is round.era round.ballot prepare.replies round.phase prepare.preparing.phase).0 accepts)
     above_ride call round ride accepts rides (inr accept) = (accept.ride ride rides).above
 
@@ -178,7 +179,8 @@ still_above key ballot a marks above = record {
 }
 
 -- the round whose accepts are counted is above the floors of its key
-round_above : {S V : Type 0} (m : Meaning S V) (view : View S V) (id : ℕ) (desk : DeskView V) (caller : CallerView) (round : Round) → m.shelves.tells → m.disks.tells → IsRemembered m view → IsAt view.desks id desk → IsAt view.callers id caller → desk.round ≡ Some round
+round_above : {S V : Type 0} (m : Meaning S V) (view : View S V) (id : ℕ) (desk : DeskView V) (caller : CallerView) (round : Round) → m.shelves.tells → m.disks.tells → IsRemembered m view
+    → IsAt view.desks id desk → IsAt view.callers id caller → desk.round ≡ Some round
     → IsAboveFloors (reverse view.marks) round.key round.ballot
 round_above m view id desk caller round shelves disks is at at_caller is_open = record {
   above = λ stands. (floors_passed m shelves disks view round.key _ id desk caller is (record { state = _; stands = stands }) at at_caller).round round is_open refl;

@@ -94,8 +94,8 @@ impl<S: Shelf, V: Disk> World<S, V> {
         ensures kept { S.tells → V.tells → (a : AnAcknowledgment) → Stands (Acked a)
             (reverse self.new.marks) → IsAboveFloors (reverse self.new.marks) a.key a.ballot
             → AcknowledgedIsKept (meaning S.Shelf V.Disk) self.new a }
-        ensures done { S.tells → V.tells
-            → (state : AState) (took : ATook) (ballot : ABallot) → result ≡ Answer.Done state took ballot
+        ensures done { S.tells → V.tells → (state : AState) (took : ATook) (ballot : ABallot)
+            → result ≡ Answer.Done state took ballot
             → IsDoneAt (meaning S.Shelf V.Disk) self.old proposer ballot self.new }
     {
         let place = usize::from(proposer);

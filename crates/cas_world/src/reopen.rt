@@ -127,7 +127,8 @@ fn take_up_desk<V: Disk>(
     past: u64,
 ) -> Result<Desk<V>, (OpenFault, V)>
     requires { past ≤ 2 ^ 48 }
-    ensures desk { IfOk result (IsTakenUpOver (disk_meaning V.Disk) V.seen V.fault_count past id disk) }
+    ensures desk { IfOk result
+        (IsTakenUpOver (disk_meaning V.Disk) V.seen V.fault_count past id disk) }
     ensures fault { IfErr result (λ back. IsFaultOfVault (disk_meaning V.Disk) V.seen
         (64 + id) (V.fault_count disk) (V.fault_count back.1) back.1 back.0) }
     ensures never_falls { IfErr result (λ back. V.fault_count disk ≤ V.fault_count back.1) }

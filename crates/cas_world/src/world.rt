@@ -178,10 +178,10 @@ impl<S: Shelf, V: Disk> World<S, V> {
         ensures places { IfOk result HasPlaces }
         ensures last_proposer { IfOk result (λ world. world.last_proposer ≡ config.proposers) }
         ensures shelves { IfOk result (λ world. world.acceptors ≡ placed members 0 shelves.items) }
-        ensures vaults { IfOk result (λ world. AreTakenUpBelow (disk_meaning V.Disk) V.seen V.fault_count
-            past vaults.items (config.proposers + 1) world.desks) }
-        ensures fault { IfErr result (λ back. DoesNotGoOn (disk_meaning V.Disk) V.seen V.fault_count past
-            config.proposers shelves.items vaults.items back.0 back.1.items back.2.items) }
+        ensures vaults { IfOk result (λ world. AreTakenUpBelow (disk_meaning V.Disk)
+            V.seen V.fault_count past vaults.items (config.proposers + 1) world.desks) }
+        ensures fault { IfErr result (λ back. DoesNotGoOn (disk_meaning V.Disk) V.seen V.fault_count
+            past config.proposers shelves.items vaults.items back.0 back.1.items back.2.items) }
         ensures back { IfErr result (λ back. (vec_len back.1 ≡ 64) × (vec_len back.2 ≡ 17)) }
     {
         let record = match record_of(alloc, floors) {

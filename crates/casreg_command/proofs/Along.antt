@@ -30,7 +30,8 @@ safe_done meant tells tries P input old new world back status.NoMemory safe by =
 safe_done meant tells tries P input old new world back (status.Endless line) safe by = runs_are_done meant tries (opening_state world) by.last by.wrote.lines by.wrote.answers safe by.wrote.run
 
 -- a run over a new world
-pub ran_over : {D : Type 0} {meant : Meaning (DiskShelf D) D} {m : RackMeaning D} {given : WentIn D} {out : CameOut D} (options : Options) (rack : Rack D) (world : View (DiskShelf D) D) → IsAllEmpty m given.rack rack → IsNewOver meant options.acceptors options.proposers rack world
+pub ran_over : {D : Type 0} {meant : Meaning (DiskShelf D) D} {m : RackMeaning D} {given : WentIn D} {out : CameOut D} (options : Options) (rack : Rack D) (world : View (DiskShelf D) D)
+    → IsAllEmpty m given.rack rack → IsNewOver meant options.acceptors options.proposers rack world
     → Ran meant m.tells options.tries out.HadEnded given.input given.written out.written world out.status out.rack → WroteScript meant m options given out
 ran_over {meant = meant} {m} {given} {out} options rack world empty over by = record {
   rack = rack;

@@ -139,11 +139,13 @@ nothing_blamed m asked given out (not_opened empty fault are closed is) =
     subst (λ (s : Status). AreDisksToBlame m given.rack out.rack s) (sym is) (opening_blamed m (acceptors_of asked) (proposers_of asked) given.rack empty out.rack fault are closed)
 nothing_blamed m asked given out (no_board options empty race are is) = subst (λ (s : Status). AreDisksToBlame m given.rack out.rack s) (sym is) tt
 
-by_request : {D : Type 0} (meant : Meaning (DiskShelf D) D) (m : RackMeaning D) (asked : Request) (given : WentIn D) (out : CameOut D) → WroteBy meant m asked given out → AreDisksToBlame m given.rack out.rack out.status
+by_request : {D : Type 0} (meant : Meaning (DiskShelf D) D) (m : RackMeaning D) (asked : Request) (given : WentIn D) (out : CameOut D) → WroteBy meant m asked given out
+    → AreDisksToBlame m given.rack out.rack out.status
 by_request meant m (request.Script options) given out by = ran_blamed meant m options.tries out.HadEnded given.input given.written out.written _ by.ran.last given.rack out.rack out.status by.ran.wrote
 by_request meant m (request.Race options) given out by = subst (λ (s : Status). AreDisksToBlame m given.rack out.rack s) (sym by.raced.is) (race_blamed m given.rack out.rack by.raced.ended)
 by_request meant m (request.Load load) given out by = load_blamed meant m load given.written out.written by.world by.loaded.last given.rack out.rack out.status by.loaded.wrote
 
-pub blamed : {D : Type 0} (meant : Meaning (DiskShelf D) D) (m : RackMeaning D) (asked : Request) (given : WentIn D) (out : CameOut D) → Wrote meant m asked given out → AreDisksToBlame m given.rack out.rack out.status
+pub blamed : {D : Type 0} (meant : Meaning (DiskShelf D) D) (m : RackMeaning D) (asked : Request) (given : WentIn D) (out : CameOut D) → Wrote meant m asked given out
+    → AreDisksToBlame m given.rack out.rack out.status
 blamed meant m asked given out (inl nothing) = nothing_blamed m asked given out nothing.why
 blamed meant m asked given out (inr by) = by_request meant m asked given out by

@@ -275,12 +275,15 @@ loaded_from meant tells load old new world closed marks result back wrote marks_
 }
 
 -- ---- nothing was run
-pub wrote_nothing : {D : Type 0} (meant : Meaning (DiskShelf D) D) (m : RackMeaning D) (asked : Request) (given : WentIn D) (out : CameOut D) → NothingRan m asked given out → out.written ≡ given.written → Wrote meant m asked given out
+pub wrote_nothing : {D : Type 0} (meant : Meaning (DiskShelf D) D) (m : RackMeaning D) (asked : Request) (given : WentIn D) (out : CameOut D) → NothingRan m asked given out
+    → out.written ≡ given.written → Wrote meant m asked given out
 wrote_nothing meant m asked given out why same = inl (record { why = why; unwritten = same })
 
 -- the store did not open
-pub closed_still : {D : Type 0} (m : RackMeaning D) (asked : Request) (given : WentIn D) (out : CameOut D) (empty : Rack D) (fault : OpenFault) (acceptors proposers : ℕ) → acceptors ≡ acceptors_of asked → proposers ≡ proposers_of asked → out.status ≡ status_of_opening fault
-    → IsAllEmpty m given.rack empty → StaysClosed m.faults acceptors proposers empty.acceptors.items empty.vaults.items fault out.rack.acceptors.items out.rack.vaults.items → NothingRan m asked given out
+pub closed_still : {D : Type 0} (m : RackMeaning D) (asked : Request) (given : WentIn D) (out : CameOut D) (empty : Rack D) (fault : OpenFault) (acceptors proposers : ℕ)
+    → acceptors ≡ acceptors_of asked → proposers ≡ proposers_of asked → out.status ≡ status_of_opening fault
+    → IsAllEmpty m given.rack empty → StaysClosed m.faults acceptors proposers empty.acceptors.items empty.vaults.items fault out.rack.acceptors.items out.rack.vaults.items
+    → NothingRan m asked given out
 closed_still m asked given out empty fault acceptors proposers are_acceptors are_proposers is are_empty closed =
     not_opened empty fault are_empty
     (subst (λ (n : ℕ). StaysClosed m.faults (acceptors_of asked) n empty.acceptors.items empty.vaults.items fault out.rack.acceptors.items out.rack.vaults.items) are_proposers
@@ -288,12 +291,16 @@ closed_still m asked given out empty fault acceptors proposers are_acceptors are
     is
 
 -- the board of a race did not open, or there was no memory for it
-pub no_race : {D : Type 0} (m : RackMeaning D) (asked : Request) (given : WentIn D) (out : CameOut D) (options : Options) (empty : Rack D) (fault : OpenFault) (acceptors proposers : ℕ) → acceptors ≡ acceptors_of asked → proposers ≡ proposers_of asked → asked ≡ request.Race options
-    → out.status ≡ status_of_opening fault → IsAllEmpty m given.rack empty → (fault ≡ opening.NoMemory) ⊎ StaysClosed m.faults acceptors proposers empty.acceptors.items empty.vaults.items fault out.rack.acceptors.items out.rack.vaults.items → NothingRan m asked given out
+pub no_race : {D : Type 0} (m : RackMeaning D) (asked : Request) (given : WentIn D) (out : CameOut D) (options : Options) (empty : Rack D) (fault : OpenFault) (acceptors proposers : ℕ)
+    → acceptors ≡ acceptors_of asked → proposers ≡ proposers_of asked → asked ≡ request.Race options
+    → out.status ≡ status_of_opening fault → IsAllEmpty m given.rack empty
+    → (fault ≡ opening.NoMemory) ⊎ StaysClosed m.faults acceptors proposers empty.acceptors.items empty.vaults.items fault out.rack.acceptors.items out.rack.vaults.items
+    → NothingRan m asked given out
 no_race m asked given out options empty fault acceptors proposers are_acceptors are_proposers is_race is are_empty (inl none) = no_board options empty is_race are_empty (is ∙ ap status_of_opening none)
 no_race m asked given out options empty fault acceptors proposers are_acceptors are_proposers is_race is are_empty (inr closed) =
     closed_still m asked given out empty fault acceptors proposers are_acceptors are_proposers is are_empty closed
 
 -- ---- by what was asked for
-pub wrote_by : {D : Type 0} (meant : Meaning (DiskShelf D) D) (m : RackMeaning D) (asked other : Request) (given : WentIn D) (out : CameOut D) → asked ≡ other → WroteBy meant m other given out → Wrote meant m asked given out
+pub wrote_by : {D : Type 0} (meant : Meaning (DiskShelf D) D) (m : RackMeaning D) (asked other : Request) (given : WentIn D) (out : CameOut D) → asked ≡ other → WroteBy meant m other given out
+    → Wrote meant m asked given out
 wrote_by meant m asked other given out is wrote = inr (subst (λ (r : Request). WroteBy meant m r given out) (sym is) wrote)

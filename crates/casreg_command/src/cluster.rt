@@ -65,17 +65,16 @@ pub fn cluster<R: Threads + Wait + Sync, S: Source, K: Sink, D: Disk + Send + Dr
     // over the lines that its seed draws, in a new world over the rack's disks; the record of that run is legal, and the rack that comes back
     // holds the disks of its last world. Of a race, what was written is the text of a legal record in which each caller's own marks are those of
     // what its lines ask for, in their order, with the answers that are written, and tell of no more losses than its fate counted harms.
-    ensures ran { RanCommand
-        (meaning ⟦<DiskShelf<D> as Shelf>⟧ D.Disk) (rack_meaning D.Disk) (map string_bytes words.now)
-        (record {
+    ensures ran { RanCommand (meaning ⟦<DiskShelf<D> as Shelf>⟧ D.Disk) (rack_meaning D.Disk)
+        (map string_bytes words.now) (record {
           input = S.remaining source.old;
-          written = K.contents sink.old;
+          written = K.contents
+              sink.old;
           source_faults = S.faults_of source.old;
           sink_faults = K.faults_of sink.old;
           harms = map F.harm_count fates.old.items;
           rack = rack;
-        })
-        (record {
+        }) (record {
           status = result.0;
           HadEnded = FailsBehind S.take_gives source.old source.new;
           written = K.contents sink.new;

@@ -145,7 +145,8 @@ same_or_without m cluster log all id era key old new (inr fewer) were one =
     (subst (ArePromisesHeld cluster log all id era) (sym fewer) (ready_fewer cluster log all id era (without key old) old (λ entry h. contains_without key old h) were), subst HaveOneEach (sym fewer) (one_without key old one))
 
 pub quiet_fails : {S V : Type 0} (m : Meaning S V) (cluster : Cluster) (log : List Happening) (all : List Made) (id era : ℕ) (caller : CallerView) (waiting : List Message) (key : List ℕ) {promises : List (List ℕ × Ready)} (desk now : DeskView V) → m.disks.tells
-    → IsDeskTrue m cluster log all era id caller waiting desk → FailsToDraw m.disks promises desk now → ((now.cache ≡ desk.cache) ⊎ (now.cache ≡ without key desk.cache)) → IsQuiet m cluster log all id era now
+    → IsDeskTrue m cluster log all era id caller waiting desk → FailsToDraw m.disks promises desk now → ((now.cache ≡ desk.cache) ⊎ (now.cache ≡ without key desk.cache))
+    → IsQuiet m cluster log all id era now
 quiet_fails {S} {V} m cluster log all id era caller waiting key desk now tells of by fewer =
     let cache = same_or_without m cluster log all id era key desk.cache now.cache fewer of.cached of.one_each in
     record {
@@ -220,7 +221,8 @@ others_left flow id p other = ap (λ (q : QueueView). q.messages) (queue_other f
 
 -- ---- a round ends without a proposal or with one that is not known to stand
 pub told_fails : {S V : Type 0} (m : Meaning S V) (cluster : Cluster) (global : GlobalState) (old : View S V) (id : ℕ) (caller : CallerView) (call : CallView) (key : List ℕ) (desk now : DeskView V) (told : Answer) → m.disks.tells
-    → IsAt old.callers id caller → caller.call ≡ Some call → IsAt old.desks id desk → (queue_at old.flow id).messages ≡ [] → FailsToDraw m.disks (without key desk.cache) desk now → IsToldTrue global.log global.made id caller.number told
+    → IsAt old.callers id caller → caller.call ≡ Some call → IsAt old.desks id desk → (queue_at old.flow id).messages ≡ [] → FailsToDraw m.disks (without key desk.cache) desk now
+    → IsToldTrue global.log global.made id caller.number told
     → Whole m cluster global old → Whole m cluster global (with_call (with_desk old id now) id caller (over call told))
 told_fails m cluster global old id caller call key desk now told tells at_caller is_open at_desk none by is whole =
     let was = whole.parties.callers id tt caller at_caller in

@@ -79,7 +79,8 @@ opens_safe {S} {V} old id key program new was (calls.again caller call reserved 
 
 -- ---- a round begins
 -- the phase of a round that has just begun
-pub prepares_is : (era : Era) (ballot : Ballot) (replies : List Reply) (phase_is : OpenPhase) → IsPrepare era ballot replies phase_is → (is_preparing phase_is ≡ true) × (asked_in era phase_is ≡ era.prep)
+pub prepares_is : (era : Era) (ballot : Ballot) (replies : List Reply) (phase_is : OpenPhase) → IsPrepare era ballot replies phase_is
+    → (is_preparing phase_is ≡ true) × (asked_in era phase_is ≡ era.prep)
 prepares_is era ballot replies (Prepare p) is = (refl, refl)
 prepares_is era ballot replies (Accept p) is = absurd is
 

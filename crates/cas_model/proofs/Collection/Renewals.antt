@@ -84,7 +84,8 @@ loses_above m key old new ballot tells by =
     let on = then_on (goes_on m old.id old.vault by.middle ballot by.drawn) by.goes_on in
     idle_above m old new (on.still_past tells) (on.ages tells) (ap (λ (d : DeskView _). d.round) by.desk) (fewer_in key old.cache new.cache by.cache)
 
-fails_above : {V : Type 0} (m : DiskMeaning V) (key : List ℕ) {promises : List (List ℕ × Ready)} (old new : DeskView V) → m.tells → FailsToDraw m promises old new → (new.cache ≡ old.cache) ⊎ (new.cache ≡ without key old.cache)
+fails_above : {V : Type 0} (m : DiskMeaning V) (key : List ℕ) {promises : List (List ℕ × Ready)} (old new : DeskView V) → m.tells → FailsToDraw m promises old new
+    → (new.cache ≡ old.cache) ⊎ (new.cache ≡ without key old.cache)
     → KeepsAbove m old new
 fails_above m key old new tells by fewer = idle_above m old new (by.goes_on.still_past tells) (by.goes_on.ages tells) (ap (λ (d : DeskView _). d.round) by.desk) (fewer_in key old.cache new.cache fewer)
 

@@ -515,7 +515,8 @@ has_left {S} {V} DeskTurns closed old new id (stops.idle desk now at none turns 
 has_left {S} {V} DeskTurns closed old new id (stops.closes desk now round of_call at is_round turns is) = record { desk = desk; now = now; at = at; turns = turns; desks = ap (λ (w : View S V). w.desks) is }
 
 -- its vault failed within that
-fails_renewal : {S V : Type 0} (m : Meaning S V) (old : View S V) (proposer : ℕ) (tomb : Ballot) (middle : View S V) → m.disks.tells → IsRemembered m old → GoesDown (FailsToRenew m.disks tomb) old proposer middle → IsRemembered m middle
+fails_renewal : {S V : Type 0} (m : Meaning S V) (old : View S V) (proposer : ℕ) (tomb : Ballot) (middle : View S V) → m.disks.tells → IsRemembered m old
+    → GoesDown (FailsToRenew m.disks tomb) old proposer middle → IsRemembered m middle
 fails_renewal {S} {V} m old proposer tomb middle disks is down = record {
   followed = same_course m old middle (down_course (FailsToRenew m.disks tomb) old middle proposer down)
       (down_logged m old proposer (FailsToRenew m.disks tomb) middle (λ desk now by. (by.crashed, record { still_past = by.goes_on.still_past disks; ages = by.goes_on.ages disks })) is.followed.logged down) is.followed.course

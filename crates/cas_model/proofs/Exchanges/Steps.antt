@@ -345,7 +345,8 @@ quiets_desk {S} {V} m cluster global old id desk now at_desk idle quiet whole =
     })
 
 -- a desk of proposer 0 whose vault fails in the draw of the tag
-fails_whole : {S V : Type 0} (m : Meaning S V) (cluster : Cluster) (global : GlobalState) (old : View S V) (id : ℕ) (desk now : DeskView V) → m.disks.tells → IsAt old.desks id desk → desk.round ≡ None → FailsToDraw m.disks desk.cache desk now
+fails_whole : {S V : Type 0} (m : Meaning S V) (cluster : Cluster) (global : GlobalState) (old : View S V) (id : ℕ) (desk now : DeskView V) → m.disks.tells → IsAt old.desks id desk
+    → desk.round ≡ None → FailsToDraw m.disks desk.cache desk now
     → Whole m cluster global old → Whole m cluster global (with_desk old id now)
 fails_whole m cluster global old id desk now tells at_desk idle by whole =
     quiets_desk m cluster global old id desk now at_desk idle

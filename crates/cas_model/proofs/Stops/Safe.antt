@@ -518,7 +518,8 @@ begin_spent_safe {S} {V} old id caller call desk now new was at_caller is_open a
 -- ---- rounds that do not begin, or end
 -- the desk's vault fails in a draw
 pub fails_safe : {S V : Type 0} (m : Meaning S V) (old : View S V) (id : ℕ) (caller : CallerView) (call : CallView) (key : List ℕ) (desk now : DeskView V) (told : Answer) (new : View S V) → IsSound old → IsAt old.callers id caller → caller.call ≡ Some call
-    → IsAt old.desks id desk → (queue_at old.flow id).messages ≡ [] → FailsToDraw m.disks (without key desk.cache) desk now → new ≡ with_call (with_desk old id now) id caller (over call told) → IsSound new
+    → IsAt old.desks id desk → (queue_at old.flow id).messages ≡ [] → FailsToDraw m.disks (without key desk.cache) desk now → new ≡ with_call (with_desk old id now) id caller (over call told)
+    → IsSound new
 fails_safe {S} {V} m old id caller call key desk now told new was at_caller is_open at_desk waits by view =
     subst IsSound (sym view) (over_safe old id caller call desk now told was at_caller is_open at_desk (ap (λ (d : DeskView V). d.id) by.desk) (ap (λ (d : DeskView V). d.round) by.desk)
     (fit_fewer key desk.cache now.cache (failed_without m.disks key desk now by)) waits)

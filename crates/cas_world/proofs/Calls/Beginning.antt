@@ -145,7 +145,8 @@ module _ {V : Type 0} (tells : Type 0) (may_leave : V → List ℕ → Type 0) (
         }
 
     -- what a ride tells
-    pub rides_by : (old new : DeskView V) (round : Round) (ride : Option Ballot) → IsRideDue old.id (counter_of old.vault) ride → old.round ≡ Some round → IsTrue (may_ride old.round) → old.down ≡ false → old.id ≤ 16 → (ride ≡ None → new ≡ old)
+    pub rides_by : (old new : DeskView V) (round : Round) (ride : Option Ballot) → IsRideDue old.id (counter_of old.vault) ride → old.round ≡ Some round → IsTrue (may_ride old.round)
+        → old.down ≡ false → old.id ≤ 16 → (ride ≡ None → new ≡ old)
         → ((b : Ballot) → ride ≡ Some b → Draws old.id old.vault new.vault b) → ((b : Ballot) → ride ≡ Some b → new ≡ record old { vault = new.vault; round = with_ride old.round b })
         → (tells → (b : Ballot) → ride ≡ Some b → IsPast may_leave b.counter new.vault) → (tells → (n : ℕ) → IsPast may_leave n old.vault → IsPast may_leave n new.vault)
         → (tells → LeavesOnly moment left_since (disk_of old.vault) (disk_of new.vault) (KeepsBeforeOrAfter (kept_of old.vault) (kept_to_draw (counter_of old.vault) (kept_of old.vault))))
@@ -390,7 +391,8 @@ module _ {V : Type 0} (tells : Type 0) (may_leave : V → List ℕ → Type 0) (
     aged = λ t. (tag_goes_on (disks tells may_leave faults) goes_on old new tag has).ages t _ (aged_by tells may_leave faults seen (kept_of old.vault).age old.vault stands refl t);
   }
 
-  pub failed_idle : (old new : DeskView V) → old.round ≡ None → HasKept (disks tells may_leave faults) old.vault new.vault → new ≡ record old { vault = new.vault; down = new.down } → new.down ≡ true → Rose (faults (disk_of old.vault)) (faults (disk_of new.vault)) → FailsToDraw (disks tells may_leave faults) old.cache old new
+  pub failed_idle : (old new : DeskView V) → old.round ≡ None → HasKept (disks tells may_leave faults) old.vault new.vault → new ≡ record old { vault = new.vault; down = new.down }
+      → new.down ≡ true → Rose (faults (disk_of old.vault)) (faults (disk_of new.vault)) → FailsToDraw (disks tells may_leave faults) old.cache old new
   failed_idle old new none kept at down rose = record {
     desk = at ∙ (λ i. record old { vault = new.vault; round = none i; down = down i });
     counter = kept.shows.counter ∙ sym (ap (λ (r : Option Round). counter_without r (counter_of old.vault)) none);

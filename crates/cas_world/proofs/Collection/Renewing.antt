@@ -57,7 +57,8 @@ use Rattle.cas_world.proofs.Stops.Stops.{HaveCopies, copies_idle, copies_still}
 module _ {V : Type 0} (tells : Type 0) (may_leave : V → List ℕ → Type 0) (faults : V → ℕ) where
   -- it is past the tombstone and at the new age, whatever a crash leaves
   pub grows_older : (seen : V → List ℕ) (key : List ℕ) (tomb : Ballot) (age : ℕ) (old new : DeskView V) → old.down ≡ false → new ≡ record old { vault = new.vault; cache = without key (cache_without old.round old.cache); round = None }
-      → age ≡ (kept_of old.vault).age + 1 → counter_of new.vault ≡ max (counter_of old.vault) tomb.counter → kept_of new.vault ≡ kept_one_older (max (counter_of old.vault) tomb.counter) (kept_of old.vault) → (new.down ≡ false → VaultStands tells seen may_leave new.vault)
+      → age ≡ (kept_of old.vault).age + 1 → counter_of new.vault ≡ max (counter_of old.vault) tomb.counter
+      → kept_of new.vault ≡ kept_one_older (max (counter_of old.vault) tomb.counter) (kept_of old.vault) → (new.down ≡ false → VaultStands tells seen may_leave new.vault)
       → (tells → IsPast may_leave tomb.counter new.vault) → (tells → (n : ℕ) → IsPast may_leave n old.vault → IsPast may_leave n new.vault) → faults (disk_of old.vault) ≤ faults (disk_of new.vault) → Renews (disks tells may_leave faults) key tomb age old new
   grows_older seen key tomb age old new up desk older counter kept stands past still never_falls = record {
     up = up;
@@ -85,10 +86,12 @@ module _ {V : Type 0} (tells : Type 0) (may_leave : V → List ℕ → Type 0) (
   }
 
   -- it stopped within the write: a crash leaves it at the new age, or as it was
-  pub fails_to_grow : (moment : V → ℕ) (left_since : V → ℕ → List ℕ → Type 0) (counter : ℕ) (tomb : Ballot) (old new : DeskView V) → old.down ≡ false → IsCrashed old new → counter_of new.vault ≡ max (counter_of old.vault) tomb.counter → kept_of new.vault ≡ kept_of old.vault
+  pub fails_to_grow : (moment : V → ℕ) (left_since : V → ℕ → List ℕ → Type 0) (counter : ℕ) (tomb : Ballot) (old new : DeskView V) → old.down ≡ false → IsCrashed old new
+      → counter_of new.vault ≡ max (counter_of old.vault) tomb.counter → kept_of new.vault ≡ kept_of old.vault
       → (tells → (t : ℕ) (c : List ℕ) → t ≤ moment (disk_of new.vault) → may_leave (disk_of new.vault) c → left_since (disk_of new.vault) t c)
       → (tells → LeavesOnly moment left_since (disk_of old.vault) (disk_of new.vault) (KeepsBeforeOrAfter (kept_of old.vault) (kept_one_older counter (kept_of old.vault))))
-      → (tells → (n : ℕ) → IsPast may_leave n old.vault → IsPast may_leave n new.vault) → Rose (faults (disk_of old.vault)) (faults (disk_of new.vault)) → faults (disk_of old.vault) ≤ faults (disk_of new.vault) → FailsToRenew (disks tells may_leave faults) tomb old new
+      → (tells → (n : ℕ) → IsPast may_leave n old.vault → IsPast may_leave n new.vault) → Rose (faults (disk_of old.vault)) (faults (disk_of new.vault))
+      → faults (disk_of old.vault) ≤ faults (disk_of new.vault) → FailsToRenew (disks tells may_leave faults) tomb old new
   fails_to_grow moment left_since counter tomb old new up crashed moved same now moments past rose never_falls = record {
     up = up;
     crashed = crashed;
@@ -208,7 +211,8 @@ module _ {S V : Type 0} (m : Meaning S V) (last_proposer : ℕ) (council council
     older = subst (λ (r : Result ℕ OpAnswer). IfOk r (λ age. age ≡ (kept_of desk.vault).age + 1)) (sym answer_is) (turned _ _ id desk now caller caller_now flow then_ leaves_).one_more;
   }
 
-  goes_down : (result : Result ℕ OpAnswer) → LeavesDesk (FailsToRenew m.disks (tomb_of at.collection.tombstone)) (closed_with crash_answer) id desk now caller caller_now flow then_ → council_view council_now ≡ telling (crash_at id (council_view council)) (op.ProposerDown id)
+  goes_down : (result : Result ℕ OpAnswer) → LeavesDesk (FailsToRenew m.disks (tomb_of at.collection.tombstone)) (closed_with crash_answer) id desk now caller caller_now flow then_
+      → council_view council_now ≡ telling (crash_at id (council_view council)) (op.ProposerDown id)
       → flow_now ≡ abandoned_at id then_ → result ≡ Err (op.ProposerDown id) → Outcome result
   goes_down result leaves_ is flows answer_is = record {
     renews = by_id id refl;
@@ -262,7 +266,8 @@ module _ {S V : Type 0} (m : Meaning S V) (last_proposer : ℕ) (council council
 
   -- whichever became of it
   pub renewed_so : (moved : Result ℕ VaultError) (result : Result ℕ OpAnswer) → IfOk moved (λ age. LeavesDesk (Renews m.disks at.collection.course.key (tomb_of at.collection.tombstone) age) (closed_with (λ proposed. aged_answer proposed age)) id desk now caller caller_now flow then_)
-      → (IsErrOf moved error.VaultFault → LeavesDesk (FailsToRenew m.disks (tomb_of at.collection.tombstone)) (closed_with crash_answer) id desk now caller caller_now flow then_) → (IsErrOf moved error.Spent → ((kept_of desk.vault).age ≡ 2 ^ 48) × (now ≡ desk))
+      → (IsErrOf moved error.VaultFault → LeavesDesk (FailsToRenew m.disks (tomb_of at.collection.tombstone)) (closed_with crash_answer) id desk now caller caller_now flow then_)
+      → (IsErrOf moved error.Spent → ((kept_of desk.vault).age ≡ 2 ^ 48) × (now ≡ desk))
       → (IsErrOf moved error.NoMemory → FindsNoAge m.disks (tomb_of at.collection.tombstone) desk now) → ((IsErrOf moved error.VaultFault → ⊥) → IfErr moved (λ e. (caller_now ≡ caller) × (then_ ≡ flow)))
       → MarksRenewal id moved (council_view council) (council_view council_now) then_ flow_now result → Outcome result
   renewed_so moved result ok fault spent none same (marks.renews age is council_is flows answer_is) =

@@ -55,7 +55,8 @@ use Rattle.cas_world.proofs.Stops.Stops.{HaveCopies, copies_idle, copies_still}
 -- ---- vaults
 module _ {V : Type 0} (tells : Type 0) (may_leave : V → List ℕ → Type 0) (faults : V → ℕ) where
   -- it is in the era, whatever a crash leaves
-  pub enters_era : (seen : V → List ℕ) (era : Era) (old new : DeskView V) → old.down ≡ false → new ≡ record old { vault = new.vault; cache = []; round = None } → counter_of new.vault ≡ counter_of old.vault → kept_of new.vault ≡ kept_in_era era.number (kept_of old.vault)
+  pub enters_era : (seen : V → List ℕ) (era : Era) (old new : DeskView V) → old.down ≡ false → new ≡ record old { vault = new.vault; cache = []; round = None }
+      → counter_of new.vault ≡ counter_of old.vault → kept_of new.vault ≡ kept_in_era era.number (kept_of old.vault)
       → (new.down ≡ false → VaultStands tells seen may_leave new.vault) → (tells → (n : ℕ) → IsPast may_leave n old.vault → IsPast may_leave n new.vault) → faults (disk_of old.vault) ≤ faults (disk_of new.vault) → EntersEra (disks tells may_leave faults) era old new
   enters_era seen era old new up desk counter kept stands past never_falls = record {
     up = up;
@@ -75,7 +76,8 @@ module _ {V : Type 0} (tells : Type 0) (may_leave : V → List ℕ → Type 0) (
   }
 
   -- it stopped within the write: a crash leaves it in the era, or as it was
-  pub fails_to_enter : (moment : V → ℕ) (left_since : V → ℕ → List ℕ → Type 0) (era : Era) (old new : DeskView V) → old.down ≡ false → IsCrashed old new → counter_of new.vault ≡ counter_of old.vault → kept_of new.vault ≡ kept_of old.vault
+  pub fails_to_enter : (moment : V → ℕ) (left_since : V → ℕ → List ℕ → Type 0) (era : Era) (old new : DeskView V) → old.down ≡ false → IsCrashed old new
+      → counter_of new.vault ≡ counter_of old.vault → kept_of new.vault ≡ kept_of old.vault
       → (tells → (t : ℕ) (c : List ℕ) → t ≤ moment (disk_of new.vault) → may_leave (disk_of new.vault) c → left_since (disk_of new.vault) t c)
       → (tells → LeavesOnly moment left_since (disk_of old.vault) (disk_of new.vault) (KeepsBeforeOrAfter (kept_of old.vault) (kept_in_era era.number (kept_of old.vault))))
       → (tells → (n : ℕ) → IsPast may_leave n old.vault → IsPast may_leave n new.vault) → Rose (faults (disk_of old.vault)) (faults (disk_of new.vault)) → FailsToEnter (disks tells may_leave faults) era old new

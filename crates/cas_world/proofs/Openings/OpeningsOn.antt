@@ -111,7 +111,8 @@ dropped_all zero (x ∷ xs) low = absurd (omega (arith, low))
 dropped_all (suc n) [] low = refl
 dropped_all (suc n) (x ∷ xs) low = dropped_all n xs (omega (arith, low))
 
-open_desk : {S V : Type 0} (m : Meaning S V) (seen : V → List ℕ) (faults : V → ℕ) (past : ℕ) (floors : List OpeningFloor) (id : ℕ) (disk : V) (desk : DeskView V) → IsTakenUpOver m.disks seen faults past id disk desk → greatest_counter floors ≤ past → IsOpenDesk m (openings_of floors) id desk
+open_desk : {S V : Type 0} (m : Meaning S V) (seen : V → List ℕ) (faults : V → ℕ) (past : ℕ) (floors : List OpeningFloor) (id : ℕ) (disk : V) (desk : DeskView V)
+    → IsTakenUpOver m.disks seen faults past id disk desk → greatest_counter floors ≤ past → IsOpenDesk m (openings_of floors) id desk
 open_desk {S} {V} m seen faults past floors id disk desk over low = record {
   same_id = ap (λ (d : DeskView V). d.id) over.is;
   in_era = λ tells. record {
@@ -124,7 +125,8 @@ open_desk {S} {V} m seen faults past floors id disk desk over low = record {
 }
 
 -- ---- one more vault that is taken up
-pub one_more_taken : {V : Type 0} (m : DiskMeaning V) (seen : V → List ℕ) (faults : V → ℕ) (past : ℕ) (disks : List V) (number : ℕ) (desks : List (DeskView V)) (disk : V) (desk : DeskView V) → AreTakenUpBelow m seen faults past disks number desks → IsAt disks number disk
+pub one_more_taken : {V : Type 0} (m : DiskMeaning V) (seen : V → List ℕ) (faults : V → ℕ) (past : ℕ) (disks : List V) (number : ℕ) (desks : List (DeskView V)) (disk : V) (desk : DeskView V)
+    → AreTakenUpBelow m seen faults past disks number desks → IsAt disks number disk
     → IsTakenUpOver m seen faults past number disk desk → AreTakenUpBelow m seen faults past disks (number + 1) (desks ++ desk ∷ [])
 one_more_taken {V} m seen faults past disks number desks disk desk before at over = record {
   places = length_push desks desk ∙ ap (λ (n : ℕ). n + 1) before.places;

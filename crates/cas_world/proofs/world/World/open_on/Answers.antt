@@ -25,7 +25,8 @@ use Rattle.cas_world.proofs.world.World.open_on.Goals.{In-Ok-take_up_desks, In-E
 disks_there : (g : Over) (c : In-Ok-take_up_desks g) → reverse c.reverse.new.self.items ≡ c.args.vaults.items
 disks_there g c = ap (λ (l : List _). reverse l) c.reverse.ensures.items ∙ reverse-reverse c.args.vaults.items
 
-taken : (g : Over) (c : In-Ok-take_up_desks g) → AreTakenUpBelow (disk_meaning g.V.Disk) g.V.Disk.seen g.V.Disk.fault_count c.args.past c.args.vaults.items (c.args.config.proposers + 1) c.take_up_desks.new.desks.items
+taken : (g : Over) (c : In-Ok-take_up_desks g)
+    → AreTakenUpBelow (disk_meaning g.V.Disk) g.V.Disk.seen g.V.Disk.fault_count c.args.past c.args.vaults.items (c.args.config.proposers + 1) c.take_up_desks.new.desks.items
 taken g c =
     subst (λ (l : List _). AreTakenUpBelow (disk_meaning g.V.Disk) g.V.Disk.seen g.V.Disk.fault_count c.args.past l (c.args.config.proposers + 1) c.take_up_desks.new.desks.items) (disks_there g c) (c.in-Ok-take_up_desks.ensures {u = tt}).ok
 
