@@ -18,7 +18,8 @@ use Rattle.cas_world_calls.specs.Council.{council_view}
 use Rattle.cas_world_calls.specs.Call.{over}
 use Rattle.cas_world.specs.Calls.Count.{Counts}
 use Rattle.cas_world_calls.specs.declared.call.OpenCall.{OpenCall}
-use Rattle.cas_world.specs.World.{WasTold, view_of}
+use Rattle.cas_world.specs.World.{WasTold, caller_view, view_of}
+use Rattle.cas_world.proofs.Calls.Callers.{at_map}
 use Rattle.cas_world.proofs.Calls.Counts.{IsCounting, counting, counted, fell_short, room_over, quorum_of}
 use Rattle.cas_world.proofs.Parts.{seen_from, remembered_then}
 use Rattle.cas_world.proofs.Calls.Proposes.{was_told}
@@ -82,7 +83,8 @@ returns-in-None-clause-kept g c shelves vaults a stands above = done_kept _ shel
 pub returns-in-None-clause-done : goal.returns-in-None-clause-done
 returns-in-None-clause-done g c shelves vaults state took ballot is =
     let m = meaning g.S.Shelf g.V.Disk in
-    let told = returns-in-None-clause-told g c _ (subst (λ (v : View _ _). IsAt v.callers c.args.proposer _) c.self.view_is (found g c).at_caller) in
+    let told = returns-in-None-clause-told g c _ (subst (λ (v : View _ _). IsAt v.callers c.args.proposer (caller_view c.index_mut-caller.result.now)) c.self.view_is
+    (at_map caller_view c.self.inside.callers.items c.args.proposer c.index_mut-caller.result.now (found g c).at_caller)) in
     dones_stand m shelves vaults c.args.self.now _ c.args.proposer told.caller told.call state took ballot (subst (IsRemembered m) c.self.view_is (c.self.invariant.remembered shelves vaults)) c.requires.known
     (returns-in-None-clause-step g c) told.at_caller told.is_open (told.told ∙ ap (λ a. Some a) is)
 

@@ -10,13 +10,13 @@ use Rattle.cas_model.specs.Safe.{IsSafe, renewals_before}
 use Rattle.cas_model.specs.Step as step
 use Rattle.cas_model.specs.Step.{Step}
 use Rattle.cas_model.specs.Collection.Step as collect
-use Rattle.cas_model.specs.Calls.Desks.{Renews, FindsNoAge}
+use Rattle.cas_model.specs.Calls.Desks.{Renews, FailsToRenew, FindsNoAge}
 use Rattle.cas_model.specs.View.{View, IsAt, meaning, disk_meaning}
 use Rattle.cas_model.proofs.Places.{at_one, some_is}
 use Rattle.cas_model.proofs.Safety.Parts.{at_low}
 use Rattle.cas_model.proofs.Safety.Steps.{steps_are_safe}
 use Rattle.cas_model.proofs.Stops.Safe.{call_reserves_at}
-use Rattle.cas_world_calls.specs.Answers.{aged_answer}
+use Rattle.cas_world_calls.specs.Answers.{aged_answer, crash_answer}
 use Rattle.cas_world_calls.specs.declared.call.OpenCall.{OpenCall}
 use Rattle.cas_world.specs.Collection.Collect.{GoesOnCollecting, IsDueStep, IsNextAge}
 use Rattle.cas_world.specs.Exchanges.Exchange.{WasToldOrder}
@@ -93,7 +93,9 @@ did g c = renewed_so (meaning g.S.Shelf g.V.Disk) c.self.inside.setup.proposers 
     (collecting_at (view_of c.self.inside.setup.proposers c.self.inside.council c.self.inside.acceptors.items c.self.inside.desks.items c.self.inside.callers.items c.self.inside.flow c.self.inside.record) c.in-Some.collection c.self.invariant.safe c.in-Some.is) (at_desk g c) (at_caller g c) (is_up g c) c.mark_renewal.ensures.eras c.self.invariant.copies (some_reserved g c) c.self.invariant.room c.grow_older-renewed.result c.mark_renewal.result
     (subst (λ (t : Ballot). IfOk c.grow_older-renewed.result (λ age. LeavesDesk (Renews (disk_meaning g.V.Disk) c.in-Some.collection.course.key t age) (closed_with (λ proposed. aged_answer proposed age)) c.args.proposer c.index_mut-desk.result.now c.grow_older-renewed.new.desk c.index_mut-caller.result.now c.grow_older-renewed.new.caller c.self.inside.flow c.grow_older-renewed.new.flow)) c.tomb-tomb.ensures
     (subst (λ (k : List ℕ). IfOk c.grow_older-renewed.result (λ age. LeavesDesk (Renews (disk_meaning g.V.Disk) k c.tomb-tomb.result age) (closed_with (λ proposed. aged_answer proposed age)) c.args.proposer c.index_mut-desk.result.now c.grow_older-renewed.new.desk c.index_mut-caller.result.now c.grow_older-renewed.new.caller c.self.inside.flow c.grow_older-renewed.new.flow)) c.key.ensures c.grow_older-renewed.ensures.ok))
-    c.grow_older-renewed.ensures.fault c.grow_older-renewed.ensures.spent (λ failed. subst (λ (t : Ballot). FindsNoAge (disk_meaning g.V.Disk) t c.index_mut-desk.result.now c.grow_older-renewed.new.desk) c.tomb-tomb.ensures (c.grow_older-renewed.ensures.no_memory failed))
+    (λ failed. subst (λ (t : Ballot). LeavesDesk (FailsToRenew (disk_meaning g.V.Disk) t) (closed_with crash_answer) c.args.proposer c.index_mut-desk.result.now c.grow_older-renewed.new.desk
+    c.index_mut-caller.result.now c.grow_older-renewed.new.caller c.self.inside.flow c.grow_older-renewed.new.flow) c.tomb-tomb.ensures (c.grow_older-renewed.ensures.fault failed))
+    c.grow_older-renewed.ensures.spent (λ failed. subst (λ (t : Ballot). FindsNoAge (disk_meaning g.V.Disk) t c.index_mut-desk.result.now c.grow_older-renewed.new.desk) c.tomb-tomb.ensures (c.grow_older-renewed.ensures.no_memory failed))
     c.grow_older-renewed.ensures.stays c.mark_renewal.ensures.marks
 
 step_at : (g : Over) (c : After-mark_renewal g) → Step (meaning g.S.Shelf g.V.Disk) (view_of c.self.inside.setup.proposers c.self.inside.council c.self.inside.acceptors.items c.self.inside.desks.items c.self.inside.callers.items c.self.inside.flow c.self.inside.record) (step.Renew c.args.proposer) (view_of c.self.inside.setup.proposers c.mark_renewal.new.council c.self.inside.acceptors.items (slice_set c.self.inside.desks.items c.args.proposer c.grow_older-renewed.new.desk) (slice_set c.self.inside.callers.items c.args.proposer c.grow_older-renewed.new.caller) c.mark_renewal.new.flow c.self.inside.record)
