@@ -8,8 +8,8 @@ use Rattle.cas_world.specs.Openings.OpeningOn.{GoesOnPast, VaultIsTakenUp}
 use Rattle.cas_world.proofs.reopen.take_up_desk.Goals as goal
 
 -- what goes on from a disk that was only asked for its length, goes on from the disk as it was
-asked_before : {V : Type 0} (m : DiskMeaning V) (past : ℕ) (is_new : _) (disk asked : V) (vault : Vault V) → (m.tells → (image : List ℕ) → m.may_leave asked image → m.may_leave disk image) → GoesOnPast m past is_new asked vault
-    → GoesOnPast m past is_new disk vault
+asked_before : {V : Type 0} (m : DiskMeaning V) (past : ℕ) (is_new : _) (disk asked : V) (vault : Vault V) → (m.tells → (image : List ℕ) → m.may_leave asked image → m.may_leave disk image)
+    → GoesOnPast m past is_new asked vault → GoesOnPast m past is_new disk vault
 asked_before m past is_new disk asked vault still on = record {
   before = on.before;
   counter = on.counter;
