@@ -44,7 +44,7 @@ use Rattle.cas_model.specs.Safe.{IsSafe}
 use Rattle.cas_model.specs.View.{Meaning, View, CallerView, era_at}
 use Rattle.cas_model.proofs.Safety.Parts.{at_low}
 use Rattle.cas_model.proofs.ViewLaws.{member_of}
-use Rattle.cas_model_stops.specs.Stopped.{AreLeft, HasPrepareQuorum, HoldSettled, StartedAreWhole, WhatStoppedHold}
+use Rattle.cas_model_stops.specs.Stopped.{AreLeft, HasPrepareQuorum, HoldSettled, StartedAreWhole, StoppedAreClear, WhatStoppedHold}
 use Rattle.cas_model_stops.proofs.Drawing.{MayRead, BeginsWithSettled, left_tells, all_may_tell, begins_with_settled}
 use Rattle.cas_model_stops.proofs.Floors.{same_prefix, none_begins, opening_is_held}
 
@@ -80,6 +80,59 @@ clear_by cluster global id key floor number contents history same member low has
     subst (λ (c : Contents). IsNoneOrAbove floor (accepted_ballot (accepted_at c key))) same
     (subst (λ (s : SlotTold). IsNoneOrAbove floor s.accepted) ((history.tells id).slots key)
     (accepted_after cluster global.log id key floor history.lawful history.orderly (known.clear number id (low known.era known.all_in) member)))
+
+-- the desk of a proposer
+desk_of : {S V : Type 0} (m : Meaning S V) (view : View S V) (proposer : ℕ) → IsSafe view → (is : IsRemembered m view) → proposer ≤ view.last_proposer → (desk : DeskView V) × (caller : CallerView)
+    × IsDeskTrue m is.followed.cluster is.followed.logged.global.log is.followed.logged.global.made (era_at view proposer).number proposer caller (queue_at view.flow proposer).messages desk
+desk_of m view proposer safe is known =
+    let desk = at_low view.desks proposer (omega (arith, known, safe.sound.desks)) in
+    let caller = at_low view.callers proposer (omega (arith, known, safe.sound.callers)) in
+    (desk.0, caller.0, is.followed.logged.agrees.desks proposer desk.0 caller.0 desk.1 caller.1)
+
+-- the same of what a member of such an era may have left
+clear_left : {S V : Type 0} (m : Meaning S V) (view : View S V) (proposer id : ℕ) (key : List ℕ) (floor : Ballot) (contents : Contents) → IsSafe view →
+    (is : IsRemembered m view) → proposer ≤ view.last_proposer
+    → (has_member (era_at view proposer).prep id ≡ true) ⊎ (has_member (era_at view proposer).acc id ≡ true) → IsLeft is.followed.logged.global.log id (is.followed.logged.global.kept id) (Ok contents)
+    → HasFloor key floor (marks_of is.followed.logged.global.log) → IsNoneOrAbove floor (accepted_ballot (accepted_at contents key))
+clear_left {S} {V} m view proposer id key floor contents safe is known member left has = by_left left
+  where
+    low_era : (marks : List Mark) → marks ≡ marks_of is.followed.logged.global.log → (all : ℕ) → (all ≡ 0) ⊎ AllEntered is.followed.cluster all marks → all ≤ (era_at view proposer).number
+    low_era marks same all entered =
+        let of = (desk_of m view proposer safe is known).2 in
+        all_in_low is.followed.cluster is.followed.logged.global.log all proposer (era_at view proposer).number is.followed.logged.history.lawful of.known of.vault.not_beyond
+        (subst (λ (l : List Mark). (all ≡ 0) ⊎ AllEntered is.followed.cluster all l) same entered)
+
+    in_era : has_member (is.followed.cluster.members (era_at view proposer).number) id ≡ true
+    in_era = member_of m view is proposer id known member
+
+    by_left : IsLeft is.followed.logged.global.log id (is.followed.logged.global.kept id) (Ok contents) → IsNoneOrAbove floor (accepted_ballot (accepted_at contents key))
+    by_left (inl same) = clear_by is.followed.cluster is.followed.logged.global id key floor (era_at view proposer).number contents is.followed.logged.history (sym (ok_is same)) in_era
+        (low_era (marks_of is.followed.logged.global.log) refl) has
+    by_left (inr half) =
+        let h = half.1 in
+        let to = h.request.to in
+        let row : Handles (is.followed.logged.global.kept to) h.request h.answer half.0 =
+        subst (λ (n : ℕ). Handles (is.followed.logged.global.kept n) h.request h.answer half.0) (sym h.was_asked.to) h.row in
+        let marks : marks_of (done_log to (is.followed.logged.global.kept to) h.request h.answer is.followed.logged.global.log) ≡ marks_of is.followed.logged.global.log =
+        deeds_marks to (is.followed.logged.global.kept to) is.followed.logged.global.log h.request.ask h.answer in
+        let now : GlobalState =
+        record {
+          log = done_log to (is.followed.logged.global.kept to) h.request h.answer is.followed.logged.global.log;
+          kept = kept_but is.followed.logged.global.kept to half.0;
+          made = is.followed.logged.global.made;
+        } in
+        let there : HasHistory is.followed.cluster now =
+        keeps is.followed.cluster is.followed.logged.meets is.followed.logged.global is.followed.logged.history (StopsWithin h.request h.answer half.0 h.was_asked.asked row) in
+        let kept : kept_but is.followed.logged.global.kept to half.0 id ≡ contents =
+        ap (kept_but is.followed.logged.global.kept to half.0) (sym h.was_asked.to) ∙ if_true (to == to) half.0 (is.followed.logged.global.kept to) (nat_is {a = to} refl) ∙ sym (ok_is half.2) in
+        clear_by is.followed.cluster now id key floor (era_at view proposer).number contents there kept in_era (low_era (marks_of now.log) marks) (subst (HasFloor key floor) (sym marks) has)
+
+pub stopped_are_clear : {S V : Type 0} (m : Meaning S V) → StoppedAreClear m
+stopped_are_clear m tells view key floor proposer id acceptor contents safe is has known member at started may =
+    let log = is.followed.logged.global.log in
+    clear_left m view proposer id key floor contents safe is known member
+    (left_of m log id (is.followed.logged.global.kept id) acceptor tells (is.followed.logged.agrees.acceptors id acceptor at) started (Ok contents) may)
+    (subst (HasFloor key floor) (sym is.followed.logged.agrees.marks) has)
 
 -- ---- floors
 greater_zero : (ballot : Ballot) → greater_of zero_ballot ballot ≡ ballot
@@ -131,12 +184,6 @@ module _ {S V : Type 0} (m : Meaning S V) (view : View S V) (proposer : ℕ) (by
   abbrev told : ℕ → Ballot
   told id = accepted_ballot (accepted_at (left id) key)
 
-  desk_of : (desk : DeskView V) × (caller : CallerView) × IsDeskTrue m cluster log global.made number proposer caller (queue_at view.flow proposer).messages desk
-  desk_of =
-      let desk = at_low view.desks proposer (omega (arith, known, safe.sound.desks)) in
-      let caller = at_low view.callers proposer (omega (arith, known, safe.sound.callers)) in
-      (desk.0, caller.0, is.followed.logged.agrees.desks proposer desk.0 caller.0 desk.1 caller.1)
-
   is_left : (id : ℕ) → has_member by id ≡ true → IsLeft log id (global.kept id) (Ok (left id))
   is_left id member =
       let of = are id member in
@@ -148,35 +195,14 @@ module _ {S V : Type 0} (m : Meaning S V) (view : View S V) (proposer : ℕ) (by
   state_of : (id : ℕ) → has_member by id ≡ true → IsAcceptedState (marks_of log) key (accepted_at (left id) key)
   state_of id member = let there = on id member in subst (λ (marks : List Mark). IsAcceptedState marks key (accepted_at (left id) key)) there.2 (there.1.tells.states key)
 
-  low_era : (marks : List Mark) → marks ≡ marks_of log → (all : ℕ) → (all ≡ 0) ⊎ AllEntered cluster all marks → all ≤ number
-  low_era marks same all entered =
-      let of = desk_of.2 in
-      all_in_low cluster log all proposer number history.lawful of.known of.vault.not_beyond (subst (λ (l : List Mark). (all ≡ 0) ⊎ AllEntered cluster all l) same entered)
-
   clear : (id : ℕ) → has_member by id ≡ true → (floor : Ballot) → HasFloor key floor (marks_of log) → IsNoneOrAbove floor (told id)
-  clear id member floor has = by_left (is_left id member)
-    where
-      in_era : has_member (cluster.members number) id ≡ true
-      in_era = member_of m view is proposer id known (quorum.members id member)
-
-      by_left : IsLeft log id (global.kept id) (Ok (left id)) → IsNoneOrAbove floor (told id)
-      by_left (inl same) = clear_by cluster global id key floor number (left id) history (sym (ok_is same)) in_era (low_era (marks_of log) refl) has
-      by_left (inr half) =
-          let h = half.1 in
-          let to = h.request.to in
-          let row : Handles (global.kept to) h.request h.answer half.0 = subst (λ (n : ℕ). Handles (global.kept n) h.request h.answer half.0) (sym h.was_asked.to) h.row in
-          let marks : marks_of (done_log to (global.kept to) h.request h.answer log) ≡ marks_of log = deeds_marks to (global.kept to) log h.request.ask h.answer in
-          let now : GlobalState = record { log = done_log to (global.kept to) h.request h.answer log; kept = kept_but global.kept to half.0; made = global.made } in
-          let there : HasHistory cluster now = keeps cluster is.followed.logged.meets global history (StopsWithin h.request h.answer half.0 h.was_asked.asked row) in
-          let kept : kept_but global.kept to half.0 id ≡ left id =
-          ap (kept_but global.kept to half.0) (sym h.was_asked.to) ∙ if_true (to == to) half.0 (global.kept to) (nat_is {a = to} refl) ∙ sym (ok_is half.2) in
-          clear_by cluster now id key floor number (left id) there kept in_era (low_era (marks_of now.log) marks) (subst (HasFloor key floor) (sym marks) has)
+  clear id member floor has = clear_left m view proposer id key floor (left id) safe is known (quorum.members id member) (is_left id member) has
 
   -- ---- what a proposal on it would read
   may_read : (read : Ballot) → ((id : ℕ) → has_member by id ≡ true → BallotAtMost (told id) read) → (read ≡ zero_ballot) ⊎ IsMade key read (marks_of log)
       → MayRead cluster log key proposer number by told read
   may_read read most stands =
-      let of = desk_of.2 in
+      let of = (desk_of m view proposer safe is known).2 in
       record {
         known = of.known;
         is_in = of.vault.is_in;
@@ -267,7 +293,7 @@ module _ {S V : Type 0} (m : Meaning S V) (view : View S V) (proposer : ℕ) (by
             (same_prefix (settled_of key (marks_of log)) (chain_of key (floor_below key next.ballot (marks_of log)) (marks_of log)) begins back) ∙ sym empty.1.state_is
         | inr opened ↦
             let held = opening_is_held cluster is.followed.logged.meets log key (floor_below key next.ballot (marks_of log)) proposer number by left history.lawful history.orderly opened low
-            ((is.followed.logged.agrees.eras proposer known).prepares by ∙ quorum.quorum) desk_of.2.vault.is_in on begins in
+            ((is.followed.logged.agrees.eras proposer known).prepares by ∙ quorum.quorum) (desk_of m view proposer safe is known).2.vault.is_in on begins in
             absurd (less_not_at_most opened.some (subst (BallotAtMost (floor_below key next.ballot (marks_of log))) (zeros held.0 held.1) held.2))
       ]
 

@@ -1,5 +1,6 @@
 -- What acceptors that stopped still hold of what is settled.
 use Rattle.std.specs.Prelude.{◌≡◌, ◌⊎◌, ◌≤◌, ℕ, true, List, reverse, Some, Ok}
+use Rattle.cas_ballot.specs.declared.ballot.Ballot.{Ballot}
 use Rattle.cas_ballot.specs.Ballot.{zero_ballot, BallotAtMost, BallotLess}
 use Rattle.cas_ballot.specs.Members.{has_member}
 use Rattle.cas_change.specs.declared.state.State.TheVariants.{Empty}
@@ -14,6 +15,8 @@ use Rattle.cas_acceptor.specs.Acceptor.{AcceptorView}
 use Rattle.cas_record.specs.declared.mark.Mark.{Mark}
 use Rattle.cas_record.specs.Histories.Chain.{chain_of, settled_of}
 use Rattle.cas_record.specs.Histories.Replay.{replay_from, opening_state}
+use Rattle.cas_record.specs.Legal.{HasFloor}
+use Rattle.cas_record.specs.Logs.Orderly.{IsNoneOrAbove}
 use Rattle.cas_record.specs.Places.{IsPrefix}
 use Rattle.cas_model.specs.History.{IsRemembered}
 use Rattle.cas_model.specs.Safe.{IsSafe}
@@ -40,6 +43,12 @@ pub record HoldSettled (marks : List Mark) (by : List ℕ) (left : ℕ → Conte
 abbrev pub StartedAreWhole : {S V : Type 0} → Meaning S V → Type 0
 StartedAreWhole {S} {V} m = m.shelves.tells → (view : View S V) (id : ℕ) (acceptor : AcceptorView S) → IsRemembered m view → IsAt view.acceptors id acceptor → acceptor.started ≡ true
     → (left : Left) → m.shelves.may_leave acceptor.shelf left → (contents : Contents) × (left ≡ Ok contents)
+
+-- Whatever a member of an era in which a proposer works may have left, up or not, it accepted nothing of the key below a floor of it.
+abbrev pub StoppedAreClear : {S V : Type 0} → Meaning S V → Type 0
+StoppedAreClear {S} {V} m = m.shelves.tells → (view : View S V) (key : List ℕ) (floor : Ballot) (proposer id : ℕ) (acceptor : AcceptorView S) (contents : Contents) → IsSafe view → IsRemembered m view
+    → HasFloor key floor (reverse view.marks) → proposer ≤ view.last_proposer → (has_member (era_at view proposer).prep id ≡ true) ⊎ (has_member (era_at view proposer).acc id ≡ true)
+    → IsAt view.acceptors id acceptor → acceptor.started ≡ true → m.shelves.may_leave acceptor.shelf (Ok contents) → IsNoneOrAbove floor (accepted_ballot (accepted_at contents key))
 
 -- Members of an era in which a proposer works hold what is settled, if a prepare quorum of that era is among them, whatever each may have left.
 abbrev pub WhatStoppedHold : {S V : Type 0} → Meaning S V → Type 0

@@ -146,7 +146,8 @@ wrote_no_answer gives meant tries first start source P input left old new reader
 
 -- the answer of the next line could not be written whole
 pub wrote_front : {S H V : Type 0} (gives : S → Taken → S → Type 0) (meant : Meaning H V) (tries : ℕ) (first : State H V) (start source : S) (P : List (List ℕ) → Type 0) (input left old held new : Option (List ℕ)) (reader : LinesState) (state : State H V) (stage : Stage H V) (line : List ℕ) (number : ℕ) (text : List ℕ)
-    → IsNextLine gives meant tries first start source input reader left old held state line number → AnswersLine meant tries state line number text stage → AppendsFront held new text → EndsIn meant tries P input old new first stage status.WriteFault
+    → IsNextLine gives meant tries first start source input reader left old held state line number → AnswersLine meant tries state line number text stage
+    → AppendsFront held new text → EndsIn meant tries P input old new first stage status.WriteFault
 wrote_front gives meant tries first start source P input left old held new reader state stage line number text n a part = record {
   last = a.new;
   is_in = a.is_in;
@@ -199,7 +200,8 @@ fault_ends gives meant tries first start source input left old new reader world 
 fault_ends gives meant tries first start source input left old new reader world fault.NoMemory at many endless (TooLong line) is = absurd cc
 
 -- a run that nothing hinders ends by its input, or finds no memory, or a disk is not as it must be
-pub completes_of : (input : Option (List ℕ)) (result : Status) (read wrote : Type 0) → (result ≡ status.Usage → ⊥) → (result ≡ status.ReadFault → read) → (result ≡ status.WriteFault → wrote)
+pub completes_of : (input : Option (List ℕ)) (result : Status) (read wrote : Type 0) → (result ≡ status.Usage → ⊥) → (result ≡ status.ReadFault → read)
+    → (result ≡ status.WriteFault → wrote)
     → ((ending : Ending) → result ≡ status_of ending → IfSome input (λ bytes. ending_of bytes ≡ ending)) → (read → ⊥) → (wrote → ⊥)
     → IfSome input (λ bytes. (result ≡ status_of (ending_of bytes)) ⊎ (result ≡ status.NoMemory) ⊎ IsOfDisk result)
 completes_of None result read wrote usage read_fault write_fault ends no_read no_write = tt
@@ -219,7 +221,8 @@ no_end Whole is = cc is
 no_end TooMany is = cc is
 no_end (TooLong line) is = cc is
 
-pub no_memory_completes : (input : Option (List ℕ)) → IfSome input (λ bytes. (status.NoMemory ≡ status_of (ending_of bytes)) ⊎ (status.NoMemory ≡ status.NoMemory) ⊎ IsOfDisk status.NoMemory)
+pub no_memory_completes : (input : Option (List ℕ))
+    → IfSome input (λ bytes. (status.NoMemory ≡ status_of (ending_of bytes)) ⊎ (status.NoMemory ≡ status.NoMemory) ⊎ IsOfDisk status.NoMemory)
 no_memory_completes None = tt
 no_memory_completes (Some bytes) = inr (inl refl)
 
@@ -236,21 +239,24 @@ load_completes_of status.NoMemory ends no_write = inr (inl refl)
 load_completes_of (status.Endless line) ends no_write = absurd ends
 
 -- the statuses with which a summary is written or not
-pub summed_ends : {S V : Type 0} {meant : Meaning S V} {load : Load} {old new : Option (List ℕ)} {world last : View S V} (result : Status) → WroteSummary meant load old new world last result → LoadEnds result
+pub summed_ends : {S V : Type 0} {meant : Meaning S V} {load : Load} {old new : Option (List ℕ)} {world last : View S V} (result : Status)
+    → WroteSummary meant load old new world last result → LoadEnds result
 summed_ends result (whole summary sums wrote) = tt
 summed_ends result (sink_failed summary sums wrote) = tt
 summed_ends result (no_text summary sums same) = tt
 summed_ends result (broke_off breaks same) = tt
 
 -- a run that ends well ends by the end of its input
-pub ends_whole : (input : Option (List ℕ)) → IfSome input (λ bytes. ending_of bytes ≡ Whole) → (ending : Ending) → status.Ok ≡ status_of ending → IfSome input (λ bytes. ending_of bytes ≡ ending)
+pub ends_whole : (input : Option (List ℕ)) → IfSome input (λ bytes. ending_of bytes ≡ Whole) → (ending : Ending) → status.Ok ≡ status_of ending
+    → IfSome input (λ bytes. ending_of bytes ≡ ending)
 ends_whole input ends Whole is = ends
 ends_whole input ends TooMany is = absurd (cc is)
 ends_whole input ends (TooLong line) is = absurd (cc is)
 
 -- ---- the store is taken apart
 pub ran_from : {D : Type 0} (meant : Meaning (DiskShelf D) D) (tells : Type 0) (tries made : ℕ) (P : List (List ℕ) → Type 0) (input old new : Option (List ℕ)) (world closed : View (DiskShelf D) D) (stage : Stage (DiskShelf D) D) (marks : List Mark) (result : Status) (back : Rack D) → made ≡ tries
-    → closed ≡ stage.world → EndsIn meant made P input old new (opening_state world) stage result → marks ≡ closed.marks → (tells → IsLegal (reverse marks)) → (tells → AreKept meant.disks.may_leave (reverse marks) back.acceptors.items) → back.acceptors.items ≡ acceptor_disks closed.acceptors
+    → closed ≡ stage.world → EndsIn meant made P input old new (opening_state world) stage result → marks ≡ closed.marks → (tells → IsLegal (reverse marks))
+    → (tells → AreKept meant.disks.may_leave (reverse marks) back.acceptors.items) → back.acceptors.items ≡ acceptor_disks closed.acceptors
     → take (closed.last_proposer + 1) back.vaults.items ≡ disks_of closed.desks → Ran meant tells tries P input old new world result back
 ran_from {D} meant tells tries made P input old new world closed stage marks result back tries_are is ends marks_are legal kept acceptors vaults =
     let e : EndsIn meant tries P input old new (opening_state world) stage result = subst (λ (n : ℕ). EndsIn meant n P input old new (opening_state world) stage result) tries_are ends in
@@ -265,7 +271,8 @@ ran_from {D} meant tells tries made P input old new world closed stage marks res
 
 -- the same of a load
 pub loaded_from : {D : Type 0} (meant : Meaning (DiskShelf D) D) (tells : Type 0) (load : Load) (old new : Option (List ℕ)) (world closed : View (DiskShelf D) D) (marks : List Mark) (result : Status) (back : Rack D) → WroteSummary meant load old new world closed result → marks ≡ closed.marks → (tells → IsLegal (reverse marks))
-    → (tells → AreKept meant.disks.may_leave (reverse marks) back.acceptors.items) → back.acceptors.items ≡ acceptor_disks closed.acceptors → take (closed.last_proposer + 1) back.vaults.items ≡ disks_of closed.desks → Loaded meant tells load old new world result back
+    → (tells → AreKept meant.disks.may_leave (reverse marks) back.acceptors.items) → back.acceptors.items ≡ acceptor_disks closed.acceptors
+    → take (closed.last_proposer + 1) back.vaults.items ≡ disks_of closed.desks → Loaded meant tells load old new world result back
 loaded_from meant tells load old new world closed marks result back wrote marks_are legal kept acceptors vaults = record {
   last = closed;
   wrote = wrote;
@@ -301,6 +308,12 @@ no_race m asked given out options empty fault acceptors proposers are_acceptors 
     closed_still m asked given out empty fault acceptors proposers are_acceptors are_proposers is are_empty closed
 
 -- ---- by what was asked for
-pub wrote_by : {D : Type 0} (meant : Meaning (DiskShelf D) D) (m : RackMeaning D) (asked other : Request) (given : WentIn D) (out : CameOut D) → asked ≡ other → WroteBy meant m other given out
+pub wrote_by : {D : Type 0} (meant : Meaning (DiskShelf D) D) (m : RackMeaning D) (asked other : Request) (given : WentIn D) (out : CameOut D) → asked ≡ other
+    → WroteBy meant m other given out
     → Wrote meant m asked given out
 wrote_by meant m asked other given out is wrote = inr (subst (λ (r : Request). WroteBy meant m r given out) (sym is) wrote)
+
+-- the same command by another name
+pub wrote_of : {D : Type 0} (meant : Meaning (DiskShelf D) D) (m : RackMeaning D) {given : WentIn D} {out : CameOut D} (asked other : Request) → asked ≡ other
+    → Wrote meant m asked given out → Wrote meant m other given out
+wrote_of meant m {given} {out} asked other same wrote = subst (λ (r : Request). Wrote meant m r given out) same wrote

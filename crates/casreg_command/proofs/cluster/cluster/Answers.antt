@@ -1,11 +1,11 @@
 use Rattle.std.proofs.Common.{◌≡◌, ◌≢◌, [], Option, Some, map, string_bytes, refl, sym, ◌∙◌, subst, inl, inr}
 use Rattle.std.specs.Prelude.{MatchOption}
-use Rattle.casreg_command.specs.Causes.{ReadsLines, Wrote, no_words_read}
+use Rattle.casreg_command.specs.Causes.{ReadsLines, no_words_read}
 use Rattle.casreg_command.specs.Words.{AreWords, faults_of}
 use Rattle.casreg_command.specs.declared.words.Request.{Request}
 use Rattle.casreg_command.specs.declared.words.Request.TheVariants as request
 use Rattle.casreg_command.proofs.Blame.{blamed}
-use Rattle.casreg_command.proofs.Written.{stored, wrote_nothing, completes_of, load_completes_of, no_end, no_memory_completes}
+use Rattle.casreg_command.proofs.Written.{stored, wrote_nothing, wrote_of, completes_of, load_completes_of, no_end, no_memory_completes}
 use Rattle.cas_store.specs.Rack.{rack_meaning}
 use Rattle.casreg_command.proofs.cluster.cluster.Given.{Over}
 use Rattle.casreg_command.proofs.cluster.cluster.Goals as goal
@@ -22,7 +22,7 @@ reads_too g c asked reads words = subst ReadsLines (sym (only_one g c asked word
 
 pub returns-in-Ok-Some-clause-ran : goal.returns-in-Ok-Some-clause-ran
 returns-in-Ok-Some-clause-ran g c = record {
-  wrote = λ asked words. subst (λ (r : Request). Wrote (stored g.D.Disk) (rack_meaning g.D.Disk) r _ _) (only_one g c asked words) c.run.ensures.wrote;
+  wrote = λ asked words. wrote_of (stored g.D.Disk) (rack_meaning g.D.Disk) c.in-Ok-Some.request asked (only_one g c asked words) c.run.ensures.wrote;
   refused = λ differs. absurd (differs c.in-Ok-Some.request (are_words g c));
   causes = record {
     usage = λ is. absurd (c.run.ensures.usage is);
