@@ -1,5 +1,6 @@
 pub mod CourseSteps
 pub mod Courses
+pub mod Entering
 pub mod Finishing
 pub mod InEras
 pub mod ListingExamples

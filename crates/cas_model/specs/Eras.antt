@@ -1,4 +1,5 @@
 pub mod Course
+pub mod Entering
 pub mod Listed
 pub mod Listings
 pub mod Remaining

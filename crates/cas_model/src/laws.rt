@@ -5,6 +5,7 @@ ghost use Rattle.cas_model.specs.View.{meaning};
 ghost use Rattle.cas_model.specs.SafeLaws.{OpeningsAreSafe, OpeningsOnAreSafe, StepsAreSafe, LittleIsReserved, FullForRounds, FullForExchanges, FinishedHaveEntered};
 ghost use Rattle.cas_model.specs.Laws.{OpeningsAreRemembered, OpeningsOnAreRemembered, StepsAreRemembered, HistoriesAreLegal, WhatIsDoneIsKept, DonesStand, FloorsArePassed, MembersAreClear};
 ghost use Rattle.cas_model.specs.Collection.Laws.{RequestsAreAged, RemovalsAreDone, CollectedHaveFloors};
+ghost use Rattle.cas_model.specs.Eras.Entering.{ErasAreLawful};
 ghost use Rattle.cas_model.specs.Witness.{ShownHistory};
 
 use cas_disk::Disk;
@@ -58,6 +59,13 @@ pub fn floors_are_passed<S: Shelf, V: Disk>()
 /// now leaves of its shelf: it has no state of the key, or one at or above the floor.
 pub fn members_are_clear<S: Shelf, V: Disk>()
     ensures { MembersAreClear (meaning S.Shelf V.Disk) }
+{}
+
+/// Whoever is marked as in an era above the first was allowed to enter it: all proposers were in the era before it, unless that is the first,
+/// and each key that had been proposed in an earlier era was rescanned there, or has a floor at or above all its proposals of earlier eras.
+/// Whatever eras two proposers work in, a prepare quorum of the one and an accept quorum of the other share an acceptor.
+pub fn eras_are_lawful<S: Shelf, V: Disk>()
+    ensures { ErasAreLawful (meaning S.Shelf V.Disk) }
 {}
 
 /// What is under way to such a member for the key, at a ballot at or below a floor of it, is too old for the member: its age is below the

@@ -5,6 +5,7 @@ ghost use Rattle.cas_flow.specs.Flow.{abandoned};
 ghost use Rattle.cas_quorum.specs.Era.{majority_era};
 ghost use Rattle.cas_model.specs.Council.{OrderView};
 ghost use Rattle.cas_model.specs.Eras.Course.{entering};
+ghost use Rattle.cas_model.specs.Eras.Entering.{AreErasLawful};
 ghost use Rattle.cas_model.specs.Step.{Step, RefuseKey, OpenPlan as OpensPlan, EnterEra as EntersNext};
 ghost use Rattle.cas_model.specs.Calls.Desks.{EntersEra, FailsToEnter};
 ghost use Rattle.cas_model.specs.Exchanges.Step.{told_view};
@@ -206,12 +207,17 @@ impl<S: Shelf, V: Disk> World<S, V> {
     /// The refusals, each of which the call is told, come in this order: [`Answer::RecordFull`] exactly where the marks that are made and
     /// all that are reserved are as many as a record holds; [`OpAnswer::ProposerDown`] exactly where the proposer is down, or goes down
     /// in this step, and then its open round is closed as by a crash; [`Answer::NoMemory`]. After each of them the step is still due.
+    ///
+    /// Where the shelves and the disks tell what they keep, whoever is marked as in an era was allowed to enter it: all were in the era
+    /// before it, unless that is the first, and there each key of an earlier era was rescanned or is collected. The quorums of the eras that
+    /// proposers work in meet.
     pub fn enter_era(&mut self, proposer: u8) -> Result<(), OpAnswer>
         requires { MayEnterNext self.old proposer }
         ensures step { Step (meaning S.Shelf V.Disk) self.old (EntersNext proposer) self.new }
         ensures ok { OnOk result ((order : OrderView)
             → self.old.council.order ≡ Some order → IsUnderWay self.new order.asked) }
         ensures err { IfErr result (WasToldOrder self.new) }
+        ensures lawful { S.tells → V.tells → AreErasLawful self.new }
     {
         let reserved = reserved_in_all(&self.callers, &self.council);
         if self.record.marks().len() + reserved >= MOST_MARKS {

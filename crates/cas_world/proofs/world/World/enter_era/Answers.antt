@@ -8,7 +8,9 @@ use Rattle.cas_record.specs.declared.answer.Answer.TheVariants as answer
 use Rattle.cas_record.specs.declared.operator.OpAnswer.TheVariants as op
 use Rattle.cas_model.specs.Council.{OrderView}
 use Rattle.cas_model.specs.Eras.Course.{next_era}
+use Rattle.cas_model.specs.History.{IsRemembered}
 use Rattle.cas_model.specs.Safe.{IsSafe}
+use Rattle.cas_model.proofs.Eras.Entering.{lawful_then}
 use Rattle.cas_model.specs.Step as step
 use Rattle.cas_model.specs.Calls.Step.{most_marks}
 use Rattle.cas_model.specs.Exchanges.Step.{told_view}
@@ -148,3 +150,27 @@ pub returns-clause-err : goal.returns-clause-err
 returns-clause-err g c =
     subst (λ (i : ℕ). IfErr c.mark_move.result (WasToldOrder (view_of c.self.inside.setup.proposers c.mark_move.new.council c.self.inside.acceptors.items (slice_set c.self.inside.desks.items i c.move_on-moved.new.desk) (slice_set c.self.inside.callers.items i c.move_on-moved.new.caller) c.mark_move.new.flow c.mark_move.new.record))) (sym c.from-place.ensures)
     (entered_err (meaning g.S.Shelf g.V.Disk) c.self.inside.setup.proposers c.self.inside.council c.mark_move.new.council c.self.inside.acceptors.items c.self.inside.desks.items c.self.inside.callers.items c.self.inside.flow c.move_on-moved.new.flow c.mark_move.new.flow c.self.inside.record c.reserve.new.self c.mark_move.new.record c.args.proposer c.index_mut-desk.result.now c.move_on-moved.new.desk c.index_mut-caller.result.now c.move_on-moved.new.caller c.requires.plan c.in-Some.next (at_desk g c) (at_caller g c) c.requires.is_due (is_plan g c) (same_marks g c) (is_up g c) (fits g c) c.move_on-moved.result c.mark_move.result c.requires.order c.mark_move.ensures.moves (ap (λ (v : View g.row.S.Denot g.row.V.Denot). v.council.order) c.self.view_is ∙ c.requires.is_order))
+
+pub returns-then-marks-reserved-ge-MOST_MARKS-clause-lawful : goal.returns-then-marks-reserved-ge-MOST_MARKS-clause-lawful
+returns-then-marks-reserved-ge-MOST_MARKS-clause-lawful g c shelves vaults =
+    lawful_then (meaning g.S.Shelf g.V.Disk) (step.EnterEra c.args.proposer) (returns-then-marks-reserved-ge-MOST_MARKS-clause-step g c)
+    (subst (λ (v : View g.row.S.Denot g.row.V.Denot). IsSafe v) c.self.view_is c.self.invariant.safe)
+    (subst (λ (v : View g.row.S.Denot g.row.V.Denot). IsRemembered (meaning g.S.Shelf g.V.Disk) v) c.self.view_is (c.self.invariant.remembered shelves vaults)) shelves vaults
+
+pub returns-then-is_down-clause-lawful : goal.returns-then-is_down-clause-lawful
+returns-then-is_down-clause-lawful g c shelves vaults =
+    lawful_then (meaning g.S.Shelf g.V.Disk) (step.EnterEra c.args.proposer) (returns-then-is_down-clause-step g c)
+    (subst (λ (v : View g.row.S.Denot g.row.V.Denot). IsSafe v) c.self.view_is c.self.invariant.safe)
+    (subst (λ (v : View g.row.S.Denot g.row.V.Denot). IsRemembered (meaning g.S.Shelf g.V.Disk) v) c.self.view_is (c.self.invariant.remembered shelves vaults)) shelves vaults
+
+pub returns-then-is_err-clause-lawful : goal.returns-then-is_err-clause-lawful
+returns-then-is_err-clause-lawful g c shelves vaults =
+    lawful_then (meaning g.S.Shelf g.V.Disk) (step.EnterEra c.args.proposer) (returns-then-is_err-clause-step g c)
+    (subst (λ (v : View g.row.S.Denot g.row.V.Denot). IsSafe v) c.self.view_is c.self.invariant.safe)
+    (subst (λ (v : View g.row.S.Denot g.row.V.Denot). IsRemembered (meaning g.S.Shelf g.V.Disk) v) c.self.view_is (c.self.invariant.remembered shelves vaults)) shelves vaults
+
+pub returns-clause-lawful : goal.returns-clause-lawful
+returns-clause-lawful g c shelves vaults =
+    lawful_then (meaning g.S.Shelf g.V.Disk) (step.EnterEra c.args.proposer) (returns-clause-step g c)
+    (subst (λ (v : View g.row.S.Denot g.row.V.Denot). IsSafe v) c.self.view_is c.self.invariant.safe)
+    (subst (λ (v : View g.row.S.Denot g.row.V.Denot). IsRemembered (meaning g.S.Shelf g.V.Disk) v) c.self.view_is (c.self.invariant.remembered shelves vaults)) shelves vaults
