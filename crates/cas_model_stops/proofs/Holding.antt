@@ -306,5 +306,5 @@ module _ {S V : Type 0} (m : Meaning S V) (view : View S V) (proposer : ℕ) (by
   hold_settled = record { greatest = greatest; none = none }
 
 pub what_stopped_hold : {S V : Type 0} (m : Meaning S V) → WhatStoppedHold m
-what_stopped_hold m shelves disks view proposer by left safe is known quorum are key =
+what_stopped_hold m shelves disks view safe is proposer by left known quorum are key =
     subst (λ (marks : List Mark). HoldSettled marks by left key) is.followed.logged.agrees.marks (hold_settled m view proposer by left key shelves safe is known quorum are)

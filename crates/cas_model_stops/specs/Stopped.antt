@@ -51,6 +51,9 @@ StoppedAreClear {S} {V} m = m.shelves.tells → (view : View S V) (key : List �
     → IsAt view.acceptors id acceptor → acceptor.started ≡ true → m.shelves.may_leave acceptor.shelf (Ok contents) → IsNoneOrAbove floor (accepted_ballot (accepted_at contents key))
 
 -- Members of an era in which a proposer works hold what is settled, if a prepare quorum of that era is among them, whatever each may have left.
+abbrev pub SettledIsHeld : {S V : Type 0} → Meaning S V → View S V → Type 0
+SettledIsHeld {S} {V} m view = (proposer : ℕ) (by : List ℕ) (left : ℕ → Contents) → proposer ≤ view.last_proposer → HasPrepareQuorum (era_at view proposer) by → AreLeft m view by left → (key : List ℕ)
+    → HoldSettled (reverse view.marks) by left key
+
 abbrev pub WhatStoppedHold : {S V : Type 0} → Meaning S V → Type 0
-WhatStoppedHold {S} {V} m = m.shelves.tells → m.disks.tells → (view : View S V) (proposer : ℕ) (by : List ℕ) (left : ℕ → Contents) → IsSafe view → IsRemembered m view → proposer ≤ view.last_proposer
-    → HasPrepareQuorum (era_at view proposer) by → AreLeft m view by left → (key : List ℕ) → HoldSettled (reverse view.marks) by left key
+WhatStoppedHold {S} {V} m = m.shelves.tells → m.disks.tells → (view : View S V) → IsSafe view → IsRemembered m view → SettledIsHeld m view

@@ -10,7 +10,7 @@ ghost use Rattle.cas_disk_shelf.specs.Shelf.{disk_of};
 ghost use Rattle.cas_disk_shelf.specs.declared.shelf.DiskShelf.{DiskShelf};
 ghost use Rattle.cas_record.specs.Legal.{IsLegal};
 ghost use Rattle.cas_world.specs.Openings.Opening.{members_to, disks_of, AreDesksBelow};
-ghost use Rattle.cas_store.specs.Kept.{AreKept};
+ghost use Rattle.cas_store.specs.Kept.{AreHeld, AreKept};
 ghost use Rattle.cas_store.specs.Store.{acceptor_disks, AreReached, StaysClosed};
 
 use crate::rack::{ACCEPTORS, Rack};
@@ -94,12 +94,14 @@ impl<D: Disk> Store<D> {
 
     /// Hands back the record and the rack, with each disk in its place. It takes no memory. The record is legal, as that of
     /// [`World::record`]; and what is acknowledged in it stands on the disks of the acceptors that confirmed it, whatever a crash of them
-    /// leaves, until a floor is made at or above it.
+    /// leaves, until a floor is made at or above it. Members of an era in which a proposer works hold what is settled of each key on their
+    /// disks, whatever a crash leaves of these, if a prepare quorum of that era is among them.
     pub fn close(self) -> (Record, Rack<D>)
         ensures marks { result.0.marks ≡ self.world.marks }
         ensures legal { D.tells → IsLegal (reverse result.0.marks) }
         ensures kept { D.tells
             → AreKept D.may_leave (reverse result.0.marks) result.1.acceptors.items }
+        ensures held { D.tells → AreHeld D.may_leave self.world result.1.acceptors.items }
         ensures acceptors { result.1.acceptors.items ≡ acceptor_disks self.world.acceptors }
         ensures vaults { take (self.world.last_proposer + 1) result.1.vaults.items
             ≡ disks_of self.world.desks }

@@ -5,6 +5,7 @@ ghost use Rattle.cas_acceptor.specs.Acceptor.{AcceptorView};
 ghost use Rattle.cas_model.specs.SafeLaws.{HasPlaces};
 ghost use Rattle.cas_model.specs.Step.{IsOpening};
 ghost use Rattle.cas_model.specs.View.{CallerView, IsAt, era_at, meaning, disk_meaning, shelf_meaning};
+ghost use Rattle.cas_model_stops.specs.Stopped.{SettledIsHeld};
 ghost use Rattle.cas_model.specs.Laws.{AcknowledgedIsKept};
 ghost use Rattle.cas_ballot.specs.Members.{union_of};
 ghost use Rattle.cas_model.specs.Openings.{AreOpenings, IsOpeningOn};
@@ -223,7 +224,8 @@ impl<S: Shelf, V: Disk> World<S, V> {
 
     /// Hands back the record, the shelves and the disks of the vaults, each at the place of its number. The record is legal, as that of
     /// [`World::record`], and what is acknowledged in it stands on the shelves of those that confirmed it, whatever a crash then leaves,
-    /// until a floor is made at or above it.
+    /// until a floor is made at or above it. Members of an era in which a proposer works hold what is settled of each key, whatever a crash
+    /// then leaves of their shelves, if a prepare quorum of that era is among them.
     pub fn parts(self) -> (Record, Vec<S>, Vec<V>)
         ensures marks { result.0.marks ≡ self.marks }
         ensures legal { S.tells → V.tells → IsLegal (reverse result.0.marks) }
@@ -234,6 +236,7 @@ impl<S: Shelf, V: Disk> World<S, V> {
         ensures kept { S.tells → V.tells → (a : AnAcknowledgment) → Stands (Acked a)
             (reverse self.marks) → IsAboveFloors (reverse self.marks) a.key a.ballot
             → AcknowledgedIsKept (meaning S.Shelf V.Disk) self a }
+        ensures held { S.tells → V.tells → SettledIsHeld (meaning S.Shelf V.Disk) self }
     {
         let World {
             setup,

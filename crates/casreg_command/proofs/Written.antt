@@ -23,7 +23,7 @@ use Rattle.cas_model.specs.View.{View}
 use Rattle.cas_world.specs.Openings.Opening.{disks_of}
 use Rattle.cas_world.specs.declared.fault.OpenFault.{OpenFault}
 use Rattle.cas_world.specs.declared.fault.OpenFault.TheVariants as opening
-use Rattle.cas_store.specs.Kept.{AreKept}
+use Rattle.cas_store.specs.Kept.{AreHeld, AreKept}
 use Rattle.cas_store.specs.Rack.{RackMeaning, IsAllEmpty, IsNotEmpty}
 use Rattle.cas_store.specs.Store.{acceptor_disks, StaysClosed}
 use Rattle.cas_store.specs.declared.rack.RackFault.{RackFault}
@@ -256,9 +256,10 @@ ends_whole input ends (TooLong line) is = absurd (cc is)
 -- ---- the store is taken apart
 pub ran_from : {D : Type 0} (meant : Meaning (DiskShelf D) D) (tells : Type 0) (tries made : ℕ) (P : List (List ℕ) → Type 0) (input old new : Option (List ℕ)) (world closed : View (DiskShelf D) D) (stage : Stage (DiskShelf D) D) (marks : List Mark) (result : Status) (back : Rack D) → made ≡ tries
     → closed ≡ stage.world → EndsIn meant made P input old new (opening_state world) stage result → marks ≡ closed.marks → (tells → IsLegal (reverse marks))
-    → (tells → AreKept meant.disks.may_leave (reverse marks) back.acceptors.items) → back.acceptors.items ≡ acceptor_disks closed.acceptors
+    → (tells → AreKept meant.disks.may_leave (reverse marks) back.acceptors.items) → (tells → AreHeld meant.disks.may_leave closed back.acceptors.items)
+    → back.acceptors.items ≡ acceptor_disks closed.acceptors
     → take (closed.last_proposer + 1) back.vaults.items ≡ disks_of closed.desks → Ran meant tells tries P input old new world result back
-ran_from {D} meant tells tries made P input old new world closed stage marks result back tries_are is ends marks_are legal kept acceptors vaults =
+ran_from {D} meant tells tries made P input old new world closed stage marks result back tries_are is ends marks_are legal kept held acceptors vaults =
     let e : EndsIn meant tries P input old new (opening_state world) stage result = subst (λ (n : ℕ). EndsIn meant n P input old new (opening_state world) stage result) tries_are ends in
     let same : closed ≡ e.last.world = is ∙ e.is_in.world in
     record {
@@ -266,18 +267,21 @@ ran_from {D} meant tells tries made P input old new world closed stage marks res
       wrote = e.wrote;
       legal = λ tell. subst (λ (w : View (DiskShelf D) D). IsLegal (reverse w.marks)) same (subst (λ (l : List Mark). IsLegal (reverse l)) marks_are (legal tell));
       kept = λ tell. subst (λ (w : View (DiskShelf D) D). AreKept meant.disks.may_leave (reverse w.marks) back.acceptors.items) same (subst (λ (l : List Mark). AreKept meant.disks.may_leave (reverse l) back.acceptors.items) marks_are (kept tell));
+      held = λ tell. subst (λ (w : View (DiskShelf D) D). AreHeld meant.disks.may_leave w back.acceptors.items) same (held tell);
       rack = subst (λ (w : View (DiskShelf D) D). IsRackOf w back) same (record { acceptors = acceptors; vaults = vaults });
     }
 
 -- the same of a load
 pub loaded_from : {D : Type 0} (meant : Meaning (DiskShelf D) D) (tells : Type 0) (load : Load) (old new : Option (List ℕ)) (world closed : View (DiskShelf D) D) (marks : List Mark) (result : Status) (back : Rack D) → WroteSummary meant load old new world closed result → marks ≡ closed.marks → (tells → IsLegal (reverse marks))
-    → (tells → AreKept meant.disks.may_leave (reverse marks) back.acceptors.items) → back.acceptors.items ≡ acceptor_disks closed.acceptors
+    → (tells → AreKept meant.disks.may_leave (reverse marks) back.acceptors.items) → (tells → AreHeld meant.disks.may_leave closed back.acceptors.items)
+    → back.acceptors.items ≡ acceptor_disks closed.acceptors
     → take (closed.last_proposer + 1) back.vaults.items ≡ disks_of closed.desks → Loaded meant tells load old new world result back
-loaded_from meant tells load old new world closed marks result back wrote marks_are legal kept acceptors vaults = record {
+loaded_from meant tells load old new world closed marks result back wrote marks_are legal kept held acceptors vaults = record {
   last = closed;
   wrote = wrote;
   legal = λ tell. subst (λ (l : List Mark). IsLegal (reverse l)) marks_are (legal tell);
   kept = λ tell. subst (λ (l : List Mark). AreKept meant.disks.may_leave (reverse l) back.acceptors.items) marks_are (kept tell);
+  held = held;
   rack = record { acceptors = acceptors; vaults = vaults };
 }
 

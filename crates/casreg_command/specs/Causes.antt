@@ -1,6 +1,8 @@
 -- When each status comes, and what was written by then.
-use Rattle.std.specs.Prelude.{◌≡◌, ◌≢◌, [], ◌⊎◌, ◌+◌, ℕ, suc, List, ◌++◌, ⊤, length, reverse, take, Option, IfSome, Result}
+use Rattle.std.specs.Prelude.{◌≡◌, ◌≢◌, [], ◌⊎◌, ◌+◌, ℕ, suc, true, false, List, ◌++◌, ⊤, length, reverse, take, Option, IfSome, Result}
 use Rattle.std.specs.Io.KnownBytes.{Appends}
+use Rattle.cas_acceptor.specs.Acceptor.{AcceptorView}
+use Rattle.cas_ballot.specs.Members.{has_member}
 use Rattle.cas_base.specs.Faults.{Rose}
 use Rattle.cas_disk_shelf.specs.declared.shelf.DiskShelf.{DiskShelf}
 use Rattle.cas_lines.specs.declared.lines.TheConstants.{MOST_LINES}
@@ -14,7 +16,7 @@ use Rattle.cas_model.specs.SafeLaws.{HasPlaces}
 use Rattle.cas_model.specs.Step.{IsOpening}
 use Rattle.cas_world.specs.Openings.Opening.{members_to, disks_of, AreDesksBelow}
 use Rattle.cas_world.specs.declared.fault.OpenFault.{OpenFault}
-use Rattle.cas_store.specs.Kept.{AreKept}
+use Rattle.cas_store.specs.Kept.{AreHeld, AreKept}
 use Rattle.cas_store.specs.Rack.{RackMeaning, IsAllEmpty, IsNotEmpty}
 use Rattle.cas_store.specs.Store.{acceptor_disks, AreReached, StaysClosed}
 use Rattle.cas_store.specs.declared.rack.Rack.{Rack}
@@ -176,13 +178,14 @@ pub record EndsIn {S V : Type 0} (meant : Meaning S V) (tries : ℕ) (HadEnded :
 
 -- ---- the world of a run
 -- A world of so many acceptors and proposers in which nothing has happened, over the disks of a rack: each acceptor and each proposer on
--- the disk at the place of its number, of which those of the members and of the proposers were started.
+-- the disk at the place of its number, of which those of the members and of the proposers were started. The members are up.
 pub record IsNewOver {D : Type 0} (meant : Meaning (DiskShelf D) D) (acceptors proposers : ℕ) (rack : Rack D) (world : View (DiskShelf D) D) : Type 0 where
   pub opening : IsOpening meant (members_to acceptors) world
   pub places : HasPlaces world
   pub last_proposer : world.last_proposer ≡ proposers
   pub shelves : AreReached meant.disks.faults 1 (acceptors + 1) rack.acceptors.items (acceptor_disks world.acceptors)
   pub vaults : AreDesksBelow meant.disks meant.disks.faults rack.vaults.items (proposers + 1) world.desks
+  pub up : (id : ℕ) (acceptor : AcceptorView (DiskShelf D)) → IsAt world.acceptors id acceptor → has_member (members_to acceptors) id ≡ true → acceptor.down ≡ false
 
 -- the rack that comes back holds the disks of the world, each at its place
 pub record IsRackOf {D : Type 0} (world : View (DiskShelf D) D) (rack : Rack D) : Type 0 where
@@ -196,6 +199,7 @@ pub record Ran {D : Type 0} (meant : Meaning (DiskShelf D) D) (tells : Type 0) (
   pub wrote : WroteIn meant tries HadEnded input old new (opening_state world) last result
   pub legal : tells → IsLegal (reverse last.world.marks)
   pub kept : tells → AreKept meant.disks.may_leave (reverse last.world.marks) back.acceptors.items
+  pub held : tells → AreHeld meant.disks.may_leave last.world back.acceptors.items
   pub rack : IsRackOf last.world back
 
 -- ---- a load
@@ -214,6 +218,7 @@ pub record Loaded {D : Type 0} (meant : Meaning (DiskShelf D) D) (tells : Type 0
   pub wrote : WroteSummary meant load old new world last result
   pub legal : tells → IsLegal (reverse last.marks)
   pub kept : tells → AreKept meant.disks.may_leave (reverse last.marks) back.acceptors.items
+  pub held : tells → AreHeld meant.disks.may_leave last back.acceptors.items
   pub rack : IsRackOf last back
 
 -- ---- a race

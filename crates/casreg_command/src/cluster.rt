@@ -58,11 +58,12 @@ pub fn cluster<R: Threads + Wait + Sync, S: Source, K: Sink, D: Disk + Send + Dr
     requires acceptors { vec_len rack.acceptors ≡ 64 }
     requires vaults { vec_len rack.vaults ≡ 17 }
     requires fates { vec_len fates.old ≡ 17 }
-    // Of a script, what was written is the transcript of a script run over the lines of the input, in a new world over the rack's disks; the record of
+    // Of a script, what was written is the transcript of a script run over the lines of the input, in a new world over the rack's disks, whose members
+    // are up; the record of
     // that run is legal, along it each change line that nothing stood against was answered done, or that there was no memory, where the
     // members and its proposer were up after it, and the rack that comes back holds the disks of its last world. Where the source failed
     // these are all lines that had ended by then, and no others. Of a load, what was written is the summary of the answers of the load run
-    // over the lines that its seed draws, in a new world over the rack's disks; the record of that run is legal, and the rack that comes back
+    // over the lines that its seed draws, in a new world over the rack's disks, whose members are up; the record of that run is legal, and the rack that comes back
     // holds the disks of its last world. Of a race, what was written is the text of a legal record in which each caller's own marks are those of
     // what its lines ask for, in their order, with the answers that are written, and tell of no more losses than its fate counted harms.
     ensures ran { RanCommand (meaning ⟦<DiskShelf<D> as Shelf>⟧ D.Disk) (rack_meaning D.Disk)

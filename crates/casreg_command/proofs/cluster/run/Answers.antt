@@ -32,7 +32,7 @@ load_store-requires-clause-quiet g c = new_quiet _ _ c.in-Ok-open-2.store.world 
 pub returns-in-Ok-clause-wrote : goal.returns-in-Ok-clause-wrote
 returns-in-Ok-clause-wrote g c = wrote_by (stored g.D.Disk) (rack_meaning g.D.Disk) c.args.request (request.Script c.in-Script.options) _ _ c.in-Script.is (ran_over c.in-Script.options c.expect_empty.new.self c.in-Ok.store.world c.in_default.ensures.ok
     (new_of c.config_of-config.result.acceptors c.config_of-config.result.proposers c.args.request (request.Script c.in-Script.options) c.config_of-config.ensures.acceptors c.config_of-config.ensures.proposers c.in-Script.is
-    (record { opening = c.in-Ok.ensures.opening; places = c.in-Ok.ensures.places; last_proposer = c.in-Ok.ensures.last_proposer; shelves = c.in-Ok.ensures.acceptors; vaults = c.in-Ok.ensures.vaults }))
+    (record { opening = c.in-Ok.ensures.opening; places = c.in-Ok.ensures.places; last_proposer = c.in-Ok.ensures.last_proposer; shelves = c.in-Ok.ensures.acceptors; vaults = c.in-Ok.ensures.vaults; up = c.in-Ok.ensures.up }))
     c.run_script.ensures.ran)
 
 pub returns-in-Ok-open-2-clause-wrote : goal.returns-in-Ok-open-2-clause-wrote
@@ -41,7 +41,7 @@ returns-in-Ok-open-2-clause-wrote g c = wrote_by (stored g.D.Disk) (rack_meaning
   empty = c.in_default.ensures.ok;
   world = c.in-Ok-open-2.store.world;
   over = new_of c.config_of-config.result.acceptors c.config_of-config.result.proposers c.args.request (request.Load c.in-Load.load) c.config_of-config.ensures.acceptors c.config_of-config.ensures.proposers c.in-Load.is
-      (record { opening = c.in-Ok-open-2.ensures.opening; places = c.in-Ok-open-2.ensures.places; last_proposer = c.in-Ok-open-2.ensures.last_proposer; shelves = c.in-Ok-open-2.ensures.acceptors; vaults = c.in-Ok-open-2.ensures.vaults });
+      (record { opening = c.in-Ok-open-2.ensures.opening; places = c.in-Ok-open-2.ensures.places; last_proposer = c.in-Ok-open-2.ensures.last_proposer; shelves = c.in-Ok-open-2.ensures.acceptors; vaults = c.in-Ok-open-2.ensures.vaults; up = c.in-Ok-open-2.ensures.up });
   loaded = c.load_store.ensures.loaded;
 })
 

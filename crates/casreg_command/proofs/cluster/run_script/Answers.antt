@@ -10,7 +10,8 @@ use Rattle.casreg_command.proofs.cluster.run_script.Goals as goal
 pub returns-in-Ok-clause-ran : goal.returns-in-Ok-clause-ran
 returns-in-Ok-clause-ran g c =
     ran_from (stored g.D.Disk) g.D.Disk.tells c.args.options.tries c.new-script.result.tries _ _ _ _ c.args.store.world c.into_world.result c.answer_lines-answered.new.script c.close-record.result.0.marks status.Ok c.close-record.result.1 c.new-script.ensures.tries c.into_world.ensures
-    (c.in-Ok.ensures.all (opening_state c.args.store.world) c.new-script.ensures.state) c.close-record.ensures.marks c.close-record.ensures.legal c.close-record.ensures.kept c.close-record.ensures.acceptors c.close-record.ensures.vaults
+    (c.in-Ok.ensures.all (opening_state c.args.store.world) c.new-script.ensures.state) c.close-record.ensures.marks c.close-record.ensures.legal
+    c.close-record.ensures.kept c.close-record.ensures.held c.close-record.ensures.acceptors c.close-record.ensures.vaults
 
 pub returns-in-Ok-clause-ends : goal.returns-in-Ok-clause-ends
 returns-in-Ok-clause-ends g c = ends_whole _ c.in-Ok.ensures.whole
@@ -18,7 +19,8 @@ returns-in-Ok-clause-ends g c = ends_whole _ c.in-Ok.ensures.whole
 pub returns-clause-ran : goal.returns-clause-ran
 returns-clause-ran g c =
     ran_from (stored g.D.Disk) g.D.Disk.tells c.args.options.tries c.new-script.result.tries _ _ _ _ c.args.store.world c.into_world.result c.answer_lines-answered.new.script c.close-record.result.0.marks c.in-Err.status c.close-record.result.1 c.new-script.ensures.tries c.into_world.ensures
-    (c.in-Err.ensures.wrote (opening_state c.args.store.world) c.new-script.ensures.state) c.close-record.ensures.marks c.close-record.ensures.legal c.close-record.ensures.kept c.close-record.ensures.acceptors c.close-record.ensures.vaults
+    (c.in-Err.ensures.wrote (opening_state c.args.store.world) c.new-script.ensures.state) c.close-record.ensures.marks c.close-record.ensures.legal
+    c.close-record.ensures.kept c.close-record.ensures.held c.close-record.ensures.acceptors c.close-record.ensures.vaults
 
 pub returns-clause-read_fault : goal.returns-clause-read_fault
 returns-clause-read_fault g c is = c.in-Err.ensures.read_fault (ap (λ (s : Status). Err s) is)

@@ -10,12 +10,14 @@ use Rattle.casreg_command.proofs.load.load_store.Goals as goal
 pub returns-in-Ok-clause-loaded : goal.returns-in-Ok-clause-loaded
 returns-in-Ok-clause-loaded g c =
     loaded_from (stored g.D.Disk) g.D.Disk.tells c.args.load _ _ c.args.store.world c.write_summary-written.new.world c.close-record.result.0.marks status.Ok c.close-record.result.1
-    c.in-Ok.ensures.all c.close-record.ensures.marks c.close-record.ensures.legal c.close-record.ensures.kept c.close-record.ensures.acceptors c.close-record.ensures.vaults
+    c.in-Ok.ensures.all c.close-record.ensures.marks c.close-record.ensures.legal
+    c.close-record.ensures.kept c.close-record.ensures.held c.close-record.ensures.acceptors c.close-record.ensures.vaults
 
 pub returns-clause-loaded : goal.returns-clause-loaded
 returns-clause-loaded g c =
     loaded_from (stored g.D.Disk) g.D.Disk.tells c.args.load _ _ c.args.store.world c.write_summary-written.new.world c.close-record.result.0.marks c.in-Err.status c.close-record.result.1
-    c.in-Err.ensures.wrote c.close-record.ensures.marks c.close-record.ensures.legal c.close-record.ensures.kept c.close-record.ensures.acceptors c.close-record.ensures.vaults
+    c.in-Err.ensures.wrote c.close-record.ensures.marks c.close-record.ensures.legal
+    c.close-record.ensures.kept c.close-record.ensures.held c.close-record.ensures.acceptors c.close-record.ensures.vaults
 
 pub returns-clause-write_fault : goal.returns-clause-write_fault
 returns-clause-write_fault g c is = c.in-Err.ensures.write_fault (ap (λ (s : Status). Err s) is)

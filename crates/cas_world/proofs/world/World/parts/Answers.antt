@@ -5,7 +5,9 @@ use Rattle.cas_record.specs.declared.mark.Mark.TheVariants.{Acked}
 use Rattle.cas_record.specs.Logs.Orderly.{IsAboveFloors}
 use Rattle.cas_record.specs.Places.{Stands}
 use Rattle.cas_model.specs.History.{IsRemembered}
-use Rattle.cas_model.specs.View.{Meaning, View}
+use Rattle.cas_model.specs.Safe.{IsSafe}
+use Rattle.cas_model.specs.View.{Meaning, View, meaning}
+use Rattle.cas_model_stops.proofs.Holding.{what_stopped_hold}
 use Rattle.cas_model.specs.Laws.{AcknowledgedIsKept}
 use Rattle.cas_model.proofs.Openings.Opens.{remembered_legal}
 use Rattle.cas_model.proofs.ViewLaws.{done_kept}
@@ -23,3 +25,8 @@ returns-clause-kept g c shelves vaults a stands above = kept_now _ c.self.view_i
 pub returns-clause-all_shelves : goal.returns-clause-all_shelves
 returns-clause-all_shelves g c =
     c.give_shelves.new.shelves.ok.0 ∙ (ap (λ (l : List _). length l) c.give_shelves.ensures ∙ (length-map c.self.inside.acceptors.items (λ a. a.shelf) ∙ c.self.invariant.safe.sound.acceptors))
+
+pub returns-clause-held : goal.returns-clause-held
+returns-clause-held g c shelves vaults =
+    let m = meaning g.S.Shelf g.V.Disk in
+    what_stopped_hold m shelves vaults c.args.self (subst IsSafe c.self.view_is c.self.invariant.safe) (subst (IsRemembered m) c.self.view_is (c.self.invariant.remembered shelves vaults))
