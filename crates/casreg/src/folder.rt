@@ -1,5 +1,7 @@
 //! A folder whose files are the disks of a store.
 ghost use Rattle.std.specs.Prelude.{◌≡◌, vec_len, IfOk};
+ghost use Rattle.cas_disk.specs.File.{faults_of};
+ghost use Rattle.casreg.specs.Disks.{AreFaultless, CountNoFault};
 ghost use Rattle.casreg.specs.declared.folder.FolderFault.TheVariants.{NoMemory};
 
 use cas_disk::FileDisk;
@@ -104,7 +106,7 @@ fn make_folder(rt: &impl Files<File = File>, alloc: Global, path: &str) -> Resul
 }
 
 /// The disks over the files of a locked folder: `a0` to `a63` of the acceptors, and `v0` to `v16` of the vaults. Each is locked. Those that
-/// are not there are made, once all others are open, and the folder is synced.
+/// are not there are made, once all others are open, and the folder is synced. No disk counts a fault yet.
 pub fn file_rack(
     rt: &impl Files<File = File>,
     alloc: Global,
@@ -113,6 +115,7 @@ pub fn file_rack(
 ) -> Result<Rack<FileDisk>, FolderFault>
     ensures acceptors { IfOk result (λ rack. vec_len rack.acceptors ≡ 64) }
     ensures vaults { IfOk result (λ rack. vec_len rack.vaults ≡ 17) }
+    ensures faultless { IfOk result (λ rack. AreFaultless faults_of rack) }
 {
     let found_acceptors = found_files(rt, alloc, path, "a", ACCEPTORS)?;
     let found_vaults = found_files(rt, alloc, path, "v", VAULTS)?;
@@ -154,7 +157,8 @@ fn file_disks(
     mut found: Vec<Option<File>>,
 ) -> Result<Vec<FileDisk>, FolderFault>
     requires { vec_len found ≡ count }
-    ensures { IfOk result (λ disks. vec_len disks ≡ count) }
+    ensures count { IfOk result (λ disks. vec_len disks ≡ count) }
+    ensures faultless { IfOk result (λ disks. CountNoFault faults_of disks.items) }
 {
     let mut disks = Vec::with_capacity(alloc, usize::from(count))?;
     for number in 0..count {

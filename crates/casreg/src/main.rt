@@ -3,7 +3,9 @@
 //! All that it does is in [`cluster`] of `casreg_command`. Here stand the real words, input and output, and the disks.
 #![tactic(auto)]
 
-ghost use Rattle.std.specs.Prelude.{◌≡◌, vec_len, IfOk};
+ghost use Rattle.std.specs.Prelude.{◌≡◌, vec_len, All, IfOk};
+ghost use Rattle.cas_disk.specs.Memory.{faults_of};
+ghost use Rattle.casreg.specs.Disks.{AreFaultless, AreUnused, CountNoFault, IsUnused};
 
 mod folder;
 
@@ -70,7 +72,7 @@ fn run_in_folder(
     Ok(run_over(rt, alloc, command, rack)?)
 }
 
-/// Runs a command over these disks, and the program's input and output.
+/// Runs a command over these disks, none of which counts a fault yet, and the program's input and output.
 fn run_over<D: Disk + Send + Drop>(
     rt: &(impl Input + Print + Threads + Wait + Sync),
     alloc: Global,
@@ -79,6 +81,7 @@ fn run_over<D: Disk + Send + Drop>(
 ) -> Result<Status, AllocError>
     requires acceptors { vec_len rack.acceptors ≡ 64 }
     requires vaults { vec_len rack.vaults ≡ 17 }
+    requires faultless { AreFaultless D.fault_count rack }
 {
     let mut source = StdSource::over(rt.reader());
     let mut sink = StdSink::over(io::writer(rt));
@@ -86,19 +89,23 @@ fn run_over<D: Disk + Send + Drop>(
     Ok(cluster(rt, alloc, command, &mut source, &mut sink, rack, &mut fates).0)
 }
 
-/// Empty disks in memory.
+/// Unused disks in memory: empty, with no trouble before them and no fault counted.
 fn memory_rack(alloc: Global) -> Result<Rack<MemoryDisk>, AllocError>
     ensures acceptors { IfOk result (λ rack. vec_len rack.acceptors ≡ 64) }
     ensures vaults { IfOk result (λ rack. vec_len rack.vaults ≡ 17) }
+    ensures unused { IfOk result (λ rack. AreUnused rack) }
+    ensures faultless { IfOk result (λ rack. AreFaultless faults_of rack) }
 {
     let acceptors = memory_disks(alloc, ACCEPTORS)?;
     let vaults = memory_disks(alloc, VAULTS)?;
     Ok(Rack { acceptors, vaults })
 }
 
-/// So many empty disks in memory.
+/// So many unused disks in memory.
 fn memory_disks(alloc: Global, count: u8) -> Result<Vec<MemoryDisk>, AllocError>
-    ensures { IfOk result (λ disks. vec_len disks ≡ count) }
+    ensures count { IfOk result (λ disks. vec_len disks ≡ count) }
+    ensures unused { IfOk result (λ disks. All IsUnused disks.items) }
+    ensures faultless { IfOk result (λ disks. CountNoFault faults_of disks.items) }
 {
     let mut disks = Vec::with_capacity(alloc, usize::from(count))?;
     for _disk in 0..count {
