@@ -1,2 +1,4 @@
 pub mod Codes
 pub mod Answers
+pub mod Programs
+pub mod Outcomes

@@ -5,6 +5,10 @@
 
 mod answer;
 mod code;
+mod outcome;
+mod program;
 
 pub use answer::print_answer;
 pub use code::Code;
+pub use outcome::{print_done, print_told};
+pub use program::read_program;
