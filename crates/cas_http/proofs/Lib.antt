@@ -1,1 +1,2 @@
 mod ClauseLists
+mod OutcomeJson

@@ -1,4 +1,6 @@
 pub mod Codes
 pub mod Answers
+pub mod Fields
+pub mod Heads
 pub mod Programs
 pub mod Outcomes

@@ -1,6 +1,6 @@
 //! The head of a request: where it ends, what it asks for, and how many bytes of body follow it.
 
-ghost use Rattle.std.specs.Prelude.{◌≡◌, ◌≤◌, ℕ, List, length, take, map, IfOk, IfOkAnd, Some};
+ghost use Rattle.std.specs.Prelude.{◌≡◌, ◌≤◌, ℕ, List, length, take, map, IfOk, Some, option_copied};
 ghost use Rattle.httparse.specs.Borrowed.{header_parts};
 ghost use Rattle.httparse.specs.Grammar.{RequestHead, ReadsRequest};
 ghost use Rattle.cas_http.specs.Heads.{method_named, if_key, key_in, asked_of, asked_with, body_read, head_with, head_of, IsFront};

@@ -28,10 +28,7 @@ pub fn print_done(
     ensures reads_back { IfOk result (λ text. read (string_bytes text)
         ≡ Some (done_data state.now took ballot)) }
 {
-    let at = format!(in alloc; "{ballot}")?;
-    let state = state_value(alloc, state)?;
-    let took = took_value(alloc, took)?;
-    json!(in alloc; {"at": at, "state": state, "took": took})?.to_string(alloc)
+    done_value(alloc, state, took, ballot)?.to_string(alloc)
 }
 
 /// Any other answer, by its text. Only memory can fail.
@@ -40,7 +37,29 @@ pub fn print_told(alloc: Global, answer: &str) -> Result<String, AllocError>
     ensures reads_back { IfOk result (λ text. read (string_bytes text)
         ≡ Some (told_data answer.now)) }
 {
-    json!(in alloc; {"answer": answer})?.to_string(alloc)
+    told_value(alloc, answer)?.to_string(alloc)
+}
+
+/// What a change that stands left, as JSON.
+fn done_value(
+    alloc: Global,
+    state: &State,
+    took: Took,
+    ballot: Ballot,
+) -> Result<Value, AllocError>
+    ensures { IfOk result (λ value. view value ≡ done_data state.now took ballot) }
+{
+    let at = format!(in alloc; "{ballot}")?;
+    let state = state_value(alloc, state)?;
+    let took = took_value(alloc, took)?;
+    json!(in alloc; {"at": at, "state": state, "took": took})
+}
+
+/// Any other answer, as JSON.
+fn told_value(alloc: Global, answer: &str) -> Result<Value, AllocError>
+    ensures { IfOk result (λ value. view value ≡ told_data answer.now) }
+{
+    json!(in alloc; {"answer": answer})
 }
 
 /// What is held, as JSON.
@@ -81,7 +100,10 @@ fn as_utf8(bytes: &[u8]) -> Option<&str>
     ensures { option_map (λ text. text.now) result
         ≡ (if is_utf8 bytes.now then Some bytes.now else None) }
 {
-    str::from_utf8(bytes).ok()
+    match str::from_utf8(bytes) {
+        Ok(text) => Some(text),
+        Err(_) => None,
+    }
 }
 
 /// Which clause acted, or why none did.
