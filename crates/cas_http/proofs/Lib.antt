@@ -1,2 +1,7 @@
+mod BodyPrograms
 mod ClauseLists
+mod KeyTests
+mod Lengths
+mod ObjectMembers
 mod OutcomeJson
+mod Utf8

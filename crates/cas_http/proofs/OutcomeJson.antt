@@ -1,7 +1,8 @@
 -- What is written of an outcome has no float and does not nest deep, so it is the compact text of what was meant, and is read again.
-use Rattle.std.proofs.Common.{◌≡◌, ℕ, ◌≤◌, Bool, true, false, List, Option, Some, ℤ, pos, negsuc, refl, subst, arith, rules}
+use Rattle.std.proofs.Common.{◌≡◌, ℕ, ◌≤◌, Bool, true, false, List, codes, Option, Some, if◌then◌else◌, ℤ, pos, negsuc, refl, subst, arith, rules}
 use Rattle.std.specs.Str.{is_utf8}
-use Rattle.serde_json.specs.Data.{Data, depth}
+use Rattle.hex.specs.Hex.{encode_lower}
+use Rattle.serde_json.specs.Data.{Data, string, depth}
 use Rattle.serde_json.specs.Find.{is_float, of_integer}
 use Rattle.serde_json.specs.Read.{read, max_depth}
 use Rattle.serde_json.specs.Written.{compact_text, has_float}
@@ -11,15 +12,23 @@ use Rattle.cas_change.specs.declared.outcome.Took.TheVariants as took
 use Rattle.cas_change.specs.declared.state.Body.TheVariants.{Number, Text}
 use Rattle.cas_change.specs.declared.state.State.{State}
 use Rattle.cas_change.specs.declared.state.State.TheVariants.{Empty, Held}
-use Rattle.cas_http.specs.Outcomes.{text_data, state_data, took_data, done_data, told_data}
+use Rattle.cas_record.specs.declared.answer.Answer.{Answer}
+use Rattle.cas_record.specs.declared.answer.Answer.TheVariants as answer
+use Rattle.cas_http.specs.Outcomes.{versioned, text_data, state_data, took_data, done_data, answer_data}
 
 is_float-of_integer : (n : ℤ) → is_float (of_integer n) ≡ false
 is_float-of_integer (pos n) = refl
 is_float-of_integer (negsuc n) = refl
 
+abbrev as_string : List ℕ → ℕ → Data
+as_string bytes version = versioned (codes "text") (string bytes) version
+
+abbrev as_digits : List ℕ → ℕ → Data
+as_digits bytes version = versioned (codes "hex") (string (encode_lower bytes)) version
+
 text_has_no_float : (bytes : List ℕ) (version : ℕ) → has_float (text_data bytes version) ≡ false
 text_has_no_float bytes version =
-    elim (is_utf8 bytes) as (λ b. has_float (if b then _ else _) ≡ false) [ true ↦ refl | false ↦ refl ]
+    elim (is_utf8 bytes) as (λ b. has_float (if b then as_string bytes version else as_digits bytes version) ≡ false) [ true ↦ refl | false ↦ refl ]
 
 state_has_no_float : (state : State) → has_float (state_data state) ≡ false
 state_has_no_float Empty = refl
@@ -36,7 +45,7 @@ done_has_no_float state by ballot = rw (state_has_no_float state, took_has_no_fl
 
 text_is_shallow : (bytes : List ℕ) (version : ℕ) → depth (text_data bytes version) ≤ 1
 text_is_shallow bytes version =
-    elim (is_utf8 bytes) as (λ b. depth (if b then _ else _) ≤ 1) [ true ↦ omega arith | false ↦ omega arith ]
+    elim (is_utf8 bytes) as (λ b. depth (if b then as_string bytes version else as_digits bytes version) ≤ 1) [ true ↦ omega arith | false ↦ omega arith ]
 
 state_is_shallow : (state : State) → depth (state_data state) ≤ 1
 state_is_shallow Empty = omega arith
@@ -53,6 +62,14 @@ done_is_shallow state by ballot =
     let state_depth = state_is_shallow state in
     let took_depth = took_is_flat by in
     omega arith
+
+pub answer_has_no_float : (told : Answer) → has_float (answer_data told) ≡ false
+answer_has_no_float (answer.Done state by ballot) = done_has_no_float state by ballot
+answer_has_no_float _ = refl
+
+pub answer_is_shallow : (told : Answer) → depth (answer_data told) ≤ max_depth
+answer_is_shallow (answer.Done state by ballot) = done_is_shallow state by ballot
+answer_is_shallow _ = omega arith
 
 -- the text of a value is that of the data that it stands for
 pub printed : (text : List ℕ) (value meant : Data) → value ≡ meant → has_float meant ≡ false → (has_float value ≡ false → text ≡ compact_text value) → text ≡ compact_text meant

@@ -59,6 +59,10 @@ body_read (asks.Refused code.NotImplemented) bytes = 0
 body_read (asks.Refused code.ContentTooLarge) bytes = 0
 body_read other bytes = bytes_of bytes
 
+-- the connection closes behind the answer, whatever that is: version 1.0, or a Connection field says so
+abbrev pub is_last : ℕ → List NamedField → Bool
+is_last minor fields = (minor == 0) || asks_to_close fields
+
 -- a head of this length and these parts
 abbrev pub head_with : ℕ → List ℕ → List ℕ → ℕ → List NamedField → Head
 head_with size name target minor fields =
@@ -66,7 +70,7 @@ head_with size name target minor fields =
     record {
       length = size;
       body = body_read asked (body_length fields);
-      last = (minor == 0) || asks_to_close fields;
+      last = is_last minor fields;
       asks = asked;
     }
 

@@ -12,6 +12,11 @@ use Rattle.cas_change.specs.declared.state.Body.{Body}
 use Rattle.cas_change.specs.declared.state.Body.TheVariants.{Number, Text}
 use Rattle.cas_change.specs.declared.state.State.{State}
 use Rattle.cas_change.specs.declared.state.State.TheVariants.{Empty, Held}
+use Rattle.cas_record.specs.declared.answer.Answer.{Answer}
+use Rattle.cas_record.specs.declared.answer.Answer.TheVariants as answer
+use Rattle.cas_lines.specs.Answers.{answer_text}
+use Rattle.cas_http.specs.declared.code.Code.{Code}
+use Rattle.cas_http.specs.declared.code.Code.TheVariants as code
 
 -- an object of the two members, of which the first has that name
 abbrev pub versioned : List ℕ → Data → ℕ → Data
@@ -46,3 +51,14 @@ done_data state by ballot =
 -- any other answer, by its text
 abbrev pub told_data : List ℕ → Data
 told_data text = object (member (codes "answer") (string text) no_members)
+
+-- ---- answers
+-- 200 for a change that stands, 409 for a conflict, 503 for any other answer
+abbrev pub code_of : Answer → Code
+code_of (answer.Done state by ballot) = code.Done
+code_of (answer.Conflict met) = code.Conflict
+code_of other = code.Unavailable
+
+abbrev pub answer_data : Answer → Data
+answer_data (answer.Done state by ballot) = done_data state by ballot
+answer_data other = told_data (answer_text other)

@@ -155,7 +155,10 @@ fn digits_value(digits: &[u8]) -> Option<u64>
 pub(crate) fn asks_to_close(fields: &[Header]) -> bool
     ensures { result ≡ asks_to_close (map header_parts fields.now) }
 {
-    fields.iter().any(|field| is_closing(field))
+    match fields {
+        [] => false,
+        [first, others @ ..] => is_closing(first) || asks_to_close(others),
+    }
 }
 
 /// Whether this is a Connection field that asks to close.

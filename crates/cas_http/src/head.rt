@@ -1,9 +1,9 @@
 //! The head of a request: where it ends, what it asks for, and how many bytes of body follow it.
 
-ghost use Rattle.std.specs.Prelude.{◌≡◌, ◌≤◌, ℕ, List, length, take, map, IfOk, Some, option_copied};
+ghost use Rattle.std.specs.Prelude.{◌≡◌, ◌≤◌, ℕ, List, length, take, map, IfOk, Some};
 ghost use Rattle.httparse.specs.Borrowed.{header_parts};
 ghost use Rattle.httparse.specs.Grammar.{RequestHead, ReadsRequest};
-ghost use Rattle.cas_http.specs.Heads.{method_named, if_key, key_in, asked_of, asked_with, body_read, head_with, head_of, IsFront};
+ghost use Rattle.cas_http.specs.Heads.{method_named, if_key, key_in, asked_of, asked_with, body_read, is_last, head_with, head_of, IsFront};
 
 use crate::code::Code;
 use crate::fields::{BodyLength, asks_to_close, body_length, host_fits, is_coded};
@@ -78,7 +78,14 @@ pub fn read_front(alloc: Global, bytes: &[u8]) -> Result<Front, AllocError>
     let mut room = [EMPTY_HEADER; MOST_FIELDS];
     let mut request = Request::new(&mut room);
     match request.parse(seen) {
-        Ok(Status::Complete(length)) => Ok(Front::Whole(read_head(alloc, length, &request)?)),
+        Ok(Status::Complete(length)) => Ok(Front::Whole(read_head(
+            alloc,
+            length,
+            request.method.unwrap(),
+            request.path.unwrap(),
+            request.version.unwrap(),
+            request.headers,
+        )?)),
         Ok(Status::Partial) => Ok(if bytes.len() < MOST_HEAD {
             Front::Open
         } else {
@@ -88,32 +95,33 @@ pub fn read_front(alloc: Global, bytes: &[u8]) -> Result<Front, AllocError>
     }
 }
 
-/// What a parsed head asks for, which has this length.
-fn read_head(alloc: Global, length: usize, request: &Request) -> Result<Head, AllocError>
-    ensures { (method target : List ℕ) (minor : ℕ)
-        → option_copied request.now.method ≡ Some method
-        → option_copied request.now.path ≡ Some target
-        → request.now.version ≡ Some minor
-        → IfOk result (λ head. head
-            ≡ head_with length method target minor (map header_parts request.now.headers.now)) }
+/// What is told of a head with this length and these parts.
+fn read_head(
+    alloc: Global,
+    length: usize,
+    name: &str,
+    target: &str,
+    minor: u8,
+    fields: &[Header],
+) -> Result<Head, AllocError>
+    ensures { IfOk result (λ head. head
+        ≡ head_with length name.now target.now minor (map header_parts fields.now)) }
 {
-    let fields: &[Header] = request.headers;
-    let minor = request.version.unwrap_or(1);
     let bytes = body_length(fields);
-    let asks = asked_with(
-        alloc,
-        bytes,
-        request.method.unwrap_or(""),
-        request.path.unwrap_or(""),
-        minor,
-        fields,
-    )?;
+    let asks = asked_with(alloc, bytes, name, target, minor, fields)?;
     Ok(Head {
         length,
         body: body_read(&asks, bytes),
-        last: minor == 0 || asks_to_close(fields),
+        last: is_last(minor, fields),
         asks,
     })
+}
+
+/// Whether the connection closes behind the answer to this head.
+fn is_last(minor: u8, fields: &[Header]) -> bool
+    ensures { result ≡ is_last minor (map header_parts fields.now) }
+{
+    minor == 0 || asks_to_close(fields)
 }
 
 /// What a head with these parts asks for, whose Content-Length says `bytes`.
@@ -185,8 +193,11 @@ fn if_key(alloc: Global, bytes: &[u8]) -> Result<Option<Key>, AllocError>
 {
     match Key::read(alloc, bytes) {
         Ok(key) => Ok(Some(key)),
-        Err(KeyFault::NoMemory) => Err(AllocError),
-        Err(KeyFault::Empty | KeyFault::TooLong | KeyFault::BadByte { .. }) => Ok(None),
+        Err(fault) => if fault == KeyFault::NoMemory {
+            Err(AllocError)
+        } else {
+            Ok(None)
+        },
     }
 }
 

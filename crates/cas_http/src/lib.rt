@@ -13,5 +13,5 @@ mod program;
 pub use answer::print_answer;
 pub use code::Code;
 pub use head::{Asks, Front, Head, MOST_BODY, MOST_FIELDS, MOST_HEAD, Method, read_front};
-pub use outcome::{print_done, print_told};
+pub use outcome::{code_of, print_body};
 pub use program::read_program;

@@ -5,39 +5,57 @@ ghost use Rattle.std.specs.Str.{is_utf8};
 ghost use Rattle.serde_json.specs.Read.{read};
 ghost use Rattle.serde_json.specs.View.{view};
 ghost use Rattle.serde_json.specs.Written.{compact_text};
-ghost use Rattle.cas_http.specs.Outcomes.{text_data, body_data, state_data, took_data, done_data, told_data};
+ghost use Rattle.cas_http.specs.Outcomes.{text_data, body_data, state_data, took_data, done_data, told_data, code_of, answer_data};
 
+use crate::code::Code;
 use cas_ballot::Ballot;
 use cas_change::{Body, State, Took};
+use cas_lines::answer::push_answer;
+use cas_record::Answer;
 use serde_json::{Value, json};
 use std::alloc::{AllocError, Global};
 use std::str;
 
-/// What a change that stands left, which clause acted, and at which ballot.
-///
-/// A text that is not UTF-8 is written in hexadecimal digits, under another name. Only memory can fail.
-pub fn print_done(
-    alloc: Global,
-    state: &State,
-    took: Took,
-    ballot: Ballot,
-) -> Result<String, AllocError>
-    ensures text { IfOk result (λ text. string_bytes text
-        ≡ compact_text (done_data state.now took ballot)) }
-    // A reader of JSON finds all of it again.
-    ensures reads_back { IfOk result (λ text. read (string_bytes text)
-        ≡ Some (done_data state.now took ballot)) }
+/// The code of what a change is answered.
+pub fn code_of(answer: &Answer) -> Code
+    ensures { result ≡ code_of answer.now }
 {
-    done_value(alloc, state, took, ballot)?.to_string(alloc)
+    match answer {
+        Answer::Done { .. } => Code::Done,
+        Answer::Conflict { .. } => Code::Conflict,
+        _ => Code::Unavailable,
+    }
 }
 
-/// Any other answer, by its text. Only memory can fail.
-pub fn print_told(alloc: Global, answer: &str) -> Result<String, AllocError>
-    ensures text { IfOk result (λ text. string_bytes text ≡ compact_text (told_data answer.now)) }
+/// The body of what a change is answered, as JSON in one line without blanks.
+///
+/// Where the change stands, it has the keys `at`, `state` and `took`: the ballot, what is held, and which clause acted. A text that is not
+/// UTF-8 is written in hexadecimal digits, under the name `hex`. Any other answer is its text under the key `answer`. Only memory can fail.
+pub fn print_body(alloc: Global, answer: &Answer) -> Result<String, AllocError>
+    ensures text { IfOk result (λ text. string_bytes text ≡ compact_text (answer_data answer.now)) }
+    // A reader of JSON finds all of it again.
     ensures reads_back { IfOk result (λ text. read (string_bytes text)
-        ≡ Some (told_data answer.now)) }
+        ≡ Some (answer_data answer.now)) }
 {
-    told_value(alloc, answer)?.to_string(alloc)
+    answer_value(alloc, answer)?.to_string(alloc)
+}
+
+/// What a change is answered, as JSON.
+fn answer_value(alloc: Global, answer: &Answer) -> Result<Value, AllocError>
+    ensures { IfOk result (λ value. view value ≡ answer_data answer.now) }
+{
+    match answer {
+        Answer::Done {
+            state,
+            took,
+            ballot,
+        } => done_value(alloc, state, *took, *ballot),
+        other => {
+            let mut text = String::new(alloc);
+            push_answer(&mut text, other)?;
+            told_value(alloc, &text)
+        }
+    }
 }
 
 /// What a change that stands left, as JSON.
@@ -55,9 +73,9 @@ fn done_value(
     json!(in alloc; {"at": at, "state": state, "took": took})
 }
 
-/// Any other answer, as JSON.
-fn told_value(alloc: Global, answer: &str) -> Result<Value, AllocError>
-    ensures { IfOk result (λ value. view value ≡ told_data answer.now) }
+/// Any other answer, by its text, as JSON.
+fn told_value(alloc: Global, answer: &String) -> Result<Value, AllocError>
+    ensures { IfOk result (λ value. view value ≡ told_data (string_bytes answer.now)) }
 {
     json!(in alloc; {"answer": answer})
 }
