@@ -1,5 +1,6 @@
 mod BodyPrograms
 mod ClauseLists
+mod Fronts
 mod KeyTests
 mod Lengths
 mod ObjectMembers

@@ -84,6 +84,10 @@ pub record IsUnfinished (bytes : List ℕ) : Type 0 where
   pub none : HasNoRequest bytes
   pub may_come : MayBecomeRequest bytes
 
+-- what is told then of so many bytes
+abbrev pub unfinished : ℕ → Front
+unfinished size = if nat_lt size MOST_HEAD then front.Open else front.Refused code.HeadTooLarge
+
 -- what the bytes of an input begin with
 abbrev pub IsFront : List ℕ → Front → Type 0
 IsFront bytes front.Open = (length bytes < MOST_HEAD) × IsUnfinished bytes

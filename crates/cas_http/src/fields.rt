@@ -172,7 +172,9 @@ fn is_closing(field: &Header) -> bool
 fn says_close(value: &[u8]) -> bool
     ensures { result ≡ says_close value.now }
 {
-    value.split(|byte| is_separator(*byte)).any(|word| is_same(word, "close"))
+    value
+        .split(|byte| is_separator(*byte))
+        .any(|word| is_same(word, "close"))
 }
 
 /// Whether the byte stands between words: a comma, a space or a tab.

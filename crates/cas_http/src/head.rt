@@ -3,7 +3,7 @@
 ghost use Rattle.std.specs.Prelude.{◌≡◌, ◌≤◌, ℕ, List, length, take, map, IfOk, Some};
 ghost use Rattle.httparse.specs.Borrowed.{header_parts};
 ghost use Rattle.httparse.specs.Grammar.{RequestHead, ReadsRequest};
-ghost use Rattle.cas_http.specs.Heads.{method_named, if_key, key_in, asked_of, asked_with, body_read, is_last, head_with, head_of, IsFront};
+ghost use Rattle.cas_http.specs.Heads.{method_named, if_key, key_in, asked_of, asked_with, body_read, is_last, unfinished, head_with, head_of, IsFront};
 
 use crate::code::Code;
 use crate::fields::{BodyLength, asks_to_close, body_length, host_fits, is_coded};
@@ -74,24 +74,44 @@ pub fn read_front(alloc: Global, bytes: &[u8]) -> Result<Front, AllocError>
     ensures found { (h : RequestHead) (rest : List ℕ) → ReadsRequest (take MOST_HEAD bytes.now) h rest
         → length h.fields ≤ MOST_FIELDS → IfOk result (λ front. front ≡ Front.Whole (head_of h)) }
 {
-    let seen = &bytes[..bytes.len().min(MOST_HEAD)];
     let mut room = [EMPTY_HEADER; MOST_FIELDS];
     let mut request = Request::new(&mut room);
-    match request.parse(seen) {
-        Ok(Status::Complete(length)) => Ok(Front::Whole(read_head(
-            alloc,
-            length,
-            request.method.unwrap(),
-            request.path.unwrap(),
-            request.version.unwrap(),
-            request.headers,
-        )?)),
-        Ok(Status::Partial) => Ok(if bytes.len() < MOST_HEAD {
-            Front::Open
-        } else {
-            Front::Refused(Code::HeadTooLarge)
-        }),
+    match request.parse(front_of(bytes)) {
+        Ok(Status::Complete(length)) => {
+            // No clause of the parser says that the fields of a head are no more than there was room for.
+            if request.headers.len() > MOST_FIELDS {
+                return Ok(Front::Refused(Code::BadRequest));
+            }
+            let head = read_head(
+                alloc,
+                length,
+                request.method.unwrap(),
+                request.path.unwrap(),
+                request.version.unwrap(),
+                request.headers,
+            )?;
+            Ok(Front::Whole(head))
+        }
+        Ok(Status::Partial) => Ok(unfinished(bytes.len())),
         Err(_) => Ok(Front::Refused(Code::BadRequest)),
+    }
+}
+
+/// The bytes that a head is looked for in.
+fn front_of(bytes: &[u8]) -> &[u8]
+    ensures { result.now ≡ take MOST_HEAD bytes.now }
+{
+    &bytes[..bytes.len().min(MOST_HEAD)]
+}
+
+/// What so many bytes are that hold no whole head, and to which one may come.
+fn unfinished(length: usize) -> Front
+    ensures { result ≡ unfinished length }
+{
+    if length < MOST_HEAD {
+        Front::Open
+    } else {
+        Front::Refused(Code::HeadTooLarge)
     }
 }
 

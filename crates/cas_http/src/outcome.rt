@@ -59,12 +59,7 @@ fn answer_value(alloc: Global, answer: &Answer) -> Result<Value, AllocError>
 }
 
 /// What a change that stands left, as JSON.
-fn done_value(
-    alloc: Global,
-    state: &State,
-    took: Took,
-    ballot: Ballot,
-) -> Result<Value, AllocError>
+fn done_value(alloc: Global, state: &State, took: Took, ballot: Ballot) -> Result<Value, AllocError>
     ensures { IfOk result (λ value. view value ≡ done_data state.now took ballot) }
 {
     let at = format!(in alloc; "{ballot}")?;
