@@ -3,6 +3,8 @@ mod ClauseLists
 mod Fronts
 mod KeyTests
 mod Lengths
+mod LongerFronts
 mod ObjectMembers
 mod OutcomeJson
+mod ProgramJson
 mod Utf8

@@ -9,22 +9,18 @@ use Rattle.cas_http.specs.declared.code.Code.{Code}
 use Rattle.cas_http.specs.declared.code.Code.TheVariants as code
 use Rattle.cas_http.specs.declared.fields.BodyLength.{BodyLength}
 use Rattle.cas_http.specs.declared.fields.BodyLength.TheVariants as body
-use Rattle.cas_http.specs.declared.head.Method.{Method}
-use Rattle.cas_http.specs.declared.head.Method.TheVariants as method
+use Rattle.cas_http.specs.declared.method.Method.{Method}
+use Rattle.cas_http.specs.declared.method.Method.TheVariants as method
 use Rattle.cas_http.specs.declared.head.Asks.{Asks}
 use Rattle.cas_http.specs.declared.head.Asks.TheVariants as asks
 use Rattle.cas_http.specs.declared.head.Head.{Head}
 use Rattle.cas_http.specs.declared.head.Front.{Front}
 use Rattle.cas_http.specs.declared.head.Front.TheVariants as front
 use Rattle.cas_http.specs.declared.head.TheConstants.{MOST_HEAD, MOST_FIELDS, MOST_BODY}
+use Rattle.cas_http.specs.Methods.{method_named}
 use Rattle.cas_http.specs.Fields.{NamedField, host_fits, is_coded, body_length, bytes_of, asks_to_close}
 
--- ---- methods and targets
-abbrev pub method_named : List ℕ → Option Method
-method_named name = if bytes_eq name (codes "GET") then Some method.Get
-    else (if bytes_eq name (codes "POST") then Some method.Post
-    else (if bytes_eq name (codes "DELETE") then Some method.Delete else None))
-
+-- ---- targets
 -- the bytes are those of a key
 abbrev pub is_key : List ℕ → Bool
 is_key bytes = nat_lt 0 (length bytes) && nat_le (length bytes) LONGEST_KEY && is_none (first_bad_byte bytes)

@@ -3,10 +3,11 @@
 ghost use Rattle.std.specs.Prelude.{◌≡◌, ◌≤◌, ℕ, List, length, take, map, IfOk, Some};
 ghost use Rattle.httparse.specs.Borrowed.{header_parts};
 ghost use Rattle.httparse.specs.Grammar.{RequestHead, ReadsRequest};
-ghost use Rattle.cas_http.specs.Heads.{method_named, if_key, key_in, asked_of, asked_with, body_read, is_last, unfinished, head_with, head_of, IsFront};
+ghost use Rattle.cas_http.specs.Heads.{if_key, key_in, asked_of, asked_with, body_read, is_last, unfinished, head_with, head_of, IsFront};
 
 use crate::code::Code;
 use crate::fields::{BodyLength, asks_to_close, body_length, host_fits, is_coded};
+use crate::method::{Method, method_named};
 use cas_change::{Key, KeyFault};
 use httparse::{EMPTY_HEADER, Header, Request, Status};
 use std::alloc::{AllocError, Global};
@@ -19,17 +20,6 @@ pub const MOST_FIELDS: usize = 64;
 
 /// How many bytes a body has at most.
 pub const MOST_BODY: u64 = 65_536;
-
-/// What is done to a register.
-#[derive(Clone, Copy, Debug, PartialEq, Eq)]
-pub enum Method {
-    /// It is read: the program `always keep`.
-    Get,
-    /// The program of the body is run.
-    Post,
-    /// It is emptied: the program `always clear`.
-    Delete,
-}
 
 /// What a head asks for.
 #[derive(Debug, PartialEq, Eq, Drop)]
@@ -67,7 +57,7 @@ pub enum Front {
 
 /// What the bytes begin with, by the first [`MOST_HEAD`] of them.
 ///
-/// Only memory can fail. It is asked for a key that a change names, and for nothing else.
+/// Only memory can fail. It is asked for the key that a target names, and for nothing else.
 pub fn read_front(alloc: Global, bytes: &[u8]) -> Result<Front, AllocError>
     ensures front { IfOk result (IsFront bytes.now) }
     // A head that stands there is found, whatever follows it.
@@ -182,18 +172,6 @@ fn asked_of(method: Method, key: Key, bytes: BodyLength) -> Asks
         Asks::Refused(Code::LengthRequired)
     } else {
         Asks::Change(method, key)
-    }
-}
-
-/// The method of this name, if the store has it.
-fn method_named(name: &str) -> Option<Method>
-    ensures { result ≡ method_named name.now }
-{
-    match name {
-        "GET" => Some(Method::Get),
-        "POST" => Some(Method::Post),
-        "DELETE" => Some(Method::Delete),
-        _ => None,
     }
 }
 

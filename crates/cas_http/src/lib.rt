@@ -7,11 +7,13 @@ mod answer;
 mod code;
 mod fields;
 mod head;
+pub mod laws;
+mod method;
 mod outcome;
 mod program;
 
 pub use answer::print_answer;
 pub use code::Code;
-pub use head::{Asks, Front, Head, MOST_BODY, MOST_FIELDS, MOST_HEAD, Method, read_front};
+pub use head::{Asks, Front, Head, MOST_BODY, MOST_FIELDS, MOST_HEAD, read_front};
+pub use method::Method;
 pub use outcome::{code_of, print_body};
-pub use program::read_program;

@@ -18,7 +18,7 @@ use serde_json::Value;
 use std::alloc::{AllocError, Global};
 
 /// The program that the body spells. `Ok(None)` comes exactly where it spells none. Only memory can fail.
-pub fn read_program(alloc: Global, body: &[u8]) -> Result<Option<Program>, AllocError>
+pub(crate) fn read_program(alloc: Global, body: &[u8]) -> Result<Option<Program>, AllocError>
     ensures { IfOk result (λ program. program ≡ program_of_body body.now) }
 {
     match Value::from_slice(alloc, body) {
