@@ -17,11 +17,11 @@ longer : (bytes more : List ℕ) → (added : List ℕ) × (take MOST_HEAD (byte
 longer bytes more =
     ⊎_elim
     (λ (short : length bytes < MOST_HEAD).
-        let size : MOST_HEAD ≡ length bytes + (MOST_HEAD - length bytes) = omega arith in (
-          take (MOST_HEAD - length bytes) more,
-          ap (λ n. take n (bytes ++ more)) size ∙ take-append-add bytes more (MOST_HEAD - length bytes)
+    let size : MOST_HEAD ≡ length bytes + (MOST_HEAD - length bytes) = omega arith in (
+      take (MOST_HEAD - length bytes) more,
+      ap (λ n. take n (bytes ++ more)) size ∙ take-append-add bytes more (MOST_HEAD - length bytes)
           ∙ ap (λ front. front ++ take (MOST_HEAD - length bytes) more) (sym (take_all MOST_HEAD bytes (omega arith))),
-        ))
+    ))
     (λ (long : MOST_HEAD ≤ length bytes). ([], take-append-le MOST_HEAD bytes more long ∙ sym (append-nil (take MOST_HEAD bytes))))
     (cases_lt (length bytes) MOST_HEAD)
 
@@ -36,8 +36,8 @@ still_overflows bytes more overflows =
     let seen = longer bytes more in
     let P : List ℕ → Type 0 = λ buffer. RequestOverflows MOST_FIELDS buffer in
     subst P (sym seen.1) (λ others h rest reads.
-        let Q : List ℕ → Type 0 = λ buffer. ReadsRequest buffer h rest in
-        overflows (seen.0 ++ others) h rest (subst Q (append_assoc (take MOST_HEAD bytes) seen.0 others) reads))
+    let Q : List ℕ → Type 0 = λ buffer. ReadsRequest buffer h rest in
+    overflows (seen.0 ++ others) h rest (subst Q (append_assoc (take MOST_HEAD bytes) seen.0 others) reads))
 
 still_unfinished : (bytes more : List ℕ) → MOST_HEAD ≤ length bytes → IsUnfinished (take MOST_HEAD bytes) → IsUnfinished (take MOST_HEAD (bytes ++ more))
 still_unfinished bytes more long waits =

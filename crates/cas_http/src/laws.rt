@@ -18,13 +18,11 @@ ghost use Rattle.cas_http.specs.declared.head.Front.{Front};
 pub fn what_is_told_of_a_front_stays()
     ensures { (bytes more : List ℕ) (front : Front) → IsFront bytes front → front ≢ Front.Open
         → IsFront (bytes ++ more) front }
-{
-}
+{}
 
 /// Each program is read from its JSON, however that is laid out.
 pub fn each_program_is_read_from_its_json()
     ensures { (clauses : List Clause) (body : List ℕ) → IsProgramLength (length clauses)
         → AllByRecursion ClauseFits clauses → IsUtf8 body → read body ≡ Some (program_data clauses)
         → program_of_body body ≡ Some clauses }
-{
-}
+{}
