@@ -1,10 +1,9 @@
 -- What a body spells, by what it reads as.
-use Rattle.std.proofs.Common.{◌≡◌, ℕ, List, Option, Some, None, ap, ◌∙◌}
+use Rattle.std.proofs.Common.{◌≡◌, ℕ, List, Some, None, ap, ◌∙◌}
 use Rattle.std.specs.Option.{option_and_then}
 use Rattle.std.specs.Str.{IsUtf8}
 use Rattle.serde_json.specs.Data.{Data}
 use Rattle.serde_json.specs.Read.{read}
-use Rattle.cas_change.specs.declared.program.Clause.{Clause}
 use Rattle.cas_http.specs.Programs.{program_in, program_of_body}
 use Rattle.cas_http.proofs.Utf8.{if_utf8_is, if_utf8_not}
 

@@ -1,8 +1,7 @@
 -- The clauses of an array, as they are read one after another.
-use Rattle.std.proofs.Common.{◌≡◌, ℕ, suc, List, [], ◌∷◌, ◌++◌, Option, Some, None, refl, ap, sym, append_assoc, length, ◌==◌}
-use Rattle.serde_json.specs.Data.{Data, Items, no_items, item}
+use Rattle.std.proofs.Common.{◌≡◌, List, [], ◌∷◌, ◌++◌, Option, Some, None, refl, ap, sym, append_assoc}
 use Rattle.cas_change.specs.declared.program.Clause.{Clause}
-use Rattle.cas_http.specs.Programs.{clause_in, clauses_in, with_first}
+use Rattle.cas_http.specs.Programs.{with_first}
 
 -- those that were read, and then the others, where there are any
 abbrev pub behind : List Clause → Option (List Clause) → Option (List Clause)

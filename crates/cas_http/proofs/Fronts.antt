@@ -1,16 +1,15 @@
 -- What the parser says of the front of an input, in the words of what is told of it.
-use Rattle.std.proofs.Common.{◌≡◌, ℕ, ◌<◌, ◌≤◌, Bool, true, false, nat_lt, if◌then◌else◌, List, [], ◌++◌, length, take, map, Option, Some, option_copied, Bor, refl, ap, sym, subst, ◌∙◌, ⊎_elim, arith}
+use Rattle.std.proofs.Common.{◌≡◌, ℕ, ◌<◌, ◌≤◌, true, false, nat_lt, List, [], ◌++◌, length, take, map, Option, Some, option_copied, Bor, ap, sym, subst, ◌∙◌, ⊎_elim, arith}
 use Rattle.std.proofs.lemmas.Bool.{cases_lt}
 use Rattle.std.proofs.lemmas.List.{take_all, length-map}
 use Rattle.std.proofs.lemmas.Grind.{common_steps}
 use Rattle.httparse.specs.declared.borrowed.Header.{Header}
 use Rattle.httparse.specs.declared.borrowed.Request.{Request}
-use Rattle.httparse.specs.Borrowed.{header_parts, HoldsRequest, HoldsSomeRequest}
-use Rattle.httparse.specs.Grammar.{RequestHead, print_request, ReadsRequest, HasNoRequest, MayBecomeRequest}
+use Rattle.httparse.specs.Borrowed.{header_parts, HoldsSomeRequest}
+use Rattle.httparse.specs.Grammar.{RequestHead, ReadsRequest, HasNoRequest, MayBecomeRequest}
 use Rattle.httparse.specs.Spans.{name_and_value, RequestOverflows}
 use Rattle.httparse.proofs.GrammarLemmas.{request_unique, request_prefix_free, ReadsRequest-append}
 use Rattle.cas_http.specs.declared.head.Head.{Head}
-use Rattle.cas_http.specs.declared.head.Front.{Front}
 use Rattle.cas_http.specs.declared.head.Front.TheVariants as front
 use Rattle.cas_http.specs.declared.head.TheConstants.{MOST_HEAD, MOST_FIELDS}
 use Rattle.cas_http.specs.Fields.{NamedField}
@@ -44,7 +43,9 @@ copied_is option here bytes some copied =
     let same : Some here.now ≡ Some bytes = ap option_copied (sym some) ∙ copied in
     cc
 
-heads_agree : (size size' : ℕ) (name name' target target' : List ℕ) (minor minor' : ℕ) (fields fields' : List NamedField) → size ≡ size' → name ≡ name' → target ≡ target' → minor ≡ minor' → fields ≡ fields' → head_with size name target minor fields ≡ head_with size' name' target' minor' fields'
+heads_agree : (size size' : ℕ) (name name' target target' : List ℕ) (minor minor' : ℕ) (fields fields' : List NamedField) → size ≡ size'
+    → name ≡ name' → target ≡ target' → minor ≡ minor' → fields ≡ fields'
+    → head_with size name target minor fields ≡ head_with size' name' target' minor' fields'
 heads_agree size size' name name' target target' minor minor' fields fields' a b c d e =
     λ i. head_with (a i) (b i) (c i) (d i) (e i)
 
@@ -53,7 +54,10 @@ fields_length : (headers : List Header) (h : RequestHead) → map header_parts h
 fields_length headers h same =
     sym (length-map h.fields name_and_value) ∙ ap length (sym same) ∙ length-map headers header_parts
 
-pub whole_is_front : (bytes : List ℕ) (request : Request) (size : ℕ) (head : Head) (name target : Bor (List ℕ)) (minor : ℕ) → HoldsSomeRequest (take MOST_HEAD bytes) request size → request.method ≡ Some name → request.path ≡ Some target → request.version ≡ Some minor → length request.headers.now ≤ MOST_FIELDS → head ≡ head_with size name.now target.now minor (map header_parts request.headers.now) → IsFront bytes (front.Whole head)
+pub whole_is_front : (bytes : List ℕ) (request : Request) (size : ℕ) (head : Head) (name target : Bor (List ℕ)) (minor : ℕ)
+    → HoldsSomeRequest (take MOST_HEAD bytes) request size → request.method ≡ Some name → request.path ≡ Some target → request.version ≡ Some minor
+    → length request.headers.now ≤ MOST_FIELDS → head ≡ head_with size name.now target.now minor (map header_parts request.headers.now)
+    → IsFront bytes (front.Whole head)
 whole_is_front bytes request size head name target minor (h, holds) name_is target_is minor_is fits is =
     let minors : Some minor ≡ Some h.minor = sym minor_is ∙ holds.version in
     let same_minor : minor ≡ h.minor = cc in (
@@ -65,7 +69,8 @@ whole_is_front bytes request size head name target minor (h, holds) name_is targ
     )
 
 -- one head alone stands there
-pub front_is_found : (bytes : List ℕ) (head : Head) (h : RequestHead) (rest : List ℕ) → IsFront bytes (front.Whole head) → ReadsRequest (take MOST_HEAD bytes) h rest → front.Whole head ≡ front.Whole (head_of h)
+pub front_is_found : (bytes : List ℕ) (head : Head) (h : RequestHead) (rest : List ℕ) → IsFront bytes (front.Whole head)
+    → ReadsRequest (take MOST_HEAD bytes) h rest → front.Whole head ≡ front.Whole (head_of h)
 front_is_found bytes head h rest (k, other, reads, fits, is) found =
     ap (λ (x : Head). front.Whole x) (is ∙ ap head_of ((request_unique (take MOST_HEAD bytes) k h other rest reads found).0))
 

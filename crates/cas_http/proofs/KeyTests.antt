@@ -1,5 +1,5 @@
 -- The test of keys decides what a key is.
-use Rattle.std.proofs.Common.{◌≡◌, ℕ, ◌<◌, ◌≤◌, Bool, true, false, ◌&&◌, nat_lt, nat_le, if◌then◌else◌, List, length, Option, Some, None, refl, arith}
+use Rattle.std.proofs.Common.{◌≡◌, ℕ, true, false, ◌&&◌, nat_lt, nat_le, if◌then◌else◌, List, length, Option, Some, None, refl, arith}
 use Rattle.std.specs.Option.{is_none}
 use Rattle.std.specs.Cmp.{first_so, second_so}
 use Rattle.std.proofs.lemmas.Grind.{common_steps}

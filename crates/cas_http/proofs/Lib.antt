@@ -7,4 +7,5 @@ mod LongerFronts
 mod ObjectMembers
 mod OutcomeJson
 mod ProgramJson
+mod Responses
 mod Utf8

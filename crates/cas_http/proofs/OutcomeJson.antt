@@ -1,5 +1,5 @@
 -- What is written of an outcome has no float and does not nest deep, so it is the compact text of what was meant, and is read again.
-use Rattle.std.proofs.Common.{◌≡◌, ℕ, ◌≤◌, Bool, true, false, List, codes, Option, Some, if◌then◌else◌, ℤ, pos, negsuc, refl, subst, arith, rules}
+use Rattle.std.proofs.Common.{◌≡◌, ℕ, ◌≤◌, true, false, List, codes, Some, if◌then◌else◌, ℤ, pos, negsuc, refl, subst, arith}
 use Rattle.std.specs.Str.{is_utf8}
 use Rattle.hex.specs.Hex.{encode_lower}
 use Rattle.serde_json.specs.Data.{Data, string, depth}

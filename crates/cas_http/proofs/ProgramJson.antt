@@ -1,5 +1,5 @@
 -- Each program is read from its JSON.
-use Rattle.std.proofs.Common.{◌≡◌, ℕ, ◌^◌, ◌<◌, ◌≤◌, Bool, true, false, nat_lt, nat_le, if◌then◌else◌, List, [], ◌∷◌, length, Option, Some, None, ℤ, pos, negsuc, FitsSigned, refl, ap, ◌∙◌, arith}
+use Rattle.std.proofs.Common.{◌≡◌, ℕ, ◌^◌, true, nat_lt, nat_le, List, [], ◌∷◌, length, Some, ℤ, pos, negsuc, FitsSigned, refl, ap, ◌∙◌, arith}
 use Rattle.std.specs.Int.{w64}
 use Rattle.std.specs.List.{AllByRecursion}
 use Rattle.std.specs.Option.{option_and_then}
@@ -7,7 +7,6 @@ use Rattle.std.specs.Str.{IsUtf8}
 use Rattle.std.proofs.lemmas.Grind.{common_steps}
 use Rattle.serde_json.specs.Find.{as_i64, of_integer}
 use Rattle.serde_json.specs.Read.{read}
-use Rattle.serde_json.proofs.OnLiterals.{serde_json_on_literals}
 use Rattle.cas_change.specs.Program.{IsProgramLength}
 use Rattle.cas_change.specs.Text.{IsText}
 use Rattle.cas_change.specs.declared.program.TheConstants.{MOST_CLAUSES}
@@ -63,6 +62,7 @@ program_again clauses size fits =
     let lawful : if_program clauses ≡ Some clauses = rw (some, few) refl in
     ap (option_and_then if_program) (clauses_again clauses fits) ∙ lawful
 
-pub read_from_its_json : (clauses : List Clause) (body : List ℕ) → IsProgramLength (length clauses) → AllByRecursion ClauseFits clauses → IsUtf8 body → read body ≡ Some (program_data clauses) → program_of_body body ≡ Some clauses
+pub read_from_its_json : (clauses : List Clause) (body : List ℕ) → IsProgramLength (length clauses) → AllByRecursion ClauseFits clauses
+    → IsUtf8 body → read body ≡ Some (program_data clauses) → program_of_body body ≡ Some clauses
 read_from_its_json clauses body size fits text is =
     spelled body (program_data clauses) text is ∙ program_again clauses size fits

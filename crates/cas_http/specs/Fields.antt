@@ -1,5 +1,5 @@
 -- The fields of a head that decide on an answer. A field is its name, and its value without the white space around it.
-use Rattle.std.specs.Prelude.{ℕ, Bool, true, false, ◌&&◌, ◌||◌, ◌==◌, nat_lt, nat_le, if◌then◌else◌, List, length, codes, Option, Some, None, option_map, count_by}
+use Rattle.std.specs.Prelude.{ℕ, Bool, ◌&&◌, ◌||◌, ◌==◌, nat_lt, nat_le, if◌then◌else◌, List, length, codes, Option, Some, None, option_map, count_by}
 use Rattle.std.specs.List.{find, list_any, slice_split}
 use Rattle.std.specs.Str.{str_eq_ignore_ascii_case, all_ascii_digits}
 use Rattle.std.specs.Str.Parse.{digits_value}

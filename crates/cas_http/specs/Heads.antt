@@ -5,7 +5,6 @@ use Rattle.httparse.specs.Grammar.{RequestHead, print_request, ReadsRequest, Has
 use Rattle.httparse.specs.Spans.{name_and_value, RequestOverflows}
 use Rattle.cas_change.specs.Key.{first_bad_byte}
 use Rattle.cas_change.specs.declared.key.TheConstants.{LONGEST_KEY}
-use Rattle.cas_http.specs.declared.code.Code.{Code}
 use Rattle.cas_http.specs.declared.code.Code.TheVariants as code
 use Rattle.cas_http.specs.declared.fields.BodyLength.{BodyLength}
 use Rattle.cas_http.specs.declared.fields.BodyLength.TheVariants as body

@@ -1,5 +1,6 @@
 pub mod Codes
 pub mod Answers
+pub mod Responses
 pub mod Fields
 pub mod Programs
 pub mod ProgramJson

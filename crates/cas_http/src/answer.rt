@@ -1,7 +1,9 @@
 //! The bytes of answers.
 
 ghost use Rattle.std.specs.Prelude.{◌≡◌, ◌++◌, ◌||◌, string_bytes, length, decimal, IfOk, OnOk};
+ghost use Rattle.httparse.specs.Grammar.{ReadsResponse};
 ghost use Rattle.cas_http.specs.Codes.{closes};
+ghost use Rattle.cas_http.specs.Responses.{response_of};
 ghost use Rattle.cas_http.specs.Answers.{line_text, allow_text, close_text, answer_text_of};
 
 use crate::code::Code;
@@ -18,7 +20,11 @@ pub fn print_answer(
     body: &str,
     last: bool,
 ) -> Result<Vec<u8>, AllocError>
-    ensures { IfOk result (λ answer. answer.items ≡ answer_text_of code body.now (last || closes code)) }
+    ensures text { IfOk result (λ answer. answer.items
+        ≡ answer_text_of code body.now (last || closes code)) }
+    // A reader of HTTP finds this head, which has the code and the length, and behind it the body.
+    ensures response { IfOk result (λ answer. ReadsResponse answer.items
+        (response_of code (length body.now) (last || closes code)) body.now) }
 {
     let mut digits = Buffer::new();
     let mut answer = String::new(alloc);

@@ -60,7 +60,8 @@ fn count_named(fields: &[Header], name: &str) -> usize
 
 /// The value of the first field of this name.
 fn value_named<'b>(fields: &[Header<'b>], name: &str) -> Option<&'b [u8]>
-    ensures { option_map (λ value. value.now) result ≡ value_named name.now (map header_parts fields.now) }
+    ensures { option_map (λ value. value.now) result
+        ≡ value_named name.now (map header_parts fields.now) }
 {
     match fields {
         [] => None,

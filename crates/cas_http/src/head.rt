@@ -61,8 +61,9 @@ pub enum Front {
 pub fn read_front(alloc: Global, bytes: &[u8]) -> Result<Front, AllocError>
     ensures front { IfOk result (IsFront bytes.now) }
     // A head that stands there is found, whatever follows it.
-    ensures found { (h : RequestHead) (rest : List ℕ) → ReadsRequest (take MOST_HEAD bytes.now) h rest
-        → length h.fields ≤ MOST_FIELDS → IfOk result (λ front. front ≡ Front.Whole (head_of h)) }
+    ensures found { (h : RequestHead) (rest : List ℕ)
+        → ReadsRequest (take MOST_HEAD bytes.now) h rest → length h.fields ≤ MOST_FIELDS
+        → IfOk result (λ front. front ≡ Front.Whole (head_of h)) }
 {
     let mut room = [EMPTY_HEADER; MOST_FIELDS];
     let mut request = Request::new(&mut room);

@@ -46,7 +46,8 @@ fn program_in(alloc: Global, value: &Value) -> Result<Option<Program>, AllocErro
 
 /// The clauses that the values are, where each is one.
 fn clauses_in(alloc: Global, items: &[Value]) -> Result<Option<Vec<Clause>>, AllocError>
-    ensures { IfOk result (λ clauses. option_map (λ all. all.items) clauses ≡ clauses_in (items_view items.now)) }
+    ensures { IfOk result (λ clauses. option_map (λ all. all.items) clauses
+        ≡ clauses_in (items_view items.now)) }
 {
     let mut clauses = Vec::new(alloc);
     for item in items {
@@ -191,7 +192,8 @@ fn if_text(alloc: Global, bytes: &[u8]) -> Result<Option<Text>, AllocError>
 
 /// The name and the value of an object's only member.
 fn only_member(value: &Value) -> Option<(&str, &Value)>
-    ensures { option_map (λ only. (only.0.now, view only.1.now)) result ≡ only_member (view value.now) }
+    ensures { option_map (λ only. (only.0.now, view only.1.now)) result
+        ≡ only_member (view value.now) }
 {
     let members = value.as_object()?;
     if members.len() != 1 {

@@ -6,4 +6,8 @@ use Rattle.cas_http.specs.Fields.{is_separator}
 use Rattle.cas_http.proofs.fields.says_close.Goals as goal
 
 pub returns : goal.returns
-returns c = any_from_yields_List (λ word. str_eq_ignore_ascii_case word (codes "close")) _ _ _ c.any.ensures.ran (YieldsList-from_slice_split _ is_separator c.args.value.now c.split.ensures.rest c.split.ensures.done c.split.ensures.closure (λ x b q h. search rules)) (λ x b q h. search rules)
+returns c =
+    any_from_yields_List (λ word. str_eq_ignore_ascii_case word (codes "close")) _ _ _ c.any.ensures.ran
+    (YieldsList-from_slice_split _ is_separator c.args.value.now c.split.ensures.rest c.split.ensures.done c.split.ensures.closure
+    (λ x b q h. search rules))
+    (λ x b q h. search rules)

@@ -1,4 +1,4 @@
-use Rattle.std.proofs.Common.{ℕ, List, take, subst, sym, rules, arith}
+use Rattle.std.proofs.Common.{take, subst, sym, rules, arith}
 use Rattle.httparse.specs.Borrowed.{HoldsSomeRequest}
 use Rattle.httparse.specs.Grammar.{HasNoRequest, MayBecomeRequest}
 use Rattle.httparse.specs.Spans.{RequestOverflows}
@@ -22,7 +22,10 @@ returns-then-request-gt-MOST_FIELDS-clause-found c =
 pub returns-in_ok-head-in-Ok-Complete-clause-found : goal.returns-in_ok-head-in-Ok-Complete-clause-found
 returns-in_ok-head-in-Ok-Complete-clause-found c =
     let holds : HoldsSomeRequest (take MOST_HEAD c.args.bytes.now) c.parse.new.self c.in-Ok-Complete.length = search rules in
-    let here : IsFront c.args.bytes.now (Whole c.in_ok-head-in-Ok-Complete.head) = whole_is_front c.args.bytes.now c.parse.new.self c.in-Ok-Complete.length c.in_ok-head-in-Ok-Complete.head c.unwrap.result c.unwrap-in-Ok-Complete.result c.unwrap-in-Ok-Complete-2.result holds c.unwrap.ensures c.unwrap-in-Ok-Complete.ensures c.unwrap-in-Ok-Complete-2.ensures (omega arith) c.in_ok-head-in-Ok-Complete.ensures in
+    let whole = whole_is_front c.args.bytes.now c.parse.new.self c.in-Ok-Complete.length c.in_ok-head-in-Ok-Complete.head in
+    let parts = whole c.unwrap.result c.unwrap-in-Ok-Complete.result c.unwrap-in-Ok-Complete-2.result holds in
+    let here : IsFront c.args.bytes.now (Whole c.in_ok-head-in-Ok-Complete.head) =
+    parts c.unwrap.ensures c.unwrap-in-Ok-Complete.ensures c.unwrap-in-Ok-Complete-2.ensures (omega arith) c.in_ok-head-in-Ok-Complete.ensures in
     λ h rest reads fits. front_is_found c.args.bytes.now c.in_ok-head-in-Ok-Complete.head h rest here reads
 
 pub returns-in-Ok-Partial-clause-front : goal.returns-in-Ok-Partial-clause-front
