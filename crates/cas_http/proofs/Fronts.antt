@@ -59,13 +59,15 @@ pub whole_is_front : (bytes : List ℕ) (request : Request) (size : ℕ) (head :
     → length request.headers.now ≤ MOST_FIELDS → head ≡ head_with size name.now target.now minor (map header_parts request.headers.now)
     → IsFront bytes (front.Whole head)
 whole_is_front bytes request size head name target minor (h, holds) name_is target_is minor_is fits is =
+    let same_name = copied_is request.method name h.method name_is holds.method in
+    let same_target = copied_is request.path target h.target target_is holds.path in
     let minors : Some minor ≡ Some h.minor = sym minor_is ∙ holds.version in
     let same_minor : minor ≡ h.minor = cc in (
       h,
       _,
       holds.reads,
       omega (arith, fields_length request.headers.now h holds.fields),
-      is ∙ heads_agree _ _ _ _ _ _ _ _ _ _ holds.len_is (copied_is request.method name h.method name_is holds.method) (copied_is request.path target h.target target_is holds.path) same_minor holds.fields,
+      is ∙ heads_agree _ _ _ _ _ _ _ _ _ _ holds.len_is same_name same_target same_minor holds.fields,
     )
 
 -- one head alone stands there
