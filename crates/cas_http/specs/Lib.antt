@@ -6,4 +6,5 @@ pub mod Programs
 pub mod ProgramJson
 pub mod Methods
 pub mod Heads
+pub mod Requests
 pub mod Outcomes
