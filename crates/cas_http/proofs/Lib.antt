@@ -7,5 +7,6 @@ mod LongerFronts
 mod ObjectMembers
 mod OutcomeJson
 mod ProgramJson
+mod RequestFronts
 mod Responses
 mod Utf8

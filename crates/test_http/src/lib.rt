@@ -10,3 +10,5 @@ mod answers;
 mod heads;
 #[cfg(test)]
 mod programs;
+#[cfg(test)]
+mod requests;
