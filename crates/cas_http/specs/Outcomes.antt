@@ -1,5 +1,5 @@
 -- The JSON that answers a change.
-use Rattle.std.specs.Prelude.{ℕ, if◌then◌else◌, List, codes}
+use Rattle.std.specs.Prelude.{ℕ, Bool, if◌then◌else◌, List, codes}
 use Rattle.std.specs.Str.{is_utf8}
 use Rattle.hex.specs.Hex.{encode_lower}
 use Rattle.serde_json.specs.Data.{Data, null, number, unsigned, string, object, no_members, member}
@@ -15,8 +15,10 @@ use Rattle.cas_change.specs.declared.state.State.TheVariants.{Empty, Held}
 use Rattle.cas_record.specs.declared.answer.Answer.{Answer}
 use Rattle.cas_record.specs.declared.answer.Answer.TheVariants as answer
 use Rattle.cas_lines.specs.Answers.{answer_text}
+use Rattle.serde_json.specs.Written.{compact_text}
 use Rattle.cas_http.specs.declared.code.Code.{Code}
 use Rattle.cas_http.specs.declared.code.Code.TheVariants as code
+use Rattle.cas_http.specs.Answers.{answer_text_of}
 
 -- an object of the two members, of which the first has that name
 abbrev pub versioned : List ℕ → Data → ℕ → Data
@@ -62,3 +64,7 @@ code_of other = code.Unavailable
 abbrev pub answer_data : Answer → Data
 answer_data (answer.Done state by ballot) = done_data state by ballot
 answer_data other = told_data (answer_text other)
+
+-- the whole answer to a change, after which the connection closes or not
+abbrev pub reply_text : Answer → Bool → List ℕ
+reply_text told last = answer_text_of (code_of told) (compact_text (answer_data told)) last

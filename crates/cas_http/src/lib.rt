@@ -17,5 +17,5 @@ pub use answer::print_answer;
 pub use code::Code;
 pub use head::{Asks, Front, Head, MOST_BODY, MOST_FIELDS, MOST_HEAD, read_front};
 pub use method::Method;
-pub use outcome::{code_of, print_body};
+pub use outcome::{code_of, print_body, print_reply};
 pub use request::{Request, Spelled, read_request};

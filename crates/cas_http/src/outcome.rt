@@ -5,8 +5,9 @@ ghost use Rattle.std.specs.Str.{is_utf8};
 ghost use Rattle.serde_json.specs.Read.{read};
 ghost use Rattle.serde_json.specs.View.{view};
 ghost use Rattle.serde_json.specs.Written.{compact_text};
-ghost use Rattle.cas_http.specs.Outcomes.{text_data, body_data, state_data, took_data, done_data, told_data, code_of, answer_data};
+ghost use Rattle.cas_http.specs.Outcomes.{text_data, body_data, state_data, took_data, done_data, told_data, code_of, answer_data, reply_text};
 
+use crate::answer::print_answer;
 use crate::code::Code;
 use cas_ballot::Ballot;
 use cas_change::{Body, State, Took};
@@ -25,6 +26,14 @@ pub fn code_of(answer: &Answer) -> Code
         Answer::Conflict { .. } => Code::Conflict,
         _ => Code::Unavailable,
     }
+}
+
+/// The whole answer to a change. The connection closes behind it exactly where `last` is true. Only memory can fail.
+pub fn print_reply(alloc: Global, answer: &Answer, last: bool) -> Result<Vec<u8>, AllocError>
+    ensures { IfOk result (λ bytes. bytes.items ≡ reply_text answer.now last) }
+{
+    let body = print_body(alloc, answer)?;
+    print_answer(alloc, code_of(answer), &body, last)
 }
 
 /// The body of what a change is answered, as JSON in one line without blanks.

@@ -2,7 +2,7 @@
 
 use cas_ballot::Ballot;
 use cas_change::{Body, State, Text, Took};
-use cas_http::{Code, code_of, print_answer, print_body};
+use cas_http::{Code, code_of, print_answer, print_body, print_reply};
 use cas_record::{Answer, Cause};
 use std::alloc::Global;
 use std::process::Abort;
@@ -98,6 +98,31 @@ fn another_answer_is_told_by_its_text(rt: HostRuntime) -> Result<(), Fail> {
         ),
     ] {
         answers(&rt, rt.alloc(), answer, code, body)?;
+    }
+    Ok(())
+}
+
+/// The answers to a change that adds 5 to an empty register, and to one that met a greater ballot.
+#[test]
+fn a_reply_is_written_whole(rt: HostRuntime) -> Result<(), Fail> {
+    let five = State::Held {
+        version: 0,
+        body: Body::Number(5),
+    };
+    for (answer, last, want) in [
+        (
+            done(five, Took::Clause(0)),
+            false,
+            "HTTP/1.1 200 OK\r\nContent-Type: application/json\r\nContent-Length: 51\r\n\r\n{\"at\":\"2.1\",\"state\":{\"num\":5,\"version\":0},\"took\":0}",
+        ),
+        (
+            Answer::Conflict { met: ballot(9) },
+            true,
+            "HTTP/1.1 409 Conflict\r\nContent-Type: application/json\r\nContent-Length: 25\r\nConnection: close\r\n\r\n{\"answer\":\"conflict 9.1\"}",
+        ),
+    ] {
+        let reply = print_reply(rt.alloc(), &answer, last)?;
+        assert_eq!(rt; reply.as_slice(), want.as_bytes());
     }
     Ok(())
 }
