@@ -1,6 +1,6 @@
 //! The store over HTTP, as far as it is values: what a request asks for, the program that its body spells, and the bytes of an answer.
 //!
-//! Heads are read by `httparse`, and bodies by `serde_json`. Nothing here reads, writes or runs a change.
+//! Heads are read by `httparse`, and bodies by `serde_json`. Nothing here reads or writes a stream, and nothing runs a change.
 #![tactic(auto)]
 
 mod answer;
