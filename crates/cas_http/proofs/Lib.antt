@@ -1,0 +1,12 @@
+mod BodyPrograms
+mod ClauseLists
+mod Fronts
+mod KeyTests
+mod Lengths
+mod LongerFronts
+mod ObjectMembers
+mod OutcomeJson
+mod ProgramJson
+mod RequestFronts
+mod Responses
+mod Utf8

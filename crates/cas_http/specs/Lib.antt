@@ -1,0 +1,10 @@
+pub mod Codes
+pub mod Answers
+pub mod Responses
+pub mod Fields
+pub mod Programs
+pub mod ProgramJson
+pub mod Methods
+pub mod Heads
+pub mod Requests
+pub mod Outcomes
