@@ -1,5 +1,6 @@
 pub mod Along
 pub mod Blame
+pub mod Marked
 pub mod Parsers
 pub mod Runs
 pub mod Scripts

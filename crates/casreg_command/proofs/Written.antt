@@ -30,7 +30,7 @@ use Rattle.cas_store.specs.declared.rack.RackFault.{RackFault}
 use Rattle.cas_store.specs.declared.rack.Rack.{Rack}
 use Rattle.casreg_script.specs.Stage.{Stage}
 use Rattle.casreg_script.specs.declared.load.Load.{Load}
-use Rattle.casreg_command.specs.Causes.{AnswersTo, AreFirstLines, WroteIn, EndsIn, IsOfDisk, IsRackOf, Ran, Loaded, WroteSummary, WentIn, CameOut, NothingRan, WroteBy, Wrote, not_opened, no_board, status_of, LoadEnds, whole, sink_failed, no_text, broke_off}
+use Rattle.casreg_command.specs.Causes.{AnswersTo, AreFirstLines, WroteIn, EndsIn, IsOfDisk, IsRackOf, Ran, RanLeaving, Loaded, WroteSummary, UsesDisks, WentIn, CameOut, NothingRan, WroteBy, Wrote, not_opened, no_board, status_of, LoadEnds, whole, sink_failed, no_text, broke_off}
 use Rattle.cas_model.specs.View.{Meaning, disk_meaning}
 use Rattle.casreg_script.specs.Script.{State, opening_state, AnswersLine, RanOrNot, not_run, ran, one_more, text_of, transcript_of}
 use Rattle.casreg_command.specs.Status.{status_of_fault, status_of_rack, status_of_opening}
@@ -269,6 +269,17 @@ ran_from {D} meant tells tries made P input old new world closed stage marks res
       rack = subst (λ (w : View (DiskShelf D) D). IsRackOf w back) same (record { acceptors = acceptors; vaults = vaults });
     }
 
+-- the same with the marks of its record
+pub leaving_from : {D : Type 0} (meant : Meaning (DiskShelf D) D) (tells : Type 0) (tries made : ℕ) (P : List (List ℕ) → Type 0) (input old new : Option (List ℕ)) (world closed : View (DiskShelf D) D) (stage : Stage (DiskShelf D) D) (marks : List Mark) (result : Status) (back : Rack D) → made ≡ tries
+    → closed ≡ stage.world → EndsIn meant made P input old new (opening_state world) stage result → marks ≡ closed.marks → (tells → IsLegal (reverse marks)) → (tells → AreKept meant.disks.may_leave (reverse marks) back.acceptors.items) → back.acceptors.items ≡ acceptor_disks closed.acceptors
+    → take (closed.last_proposer + 1) back.vaults.items ≡ disks_of closed.desks → RanLeaving meant tells tries P input old new world marks result back
+unfolding ran_from
+leaving_from {D} meant tells tries made P input old new world closed stage marks result back tries_are is ends marks_are legal kept acceptors vaults = record {
+  ran = ran_from meant tells tries made P input old new world closed stage marks result back tries_are is ends marks_are legal kept acceptors vaults;
+  marks_are = marks_are
+      ∙ ap (λ (w : View (DiskShelf D) D). w.marks) (is ∙ (subst (λ (n : ℕ). EndsIn meant n P input old new (opening_state world) stage result) tries_are ends).is_in.world);
+}
+
 -- the same of a load
 pub loaded_from : {D : Type 0} (meant : Meaning (DiskShelf D) D) (tells : Type 0) (load : Load) (old new : Option (List ℕ)) (world closed : View (DiskShelf D) D) (marks : List Mark) (result : Status) (back : Rack D) → WroteSummary meant load old new world closed result → marks ≡ closed.marks → (tells → IsLegal (reverse marks))
     → (tells → AreKept meant.disks.may_leave (reverse marks) back.acceptors.items) → back.acceptors.items ≡ acceptor_disks closed.acceptors
@@ -288,11 +299,11 @@ wrote_nothing meant m asked given out why same = inl (record { why = why; unwrit
 
 -- the store did not open
 pub closed_still : {D : Type 0} (m : RackMeaning D) (asked : Request) (given : WentIn D) (out : CameOut D) (empty : Rack D) (fault : OpenFault) (acceptors proposers : ℕ)
-    → acceptors ≡ acceptors_of asked → proposers ≡ proposers_of asked → out.status ≡ status_of_opening fault
+    → UsesDisks asked → acceptors ≡ acceptors_of asked → proposers ≡ proposers_of asked → out.status ≡ status_of_opening fault
     → IsAllEmpty m given.rack empty → StaysClosed m.faults acceptors proposers empty.acceptors.items empty.vaults.items fault out.rack.acceptors.items out.rack.vaults.items
     → NothingRan m asked given out
-closed_still m asked given out empty fault acceptors proposers are_acceptors are_proposers is are_empty closed =
-    not_opened empty fault are_empty
+closed_still m asked given out empty fault acceptors proposers uses are_acceptors are_proposers is are_empty closed =
+    not_opened empty fault uses are_empty
     (subst (λ (n : ℕ). StaysClosed m.faults (acceptors_of asked) n empty.acceptors.items empty.vaults.items fault out.rack.acceptors.items out.rack.vaults.items) are_proposers
     (subst (λ (n : ℕ). StaysClosed m.faults n proposers empty.acceptors.items empty.vaults.items fault out.rack.acceptors.items out.rack.vaults.items) are_acceptors closed))
     is
@@ -305,7 +316,7 @@ pub no_race : {D : Type 0} (m : RackMeaning D) (asked : Request) (given : WentIn
     → NothingRan m asked given out
 no_race m asked given out options empty fault acceptors proposers are_acceptors are_proposers is_race is are_empty (inl none) = no_board options empty is_race are_empty (is ∙ ap status_of_opening none)
 no_race m asked given out options empty fault acceptors proposers are_acceptors are_proposers is_race is are_empty (inr closed) =
-    closed_still m asked given out empty fault acceptors proposers are_acceptors are_proposers is are_empty closed
+    closed_still m asked given out empty fault acceptors proposers (subst UsesDisks (sym is_race) tt) are_acceptors are_proposers is are_empty closed
 
 -- ---- by what was asked for
 pub wrote_by : {D : Type 0} (meant : Meaning (DiskShelf D) D) (m : RackMeaning D) (asked other : Request) (given : WentIn D) (out : CameOut D) → asked ≡ other
