@@ -7,15 +7,28 @@ use Rattle.cas_record.specs.Logs.Orderly.{IsAboveFloors}
 use Rattle.cas_record.specs.Places.{Stands}
 use Rattle.cas_slot.specs.Shelf.{Left}
 use Rattle.cas_disk_shelf.specs.Image.{left_on}
-use Rattle.cas_disk_shelf.specs.Shelf.{disk_of, ShelfMayLeave}
+use Rattle.cas_disk.specs.declared.disk.Disk.{Ghosts as DiskKind}
+use Rattle.cas_disk_shelf.specs.Shelf.{contents_of, disk_of, ShelfMayLeave}
 use Rattle.cas_disk_shelf.specs.declared.shelf.DiskShelf.{DiskShelf}
-use Rattle.cas_model.specs.View.{Meaning, View}
+use Rattle.cas_model.specs.View.{Meaning, View, disk_meaning}
 use Rattle.cas_model.specs.Laws.{AcknowledgedIsKept}
 use Rattle.cas_model.proofs.Places.{at_one}
 use Rattle.cas_model_stops.specs.Stopped.{SettledIsHeld}
 use Rattle.cas_store.specs.Kept.{AreHeld, AreKept}
 use Rattle.cas_store.specs.Store.{acceptor_disks}
 use Rattle.cas_store.proofs.Standing.{at_mapped}
+
+-- what disks mean that bear shelves and vaults
+abbrev pub stored : {D : Type 0} → DiskKind D → Meaning (DiskShelf D) D
+stored D = record {
+  shelves = record {
+    contents = λ shelf. contents_of shelf;
+    tells = D.tells;
+    may_leave = λ shelf left. ShelfMayLeave D.may_leave shelf left;
+    faults = λ shelf. D.fault_count (disk_of shelf);
+  };
+  disks = disk_meaning D;
+}
 
 pub kept_on_disks : {D : Type 0} (m : Meaning (DiskShelf D) D) (may_leave : D → List ℕ → Type 0) (view : View (DiskShelf D) D)
     → ((shelf : DiskShelf D) (left : Left) → ShelfMayLeave may_leave shelf left → m.shelves.may_leave shelf left)

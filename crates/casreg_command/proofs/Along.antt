@@ -9,7 +9,7 @@ use Rattle.cas_store.specs.declared.rack.Rack.{Rack}
 use Rattle.casreg_script.specs.Script.{opening_state}
 use Rattle.casreg_progress.proofs.Runs.{runs_are_done}
 use Rattle.cas_world.specs.Openings.Opening.{members_to}
-use Rattle.casreg_command.specs.Causes.{WentIn, CameOut, AreDoneAlong, IsNewOver, Ran, WroteScript}
+use Rattle.casreg_command.specs.Causes.{WentIn, CameOut, AreDoneAlong, IsNewOver, Ran, RanOver, WroteScript}
 use Rattle.casreg_command.specs.Words.{acceptors_of, proposers_of}
 use Rattle.casreg_command.specs.declared.words.Request.{Request}
 use Rattle.casreg_command.specs.declared.status.Status.{Status}
@@ -32,19 +32,20 @@ safe_done meant tells tries P input old new world back (status.Endless line) saf
 -- a run over a new world
 pub ran_over : {D : Type 0} {meant : Meaning (DiskShelf D) D} {m : RackMeaning D} {given : WentIn D} {out : CameOut D} (options : Options) (rack : Rack D) (world : View (DiskShelf D) D)
     → IsAllEmpty m given.rack rack → IsNewOver meant options.acceptors options.proposers rack world
-    → Ran meant m.tells options.tries out.HadEnded given.input given.written out.written world out.status out.rack → WroteScript meant m options given out
+    → RanOver meant m.tells options out.HadEnded given.input given.written out.written world out.status out.rack → WroteScript meant m options given out
 ran_over {meant = meant} {m} {given} {out} options rack world empty over by = record {
   rack = rack;
   empty = empty;
   world = world;
   over = over;
   ran = by;
-  done = safe_done meant m.tells options.tries out.HadEnded given.input given.written out.written world out.rack out.status (opens_are_safe meant (members_to options.acceptors) world over.opening over.places) by;
+  done = safe_done meant m.tells options.tries out.HadEnded given.input given.written by.between world out.rack by.before (opens_are_safe meant (members_to options.acceptors) world over.opening over.places) by.ran;
 }
 
 -- ---- the world that was asked for
 -- a new world of as many acceptors and proposers as are asked for is one of a request that asks for the same
-pub new_of : {D : Type 0} {meant : Meaning (DiskShelf D) D} {asked : Rack D} {world : View (DiskShelf D) D} (acceptors proposers : ℕ) (asks other : Request) → acceptors ≡ acceptors_of asks → proposers ≡ proposers_of asks → asks ≡ other → IsNewOver meant acceptors proposers asked world
+pub new_of : {D : Type 0} {meant : Meaning (DiskShelf D) D} {asked : Rack D} {world : View (DiskShelf D) D} (acceptors proposers : ℕ) (asks other : Request)
+    → acceptors ≡ acceptors_of asks → proposers ≡ proposers_of asks → asks ≡ other → IsNewOver meant acceptors proposers asked world
     → IsNewOver meant (acceptors_of other) (proposers_of other) asked world
 new_of {D} {meant} {asked} {world} acceptors proposers asks other are_acceptors are_proposers same over =
     subst (λ (r : Request). IsNewOver meant (acceptors_of r) (proposers_of r) asked world) same

@@ -13,6 +13,8 @@ use Rattle.cas_world.specs.declared.fault.OpenFault.{OpenFault}
 use Rattle.cas_world.specs.declared.fault.OpenFault.TheVariants as opening
 use Rattle.casreg_script.specs.Script.{State}
 use Rattle.casreg_script.specs.declared.load.Load.{Load}
+use Rattle.casreg_command.specs.Records.{WroteFinding}
+use Rattle.casreg_command.proofs.Marked.{behind_blamed, low_or_high, rose_later}
 use Rattle.casreg_command.specs.Causes.{IsDisk, of_acceptor, of_vault, AreDisksToBlame, WentIn, CameOut, NothingRan, WroteIn, WroteBy, Wrote, no_words_read, not_empty, not_opened, no_board, WroteSummary, whole, sink_failed, no_text, broke_off}
 use Rattle.casreg_command.specs.Words.{acceptors_of, proposers_of}
 use Rattle.casreg_command.specs.declared.words.Request.{Request}
@@ -26,24 +28,12 @@ use Rattle.casreg_command.specs.Status.{status_of_rack, status_of_opening, statu
 use Rattle.casreg_command.specs.declared.status.Status.{Status}
 use Rattle.casreg_command.specs.declared.status.Status.TheVariants as status
 
--- a count that did not fall and then rose has risen
-rose_later : (old mid new : ℕ) → old ≤ mid → Rose mid new → Rose old new
-rose_later old mid new low (inl up) = inl (omega (arith, low, up))
-rose_later old mid new low (inr most) = inr most
-
 from_zero : (n : ℕ) → 0 + n ≡ n
 from_zero n = omega arith
 
-low_or_high : (a b : ℕ) → (a < b) ⊎ (b ≤ a)
-low_or_high a zero = inr (omega arith)
-low_or_high zero (suc b) = inl (omega arith)
-low_or_high (suc a) (suc b) = elim (low_or_high a b) [
-  | inl low ↦ inl (omega (arith, low))
-  | inr high ↦ inr (omega (arith, high))
-]
-
 -- ---- disks that were asked for their lengths
-not_empty_by : {D : Type 0} (m : RackMeaning D) (rack back : Rack D) (number : ℕ) (was now : D) (fault : RackFault) → IsDisk rack number was → IsDisk back number now → IsWhyNot m number was fault now → AreDisksToBlame m rack back (status_of_rack fault)
+not_empty_by : {D : Type 0} (m : RackMeaning D) (rack back : Rack D) (number : ℕ) (was now : D) (fault : RackFault) → IsDisk rack number was → IsDisk back number now
+    → IsWhyNot m number was fault now → AreDisksToBlame m rack back (status_of_rack fault)
 not_empty_by {D} m rack back number was now (rack_fault.NotEmpty disk) is_was is_now why = record {
   disk = was;
   is_disk = subst (λ (n : ℕ). IsDisk rack n was) (sym why.cause.0) is_was;
@@ -75,7 +65,8 @@ was_there {D} m old new to place now empty at = elim (low_or_high place to) [
   | inr high ↦ record { was = now; at_was = empty.others place now high at; never_falls = omega arith }
 ]
 
-opening_by : {D : Type 0} (m : RackMeaning D) (rack asked back : Rack D) (number : ℕ) (was mid now : D) (fault : OpenFault) → IsDisk rack number was → m.faults was ≤ m.faults mid → IsDisk back number now
+opening_by : {D : Type 0} (m : RackMeaning D) (rack asked back : Rack D) (number : ℕ) (was mid now : D) (fault : OpenFault) → IsDisk rack number was
+    → m.faults was ≤ m.faults mid → IsDisk back number now
     → IsFaultOf number (m.faults mid) (m.faults now) fault → AreDisksToBlame m rack back (status_of_opening fault)
 opening_by {D} m rack asked back number was mid now (opening.DiskFault disk) is_was low is_now cause = record {
   was = was;
@@ -88,7 +79,8 @@ opening_by m rack asked back number was mid now (opening.Foreign disk at) is_was
 opening_by m rack asked back number was mid now (opening.Spent disk) is_was low is_now cause = absurd cause
 opening_by m rack asked back number was mid now opening.NoMemory is_was low is_now cause = tt
 
-opening_blamed : {D : Type 0} (m : RackMeaning D) (count last_proposer : ℕ) (rack asked back : Rack D) (fault : OpenFault) → IsAllEmpty m rack asked → StaysClosed m.faults count last_proposer asked.acceptors.items asked.vaults.items fault back.acceptors.items back.vaults.items
+opening_blamed : {D : Type 0} (m : RackMeaning D) (count last_proposer : ℕ) (rack asked back : Rack D) (fault : OpenFault) → IsAllEmpty m rack asked
+    → StaysClosed m.faults count last_proposer asked.acceptors.items asked.vaults.items fault back.acceptors.items back.vaults.items
     → AreDisksToBlame m rack back (status_of_opening fault)
 opening_blamed m count last_proposer rack asked back fault empty (nothing_reached none acceptors vaults) = subst (λ (f : OpenFault). AreDisksToBlame m rack back (status_of_opening f)) (sym none) tt
 opening_blamed m count last_proposer rack asked back fault empty (a_member_fails one vaults) =
@@ -131,19 +123,34 @@ race_blamed m rack back (Err (race.NotRun fault.NoMemory)) = tt
 race_blamed m rack back (Err (race.CutOff text.WriteFault)) = tt
 race_blamed m rack back (Err (race.CutOff text.NoMemory)) = tt
 
+-- and an audit
+audit_blamed : {D : Type 0} (m : RackMeaning D) (rack back : Rack D) (input old new : Option (List ℕ)) (result : Status) → WroteFinding input old new result
+    → AreDisksToBlame m rack back result
+audit_blamed m rack back input old new status.Ok wrote = tt
+audit_blamed m rack back input old new status.Usage wrote = tt
+audit_blamed m rack back input old new status.ReadFault wrote = tt
+audit_blamed m rack back input old new status.WriteFault wrote = tt
+audit_blamed m rack back input old new (status.NotEmpty disk) wrote = absurd wrote
+audit_blamed m rack back input old new (status.DiskFault disk) wrote = absurd wrote
+audit_blamed m rack back input old new status.TooManyLines wrote = tt
+audit_blamed m rack back input old new status.NoMemory wrote = tt
+audit_blamed m rack back input old new (status.Endless line) wrote = tt
+
 -- where nothing ran
-nothing_blamed : {D : Type 0} (m : RackMeaning D) (asked : Request) (given : WentIn D) (out : CameOut D) → NothingRan m asked given out → AreDisksToBlame m given.rack out.rack out.status
+nothing_blamed : {D : Type 0} (m : RackMeaning D) (asked : Request) (given : WentIn D) (out : CameOut D) → NothingRan m asked given out
+    → AreDisksToBlame m given.rack out.rack out.status
 nothing_blamed m asked given out (no_words_read is same) = subst (λ (s : Status). AreDisksToBlame m given.rack out.rack s) (sym is) tt
-nothing_blamed m asked given out (not_empty fault not is) = subst (λ (s : Status). AreDisksToBlame m given.rack out.rack s) (sym is) (rack_blamed m given.rack out.rack fault not)
-nothing_blamed m asked given out (not_opened empty fault are closed is) =
+nothing_blamed m asked given out (not_empty fault uses not is) = subst (λ (s : Status). AreDisksToBlame m given.rack out.rack s) (sym is) (rack_blamed m given.rack out.rack fault not)
+nothing_blamed m asked given out (not_opened empty fault uses are closed is) =
     subst (λ (s : Status). AreDisksToBlame m given.rack out.rack s) (sym is) (opening_blamed m (acceptors_of asked) (proposers_of asked) given.rack empty out.rack fault are closed)
 nothing_blamed m asked given out (no_board options empty race are is) = subst (λ (s : Status). AreDisksToBlame m given.rack out.rack s) (sym is) tt
 
 by_request : {D : Type 0} (meant : Meaning (DiskShelf D) D) (m : RackMeaning D) (asked : Request) (given : WentIn D) (out : CameOut D) → WroteBy meant m asked given out
     → AreDisksToBlame m given.rack out.rack out.status
-by_request meant m (request.Script options) given out by = ran_blamed meant m options.tries out.HadEnded given.input given.written out.written _ by.ran.last given.rack out.rack out.status by.ran.wrote
-by_request meant m (request.Race options) given out by = subst (λ (s : Status). AreDisksToBlame m given.rack out.rack s) (sym by.raced.is) (race_blamed m given.rack out.rack by.raced.ended)
+by_request meant m (request.Script options) given out by = behind_blamed m given.rack out.rack by.ran.behind (ran_blamed meant m options.tries out.HadEnded given.input given.written by.ran.between _ by.ran.ran.last given.rack out.rack by.ran.before by.ran.ran.wrote)
+by_request meant m (request.Race options) given out by = behind_blamed m given.rack out.rack by.raced.behind (subst (λ (s : Status). AreDisksToBlame m given.rack out.rack s) (sym by.raced.raced.is) (race_blamed m given.rack out.rack by.raced.raced.ended))
 by_request meant m (request.Load load) given out by = load_blamed meant m load given.written out.written by.world by.loaded.last given.rack out.rack out.status by.loaded.wrote
+by_request meant m request.Audit given out by = audit_blamed m given.rack out.rack given.input given.written out.written out.status by.wrote
 
 pub blamed : {D : Type 0} (meant : Meaning (DiskShelf D) D) (m : RackMeaning D) (asked : Request) (given : WentIn D) (out : CameOut D) → Wrote meant m asked given out
     → AreDisksToBlame m given.rack out.rack out.status

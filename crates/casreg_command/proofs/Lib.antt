@@ -1,7 +1,9 @@
 pub mod Along
 pub mod Blame
+pub mod Marked
 pub mod Parsers
 pub mod Runs
 pub mod Scripts
+pub mod Seeds
 pub mod Taken
 pub mod Written

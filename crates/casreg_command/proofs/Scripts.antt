@@ -1,4 +1,4 @@
--- The options of a script, of a race and of a load, where clap takes the words.
+-- The options of a script, of a race, of a load and of an audit, where clap takes the words.
 use Rattle.std.proofs.Common.{◌≡◌, ℕ, Bool, true, false, cond, List, [], Option, Some, None, is_some, refl, sym, ap, subst, inl, inr, codes, find}
 use Rattle.std.specs.Prelude.{◌⊎◌, option_map, slice_get, unwrap_or}
 use Rattle.clap.specs.declared.builder.value_parser.ValueParser.TheVariants.{Unsigned}
@@ -8,8 +8,8 @@ use Rattle.clap.specs.Simple.{Shape, new_shape, built, entered, names_of, subcom
 use Rattle.clap.specs.Walk.{Rule, Row, Text, Waiting, walk, walk_from, nothing_held, settled, finished, with_default, default_rows, reading_by, has_row, answers_to, subcommand_met, arg_by_index}
 use Rattle.clap.specs.Walk.Waiting.{idle, option, positional}
 use Rattle.clap.specs.Faults.{level_fault, entered_fault, walk_fault, settle_fault, defaults_fault, check_fault}
-use Rattle.casreg_command.specs.Words.{casreg, command_line, faults_of, HasOptions, HasDrawing, HasCommand}
-use Rattle.casreg_command.proofs.Taken.{Each, IsOption, IsKnown, Passes, IsNamed, by_test, neither, found_each, walk_each, settled_each, default_each, default_there, default_stays, read_passes, walk_named}
+use Rattle.casreg_command.specs.Words.{casreg, command_line, faults_of, HasOptions, HasMarks, HasDrawing, HasCommand}
+use Rattle.casreg_command.proofs.Taken.{Each, IsOption, IsKnown, Passes, IsNamed, by_test, neither, found_each, walk_each, settled_each, default_each, default_there, default_stays, read_passes, reads_first, walk_named}
 
 -- the subcommand as clap builds it, and its rules
 abbrev taken : Shape
@@ -30,8 +30,11 @@ proposers = unwrap_or (slice_get rules 1) no_rule
 abbrev tries : Rule
 tries = unwrap_or (slice_get rules 2) no_rule
 
+abbrev marks : Rule
+marks = unwrap_or (slice_get rules 3) no_rule
+
 abbrev help : Rule
-help = unwrap_or (slice_get rules 3) no_rule
+help = unwrap_or (slice_get rules 4) no_rule
 
 is_acceptors : IsOption rules acceptors
 unfolding clap_on_literals
@@ -45,9 +48,13 @@ is_tries : IsOption rules tries
 unfolding clap_on_literals
 is_tries = record { own = refl; action = refl; least = refl; most = refl; reading = refl }
 
+is_marks : IsOption rules marks
+unfolding clap_on_literals
+is_marks = record { own = refl; action = refl; least = refl; most = refl; reading = refl }
+
 known : (test : Rule → Bool) (a : Rule) → find test rules ≡ Some a → IsKnown rules a
 unfolding clap_on_literals
-known test a is = found_each (IsKnown rules) test rules a (inl is_acceptors, (inl is_proposers, (inl is_tries, (inr refl, tt)))) is
+known test a is = found_each (IsKnown rules) test rules a (inl is_acceptors, (inl is_proposers, (inl is_tries, (inl is_marks, (inr refl, tt))))) is
 
 no_places : (place : ℕ) → arg_by_index rules place ≡ None
 unfolding clap_on_literals
@@ -70,32 +77,47 @@ module _ (rows : List Row) (each : Each (Passes rules) rows) where
   abbrev third : List Row
   third = with_default second tries
 
-  all_pass : Each (Passes rules) third
-  unfolding clap_on_literals
-  all_pass = default_each rules tries is_tries (codes "1") refl refl second (default_each rules proposers is_proposers (codes "1") refl refl first (default_each rules acceptors is_acceptors (codes "3") refl refl rows each))
+  abbrev fourth : List Row
+  fourth = with_default third marks
 
-  has_acceptors : has_row acceptors.id third ≡ true
+  all_pass : Each (Passes rules) fourth
   unfolding clap_on_literals
-  has_acceptors = default_stays rules tries (codes "1") refl acceptors.id second (default_stays rules proposers (codes "1") refl acceptors.id first (default_there rules acceptors (codes "3") refl rows))
+  all_pass =
+      default_each rules marks is_marks (codes "no") refl refl third (default_each rules tries is_tries (codes "1") refl refl second
+      (default_each rules proposers is_proposers (codes "1") refl refl first (default_each rules acceptors is_acceptors (codes "3") refl refl rows each)))
 
-  has_proposers : has_row proposers.id third ≡ true
+  has_acceptors : has_row acceptors.id fourth ≡ true
   unfolding clap_on_literals
-  has_proposers = default_stays rules tries (codes "1") refl proposers.id second (default_there rules proposers (codes "1") refl first)
+  has_acceptors =
+      default_stays rules marks (codes "no") refl acceptors.id third (default_stays rules tries (codes "1") refl acceptors.id second
+      (default_stays rules proposers (codes "1") refl acceptors.id first (default_there rules acceptors (codes "3") refl rows)))
 
-  has_tries : has_row tries.id third ≡ true
+  has_proposers : has_row proposers.id fourth ≡ true
   unfolding clap_on_literals
-  has_tries = default_there rules tries (codes "1") refl second
+  has_proposers = default_stays rules marks (codes "no") refl proposers.id third (default_stays rules tries (codes "1") refl proposers.id second (default_there rules proposers (codes "1") refl first))
 
-  -- each option has a number within its bounds
-  numbers : HasOptions third
+  has_tries : has_row tries.id fourth ≡ true
   unfolding clap_on_literals
-  numbers =
-      let a = read_passes rules acceptors third is_acceptors has_acceptors all_pass in
-      let p = read_passes rules proposers third is_proposers has_proposers all_pass in
-      let t = read_passes rules tries third is_tries has_tries all_pass in (
-        (a.0, a.1, accepts-Accepts false (Unsigned 1 9) a.0 a.2),
-        (p.0, p.1, accepts-Accepts false (Unsigned 1 16) p.0 p.2),
-        (t.0, t.1, accepts-Accepts false (Unsigned 1 64) t.0 t.2),
+  has_tries = default_stays rules marks (codes "no") refl tries.id third (default_there rules tries (codes "1") refl second)
+
+  has_marks : has_row marks.id fourth ≡ true
+  unfolding clap_on_literals
+  has_marks = default_there rules marks (codes "no") refl third
+
+  -- each option has a number within its bounds, and `--marks` a text
+  options : HasOptions fourth × HasMarks fourth
+  unfolding clap_on_literals
+  options =
+      let a = read_passes rules acceptors fourth is_acceptors has_acceptors all_pass in
+      let p = read_passes rules proposers fourth is_proposers has_proposers all_pass in
+      let t = read_passes rules tries fourth is_tries has_tries all_pass in
+      let m = reads_first rules marks fourth is_marks has_marks all_pass in (
+        (
+          (a.0, a.1, accepts-Accepts false (Unsigned 1 9) a.0 a.2),
+          (p.0, p.1, accepts-Accepts false (Unsigned 1 16) p.0 p.2),
+          (t.0, t.1, accepts-Accepts false (Unsigned 1 64) t.0 t.2),
+        ),
+        ap is_some m.1,
       )
 
 leaf : (words : List Text) → level_fault taken [] nothing_held words false [] ≡ [] → HasCommand (Some (rows_at taken words))
@@ -106,8 +128,9 @@ leaf words none =
     let settles = neither (settle_fault rules taken.args_override_self end) _ parts.1 in
     let rows = walk_each rules known taken refl no_places [] words (walk_from nothing_held) parts.0 tt in
     let each = settled_each rules known taken.args_override_self end settles.0 rows in
-    let last : with_default (third (settled rules end).rows each) help ≡ third (settled rules end).rows each = default_none help (third (settled rules end).rows each) refl in
-    (subst HasOptions (sym last) (numbers (settled rules end).rows each), inl refl)
+    let last : with_default (fourth (settled rules end).rows each) help ≡ fourth (settled rules end).rows each = default_none help (fourth (settled rules end).rows each) refl in
+    let has = subst (λ (l : List Row). HasOptions l × HasMarks l) (sym last) (options (settled rules end).rows each) in
+    inl (inl refl, has.0, has.1)
 
 -- ---- the options of a race, whose rules are those of a script
 abbrev racing : Shape
@@ -121,8 +144,9 @@ race_leaf words none =
     let settles = neither (settle_fault rules racing.args_override_self end) _ parts.1 in
     let rows = walk_each rules known racing refl no_places [] words (walk_from nothing_held) parts.0 tt in
     let each = settled_each rules known racing.args_override_self end settles.0 rows in
-    let last : with_default (third (settled rules end).rows each) help ≡ third (settled rules end).rows each = default_none help (third (settled rules end).rows each) refl in
-    (subst HasOptions (sym last) (numbers (settled rules end).rows each), inr (inl refl))
+    let last : with_default (fourth (settled rules end).rows each) help ≡ fourth (settled rules end).rows each = default_none help (fourth (settled rules end).rows each) refl in
+    let has = subst (λ (l : List Row). HasOptions l × HasMarks l) (sym last) (options (settled rules end).rows each) in
+    inl (inr refl, has.0, has.1)
 
 -- ---- the options of a load
 abbrev loading : Shape
@@ -250,21 +274,30 @@ load_leaf words none =
     let each = settled_each load_rules load_known loading.args_override_self end settles.0 rows in
     let last : with_default (with_five (settled load_rules end).rows each) load_help ≡ with_five (settled load_rules end).rows each = default_none load_help (with_five (settled load_rules end).rows each) refl in
     let both = subst (λ (l : List Row). HasOptions l × HasDrawing l) (sym last) (load_numbers (settled load_rules end).rows each) in
-    (both.0, inr (inr (refl, both.1)))
+    inr (inl (refl, both.0, both.1))
+
+-- ---- an audit, which has none
+abbrev auditing : Shape
+auditing = unwrap_or (slice_get (built casreg).subs 3) (new_shape [])
+
+audit_leaf : (words : List Text) → HasCommand (Some (rows_at auditing words))
+unfolding clap_on_literals
+audit_leaf words = inr (inr refl)
 
 -- ---- the program
 -- the names of its subcommands
 abbrev IsCommand : Text → Type 0
-IsCommand name = (name ≡ codes "script") ⊎ (name ≡ codes "race") ⊎ (name ≡ codes "load")
+IsCommand name = (name ≡ codes "script") ⊎ (name ≡ codes "race") ⊎ (name ≡ codes "load") ⊎ (name ≡ codes "audit")
 
 only : (waiting : Waiting) (word name : Text) → subcommand_met (names_of (built casreg)) waiting word ≡ Some name → IsCommand name ⊎ (name ≡ codes "help")
 unfolding clap_on_literals
 only idle word name is = go (find (answers_to word) (names_of (built casreg))) refl is
   where
-    go : (o : Option (Text × List Text)) → find (answers_to word) (names_of (built casreg)) ≡ o → option_map (λ (n : Text × List Text). n.0) o ≡ Some name → IsCommand name ⊎ (name ≡ codes "help")
+    go : (o : Option (Text × List Text)) → find (answers_to word) (names_of (built casreg)) ≡ o → option_map (λ (n : Text × List Text). n.0) o ≡ Some name
+        → IsCommand name ⊎ (name ≡ codes "help")
     go None found e = absurd (cc e)
     go (Some n) found e =
-        let one = found_each (λ (n : Text × List Text). IsCommand n.0 ⊎ (n.0 ≡ codes "help")) (answers_to word) (names_of (built casreg)) n (inl (inl refl), (inl (inr (inl refl)), (inl (inr (inr refl)), (inr refl, tt)))) found in
+        let one = found_each (λ (n : Text × List Text). IsCommand n.0 ⊎ (n.0 ≡ codes "help")) (answers_to word) (names_of (built casreg)) n (inl (inl refl), (inl (inr (inl refl)), (inl (inr (inr (inl refl))), (inl (inr (inr (inr refl))), (inr refl, tt))))) found in
         let same : n.0 ≡ name = cc e in
         subst (λ (t : Text). IsCommand t ⊎ (t ≡ codes "help")) same one
 only (option id) word name is = absurd (cc is)
@@ -276,18 +309,19 @@ unfolding clap_on_literals
 wanted rows true none = refl
 wanted rows false none = absurd (cc none)
 
-met : (stop : Option (Text × List Text)) → IsNamed IsCommand stop → is_some (entered (built casreg) stop) ≡ true → (words : List Text) × ((stop ≡ Some (codes "script", words)) ⊎ (stop ≡ Some (codes "race", words)) ⊎ (stop ≡ Some (codes "load", words)))
+met : (stop : Option (Text × List Text)) → IsNamed IsCommand stop → is_some (entered (built casreg) stop) ≡ true → (words : List Text) × ((stop ≡ Some (codes "script", words)) ⊎ (stop ≡ Some (codes "race", words)) ⊎ (stop ≡ Some (codes "load", words)) ⊎ (stop ≡ Some (codes "audit", words)))
 met None named is = absurd (cc is)
 met (Some p) named is = (
   p.1,
   elim (named p refl) [
     | inl script ↦ inl (ap (λ (n : Text). Some (n, p.1)) script)
     | inr (inl race) ↦ inr (inl (ap (λ (n : Text). Some (n, p.1)) race))
-    | inr (inr load) ↦ inr (inr (ap (λ (n : Text). Some (n, p.1)) load))
+    | inr (inr (inl load)) ↦ inr (inr (inl (ap (λ (n : Text). Some (n, p.1)) load)))
+    | inr (inr (inr audit)) ↦ inr (inr (inr (ap (λ (n : Text). Some (n, p.1)) audit)))
   ],
 )
 
--- Where clap finds nothing wrong, a subcommand was met, and each of its options has a number within its bounds.
+-- Where clap finds nothing wrong, a subcommand was met, each of its options has a number within its bounds, and `--marks` a text.
 pub has_command : (words : List Text) → faults_of words ≡ [] → HasCommand (subcommand_of casreg (command_line words))
 unfolding clap_on_literals
 has_command words none =
@@ -308,7 +342,8 @@ has_command words none =
       | inr (inl race) ↦
           let below : level_fault racing [] nothing_held there.0 false [] ≡ [] = subst (λ (o : Option (Text × List Text)). entered_fault (built casreg) o ≡ []) race enters.0 in
           subst (λ (o : Option (Text × List Text)). HasCommand (entered (built casreg) o)) (sym race) (race_leaf there.0 below)
-      | inr (inr load) ↦
+      | inr (inr (inl load)) ↦
           let below : level_fault loading [] nothing_held there.0 false [] ≡ [] = subst (λ (o : Option (Text × List Text)). entered_fault (built casreg) o ≡ []) load enters.0 in
           subst (λ (o : Option (Text × List Text)). HasCommand (entered (built casreg) o)) (sym load) (load_leaf there.0 below)
+      | inr (inr (inr audit)) ↦ subst (λ (o : Option (Text × List Text)). HasCommand (entered (built casreg) o)) (sym audit) (audit_leaf there.0)
     ]

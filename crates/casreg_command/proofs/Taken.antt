@@ -21,7 +21,7 @@ use Rattle.clap.specs.declared.error.kind.ErrorKind.{ErrorKind}
 use Rattle.clap.specs.declared.error.kind.ErrorKind.TheVariants as kind
 use Rattle.clap.specs.Kinds.{Kinds, or_else, values_kinds, value_kinds, range_kinds}
 use Rattle.clap.specs.Simple.{Shape}
-use Rattle.clap.specs.Walk.{Rule, Row, Held, Text, Walk, Waiting, Step, Outcome, Names, action_of, reading_by, arg_by_id, arg_by_long, arg_by_short, arg_by_index, takes_values, at_row, without, more_values, with_values, used, used_as, values_or_missing, most_values, short_or_plain, settled, settled_rows, used_by_id, reacted, option_met, flag_met, long_met, short_met, bundle_met, bundle_step, bundle, attached_value, plain_word, option_word, after_flag, long_or_other, subcommand_or_other, subcommand_met, word_met, after_step, walked, walked_from, to_positional, has_row, with_default, default_rows, row_text, one_of}
+use Rattle.clap.specs.Walk.{Rule, Row, Held, Text, Walk, Waiting, Step, Outcome, Names, action_of, reading_by, arg_by_id, arg_by_long, arg_by_short, arg_by_index, takes_values, at_row, without, more_values, with_values, used, used_as, values_or_missing, most_values, short_or_plain, settled, settled_rows, used_by_id, reacted, option_met, flag_met, long_met, short_met, bundle_met, bundle_step, bundle, attached_value, plain_word, option_word, after_flag, long_or_other, subcommand_or_other, subcommand_met, word_met, after_step, walked, walked_from, to_positional, has_row, with_default, default_rows, row_text, first_of, one_of}
 use Rattle.clap.specs.Walk.Outcome.{done, waits, plain, refused}
 use Rattle.clap.specs.Walk.Waiting.{idle, option, positional}
 use Rattle.clap.specs.Walk.Step.{next, trailing, subcommand, value}
@@ -358,6 +358,18 @@ read_passes c a rows known has each =
     let row = found_passes (λ (r : Row). bytes_eq r.id a.id) rows has in
     let first = first_passes c a row.0 known (same_bytes row.0.id a.id row.2) (found_each (Passes c) (λ (r : Row). bytes_eq r.id a.id) rows row.0 each row.1) in
     (first.0, ap (λ (o : Option Row). option_and_then row_text o) row.1 ∙ first.1, first.2)
+
+-- the first value of an option, as it is written
+pub reads_first : (c : List Rule) (a : Rule) (rows : List Row) → IsOption c a → has_row a.id rows ≡ true → Each (Passes c) rows → (v : Text) × (first_of a.id rows ≡ Some v)
+reads_first c a rows known has each =
+    let row = found_passes (λ (r : Row). bytes_eq r.id a.id) rows has in
+    let passed = found_each (Passes c) (λ (r : Row). bytes_eq r.id a.id) rows row.0 each row.1 in
+    let value = there row.0.values passed.some in
+    (value.0, ap (λ (o : Option Row). option_and_then (λ (r : Row). slice_get r.values 0) o) row.1 ∙ value.1)
+  where
+    there : (vs : List Text) → 0 < length vs → (v : Text) × (slice_get vs 0 ≡ Some v)
+    there [] some = absurd (omega (arith, some))
+    there (v ∷ vs) some = (v, refl)
 
 -- ---- the subcommand at which a walk stops
 -- its name is one that is wanted, if there is one

@@ -14,8 +14,6 @@ use Rattle.cas_lines.specs.Sink.{AppendsFront}
 use Rattle.cas_lines.proofs.WholeRuns.{HasHandedOut-end}
 use Rattle.casreg_command.specs.declared.status.Status.{Status}
 use Rattle.casreg_command.specs.declared.status.Status.TheVariants as status
-use Rattle.cas_disk.specs.declared.disk.Disk.{Ghosts as DiskKind}
-use Rattle.cas_disk_shelf.specs.Shelf.{disk_of, contents_of, ShelfMayLeave}
 use Rattle.cas_disk_shelf.specs.declared.shelf.DiskShelf.{DiskShelf}
 use Rattle.cas_record.specs.Legal.{IsLegal}
 use Rattle.cas_record.specs.declared.mark.Mark.{Mark}
@@ -30,8 +28,8 @@ use Rattle.cas_store.specs.declared.rack.RackFault.{RackFault}
 use Rattle.cas_store.specs.declared.rack.Rack.{Rack}
 use Rattle.casreg_script.specs.Stage.{Stage}
 use Rattle.casreg_script.specs.declared.load.Load.{Load}
-use Rattle.casreg_command.specs.Causes.{AnswersTo, AreFirstLines, WroteIn, EndsIn, IsOfDisk, IsRackOf, Ran, Loaded, WroteSummary, WentIn, CameOut, NothingRan, WroteBy, Wrote, not_opened, no_board, status_of, LoadEnds, whole, sink_failed, no_text, broke_off}
-use Rattle.cas_model.specs.View.{Meaning, disk_meaning}
+use Rattle.casreg_command.specs.Causes.{AnswersTo, AreFirstLines, WroteIn, EndsIn, IsOfDisk, IsRackOf, Ran, RanLeaving, Loaded, WroteSummary, UsesDisks, WentIn, CameOut, NothingRan, WroteBy, Wrote, not_opened, no_board, status_of, LoadEnds, whole, sink_failed, no_text, broke_off}
+use Rattle.cas_model.specs.View.{Meaning}
 use Rattle.casreg_script.specs.Script.{State, opening_state, AnswersLine, RanOrNot, not_run, ran, one_more, text_of, transcript_of}
 use Rattle.casreg_command.specs.Status.{status_of_fault, status_of_rack, status_of_opening}
 use Rattle.casreg_command.specs.Words.{AreWords, acceptors_of, proposers_of}
@@ -39,18 +37,6 @@ use Rattle.casreg_command.specs.declared.words.Options.{Options}
 use Rattle.casreg_command.specs.declared.words.Request.{Request}
 use Rattle.casreg_command.specs.declared.words.Request.TheVariants as request
 use Rattle.casreg_command.proofs.Runs.{IsMidway, IsMidwayIn, IsNextLine, appends_both, transcript_more, midway-too_many, midway-endless}
-
--- what disks mean that bear shelves and vaults
-abbrev pub stored : {D : Type 0} → DiskKind D → Meaning (DiskShelf D) D
-stored D = record {
-  shelves = record {
-    contents = λ shelf. contents_of shelf;
-    tells = D.tells;
-    may_leave = λ shelf left. ShelfMayLeave D.may_leave shelf left;
-    faults = λ shelf. D.fault_count (disk_of shelf);
-  };
-  disks = disk_meaning D;
-}
 
 -- what holds of the error holds of the result that has it
 pub if_err : {T E : Type 0} (r : Result T E) (e : E) (P : E → Type 0) → r ≡ Err e → P e → IfErr r P
@@ -271,6 +257,19 @@ ran_from {D} meant tells tries made P input old new world closed stage marks res
       rack = subst (λ (w : View (DiskShelf D) D). IsRackOf w back) same (record { acceptors = acceptors; vaults = vaults });
     }
 
+-- the same with the marks of its record
+pub leaving_from : {D : Type 0} (meant : Meaning (DiskShelf D) D) (tells : Type 0) (tries made : ℕ) (P : List (List ℕ) → Type 0) (input old new : Option (List ℕ)) (world closed : View (DiskShelf D) D) (stage : Stage (DiskShelf D) D) (marks : List Mark) (result : Status) (back : Rack D) → made ≡ tries
+    → closed ≡ stage.world → EndsIn meant made P input old new (opening_state world) stage result → marks ≡ closed.marks → (tells → IsLegal (reverse marks))
+    → (tells → AreKept meant.disks.may_leave (reverse marks) back.acceptors.items) → (tells → AreHeld meant.disks.may_leave closed back.acceptors.items)
+    → back.acceptors.items ≡ acceptor_disks closed.acceptors
+    → take (closed.last_proposer + 1) back.vaults.items ≡ disks_of closed.desks → RanLeaving meant tells tries P input old new world marks result back
+unfolding ran_from
+leaving_from {D} meant tells tries made P input old new world closed stage marks result back tries_are is ends marks_are legal kept held acceptors vaults = record {
+  ran = ran_from meant tells tries made P input old new world closed stage marks result back tries_are is ends marks_are legal kept held acceptors vaults;
+  marks_are = marks_are
+      ∙ ap (λ (w : View (DiskShelf D) D). w.marks) (is ∙ (subst (λ (n : ℕ). EndsIn meant n P input old new (opening_state world) stage result) tries_are ends).is_in.world);
+}
+
 -- the same of a load
 pub loaded_from : {D : Type 0} (meant : Meaning (DiskShelf D) D) (tells : Type 0) (load : Load) (old new : Option (List ℕ)) (world closed : View (DiskShelf D) D) (marks : List Mark) (result : Status) (back : Rack D) → WroteSummary meant load old new world closed result → marks ≡ closed.marks → (tells → IsLegal (reverse marks))
     → (tells → AreKept meant.disks.may_leave (reverse marks) back.acceptors.items) → (tells → AreHeld meant.disks.may_leave closed back.acceptors.items)
@@ -292,11 +291,11 @@ wrote_nothing meant m asked given out why same = inl (record { why = why; unwrit
 
 -- the store did not open
 pub closed_still : {D : Type 0} (m : RackMeaning D) (asked : Request) (given : WentIn D) (out : CameOut D) (empty : Rack D) (fault : OpenFault) (acceptors proposers : ℕ)
-    → acceptors ≡ acceptors_of asked → proposers ≡ proposers_of asked → out.status ≡ status_of_opening fault
+    → UsesDisks asked → acceptors ≡ acceptors_of asked → proposers ≡ proposers_of asked → out.status ≡ status_of_opening fault
     → IsAllEmpty m given.rack empty → StaysClosed m.faults acceptors proposers empty.acceptors.items empty.vaults.items fault out.rack.acceptors.items out.rack.vaults.items
     → NothingRan m asked given out
-closed_still m asked given out empty fault acceptors proposers are_acceptors are_proposers is are_empty closed =
-    not_opened empty fault are_empty
+closed_still m asked given out empty fault acceptors proposers uses are_acceptors are_proposers is are_empty closed =
+    not_opened empty fault uses are_empty
     (subst (λ (n : ℕ). StaysClosed m.faults (acceptors_of asked) n empty.acceptors.items empty.vaults.items fault out.rack.acceptors.items out.rack.vaults.items) are_proposers
     (subst (λ (n : ℕ). StaysClosed m.faults n proposers empty.acceptors.items empty.vaults.items fault out.rack.acceptors.items out.rack.vaults.items) are_acceptors closed))
     is
@@ -309,7 +308,7 @@ pub no_race : {D : Type 0} (m : RackMeaning D) (asked : Request) (given : WentIn
     → NothingRan m asked given out
 no_race m asked given out options empty fault acceptors proposers are_acceptors are_proposers is_race is are_empty (inl none) = no_board options empty is_race are_empty (is ∙ ap status_of_opening none)
 no_race m asked given out options empty fault acceptors proposers are_acceptors are_proposers is_race is are_empty (inr closed) =
-    closed_still m asked given out empty fault acceptors proposers are_acceptors are_proposers is are_empty closed
+    closed_still m asked given out empty fault acceptors proposers (subst UsesDisks (sym is_race) tt) are_acceptors are_proposers is are_empty closed
 
 -- ---- by what was asked for
 pub wrote_by : {D : Type 0} (meant : Meaning (DiskShelf D) D) (m : RackMeaning D) (asked other : Request) (given : WentIn D) (out : CameOut D) → asked ≡ other

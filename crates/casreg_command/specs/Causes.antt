@@ -37,6 +37,7 @@ use Rattle.casreg_script.specs.Load.{SumsUp, LoadBreaksOff}
 use Rattle.casreg_script.specs.declared.load.Load.{Load}
 use Rattle.casreg_command.specs.declared.words.Request.{Request}
 use Rattle.casreg_command.specs.declared.words.Request.TheVariants as request
+use Rattle.casreg_command.specs.Records.{WroteFinding, EndsBehindMarks}
 use Rattle.casreg_command.specs.Words.{AreWords, acceptors_of, proposers_of}
 
 -- ---- causes
@@ -63,6 +64,7 @@ abbrev pub ReadsLines : Request → Type 0
 ReadsLines (request.Script options) = ⊤
 ReadsLines (request.Race options) = ⊤
 ReadsLines (request.Load load) = ⊥
+ReadsLines request.Audit = ⊤
 
 -- a status that names a disk
 abbrev pub IsOfDisk : Status → Type 0
@@ -97,7 +99,7 @@ pub record Causes {D : Type 0} (words : List (List ℕ)) (given : WentIn D) (out
   pub no_words : ((request : Request) → AreWords words request → ⊥) → (out.status ≡ status.Usage) ⊎ (out.status ≡ status.NoMemory)
   pub read_fault : out.status ≡ status.ReadFault → Rose given.source_faults out.source_faults
   pub write_fault : out.status ≡ status.WriteFault → Rose given.sink_faults out.sink_faults
-  -- of a script or a race 0, 7 and 9 come by where the input ends alone
+  -- of a script, a race or an audit 0, 7 and 9 come by where the input ends alone
   pub ends : (asked : Request) → ReadsLines asked → AreWords words asked → (ending : Ending) → out.status ≡ status_of ending → IfSome given.input (λ bytes. ending_of bytes ≡ ending)
   -- with the right words and no fault of source and sink one of these comes, unless there is no memory, or a disk is not empty or fails
   -- as the store is opened
@@ -202,6 +204,18 @@ pub record Ran {D : Type 0} (meant : Meaning (DiskShelf D) D) (tells : Type 0) (
   pub held : tells → AreHeld meant.disks.may_leave last.world back.acceptors.items
   pub rack : IsRackOf last.world back
 
+-- the same of a script whose record has these marks
+pub record RanLeaving {D : Type 0} (meant : Meaning (DiskShelf D) D) (tells : Type 0) (tries : ℕ) (HadEnded : List (List ℕ) → Type 0) (input old new : Option (List ℕ)) (world : View (DiskShelf D) D) (marks : List Mark) (result : Status) (back : Rack D) : Type 0 where
+  pub ran : Ran meant tells tries HadEnded input old new world result back
+  pub marks_are : marks ≡ ran.last.world.marks
+
+-- what a script wrote with its record behind its answers: how it had ended before, and what was written by then
+pub record RanOver {D : Type 0} (meant : Meaning (DiskShelf D) D) (tells : Type 0) (options : Options) (HadEnded : List (List ℕ) → Type 0) (input old new : Option (List ℕ)) (world : View (DiskShelf D) D) (result : Status) (back : Rack D) : Type 0 where
+  pub before : Status
+  pub between : Option (List ℕ)
+  pub ran : Ran meant tells options.tries HadEnded input old between world before back
+  pub behind : EndsBehindMarks options.marks ran.last.world.marks before between new result
+
 -- ---- a load
 -- What a load wrote that ran from this world to that one: the summary of its answers, or a front of it where the sink failed or there was no
 -- memory. Where memory failed before the end of the load nothing was written.
@@ -224,8 +238,7 @@ pub record Loaded {D : Type 0} (meant : Meaning (DiskShelf D) D) (tells : Type 0
 -- ---- a race
 -- what a race did whose record was legal, where disks tell what they keep, and tells what is so of the operator's calls, and what it wrote;
 -- what is acknowledged in that stands on the disks that come back, and whom a mark of it blames has a disk there that failed
-pub record RacedOver {D : Type 0} (m : RackMeaning D) (options : Options) (input old new : Option (List ℕ)) (harms harms_then : List ℕ) (result : Status) (back : Rack D) : Type 0 where
-  pub marks : List Mark
+pub record RacedTo {D : Type 0} (m : RackMeaning D) (options : Options) (input old new : Option (List ℕ)) (harms harms_then : List ℕ) (marks : List Mark) (result : Status) (back : Rack D) : Type 0 where
   pub ended : Result (Unit {0}) RaceFault
   pub is : result ≡ status_of_race ended
   pub legal : m.tells → IsLegal (reverse marks)
@@ -233,6 +246,14 @@ pub record RacedOver {D : Type 0} (m : RackMeaning D) (options : Options) (input
   pub kept : m.tells → AreKept m.may_leave (reverse marks) back.acceptors.items
   pub deserved : AreDeserved m.faults back.acceptors.items back.vaults.items marks
   pub wrote : WroteRace m.tells options.tries options.proposers input old new harms harms_then marks ended
+
+-- what a race wrote with its record behind all else: how it had ended before, and what was written by then
+pub record RacedOver {D : Type 0} (m : RackMeaning D) (options : Options) (input old new : Option (List ℕ)) (harms harms_then : List ℕ) (result : Status) (back : Rack D) : Type 0 where
+  pub marks : List Mark
+  pub before : Status
+  pub between : Option (List ℕ)
+  pub raced : RacedTo m options input old between harms harms_then marks before back
+  pub behind : EndsBehindMarks options.marks marks before between new result
 
 -- ---- a script along its lines
 -- Along the run whose answers, or a front of them, were written, each change line that nothing stood against was answered done, or that
@@ -249,12 +270,19 @@ AreDoneAlong {meant = meant} status.NoMemory by = AreDoneWhereReady meant by.wro
 AreDoneAlong {meant = meant} (status.Endless line) by = AreDoneWhereReady meant by.wrote.run
 
 -- ---- all of it
+-- a command over acceptors and proposers
+abbrev pub UsesDisks : Request → Type 0
+UsesDisks (request.Script options) = ⊤
+UsesDisks (request.Race options) = ⊤
+UsesDisks (request.Load load) = ⊤
+UsesDisks request.Audit = ⊥
+
 -- why a command whose words are right runs nothing: there was no memory, a disk is not known to be empty, the store did not open, or there was
 -- no memory for the board of a race
 pub data NothingRan {D : Type 0} (m : RackMeaning D) (asked : Request) (given : WentIn D) (out : CameOut D) : Type 0 where
   no_words_read : out.status ≡ status.NoMemory → out.rack ≡ given.rack → NothingRan m asked given out
-  not_empty : (fault : RackFault) → IsNotEmpty m given.rack fault out.rack → out.status ≡ status_of_rack fault → NothingRan m asked given out
-  not_opened : (empty : Rack D) (fault : OpenFault) → IsAllEmpty m given.rack empty
+  not_empty : (fault : RackFault) → UsesDisks asked → IsNotEmpty m given.rack fault out.rack → out.status ≡ status_of_rack fault → NothingRan m asked given out
+  not_opened : (empty : Rack D) (fault : OpenFault) → UsesDisks asked → IsAllEmpty m given.rack empty
       → StaysClosed m.faults (acceptors_of asked) (proposers_of asked) empty.acceptors.items empty.vaults.items fault out.rack.acceptors.items out.rack.vaults.items → out.status ≡ status_of_opening fault → NothingRan m asked given out
   no_board : (options : Options) (empty : Rack D) → asked ≡ request.Race options → IsAllEmpty m given.rack empty → out.status ≡ status.NoMemory → NothingRan m asked given out
 
@@ -270,8 +298,8 @@ pub record WroteScript {D : Type 0} (meant : Meaning (DiskShelf D) D) (m : RackM
   pub empty : IsAllEmpty m given.rack rack
   pub world : View (DiskShelf D) D
   pub over : IsNewOver meant options.acceptors options.proposers rack world
-  pub ran : Ran meant m.tells options.tries out.HadEnded given.input given.written out.written world out.status out.rack
-  pub done : AreDoneAlong out.status ran
+  pub ran : RanOver meant m.tells options out.HadEnded given.input given.written out.written world out.status out.rack
+  pub done : AreDoneAlong ran.before ran.ran
 
 -- what a load wrote, from a new world over empty disks to one whose record is legal
 pub record WroteLoad {D : Type 0} (meant : Meaning (DiskShelf D) D) (m : RackMeaning D) (load : Load) (given : WentIn D) (out : CameOut D) : Type 0 where
@@ -287,11 +315,17 @@ pub record WroteRaceOver {D : Type 0} (m : RackMeaning D) (options : Options) (g
   pub empty : IsAllEmpty m given.rack rack
   pub raced : RacedOver m options given.input given.written out.written given.harms out.harms out.status out.rack
 
+-- what an audit wrote, which leaves all disks alone
+pub record WroteAudit {D : Type 0} (given : WentIn D) (out : CameOut D) : Type 0 where
+  pub wrote : WroteFinding given.input given.written out.written out.status
+  pub rack : out.rack ≡ given.rack
+
 -- what a command wrote, by what it is
 abbrev pub WroteBy : {D : Type 0} → Meaning (DiskShelf D) D → RackMeaning D → Request → WentIn D → CameOut D → Type 0
 WroteBy meant m (request.Script options) given out = WroteScript meant m options given out
 WroteBy meant m (request.Race options) given out = WroteRaceOver m options given out
 WroteBy meant m (request.Load load) given out = WroteLoad meant m load given out
+WroteBy meant m request.Audit given out = WroteAudit given out
 
 abbrev pub Wrote : {D : Type 0} → Meaning (DiskShelf D) D → RackMeaning D → Request → WentIn D → CameOut D → Type 0
 Wrote meant m asked given out = WroteNothing m asked given out ⊎ WroteBy meant m asked given out

@@ -1,3 +1,5 @@
 pub mod Causes
+pub mod Records
+pub mod Seeds
 pub mod Status
 pub mod Words

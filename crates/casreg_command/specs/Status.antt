@@ -1,7 +1,11 @@
 -- How a run of the program ends.
 use Rattle.std.specs.Prelude.{ℕ, Result, Ok, Err}
+use Rattle.cas_audit.specs.declared.text.AuditFault.{AuditFault}
+use Rattle.cas_audit.specs.declared.text.AuditFault.TheVariants as audit
 use Rattle.cas_lines.specs.declared.lines.LineFault.{LineFault}
 use Rattle.cas_lines.specs.declared.lines.LineFault.TheVariants as fault
+use Rattle.casreg_marks.specs.declared.marks.MarksFault.{MarksFault}
+use Rattle.casreg_marks.specs.declared.marks.MarksFault.TheVariants as marks
 use Rattle.casreg_race.specs.declared.race.RaceFault.{RaceFault}
 use Rattle.casreg_race.specs.declared.race.RaceFault.TheVariants as race
 use Rattle.casreg_tasks.specs.declared.histories.HistoryFault.TheVariants as text
@@ -50,3 +54,16 @@ status_of_race (Ok done) = status.Ok
 status_of_race (Err (race.NotRun fault)) = status_of_fault fault
 status_of_race (Err (race.CutOff text.WriteFault)) = status.WriteFault
 status_of_race (Err (race.CutOff text.NoMemory)) = status.NoMemory
+
+-- how an audit ends that told nothing
+abbrev pub status_of_audit : AuditFault → Status
+status_of_audit audit.ReadFault = status.ReadFault
+status_of_audit audit.WriteFault = status.WriteFault
+status_of_audit audit.TooManyLines = status.TooManyLines
+status_of_audit audit.NoMemory = status.NoMemory
+status_of_audit (audit.Endless line) = status.Endless line
+
+-- how a run ends whose record was not written whole
+abbrev pub status_of_marks : MarksFault → Status
+status_of_marks marks.WriteFault = status.WriteFault
+status_of_marks marks.NoMemory = status.NoMemory

@@ -1,15 +1,15 @@
 -- The words of the command line, as clap reads them.
-use Rattle.std.specs.Prelude.{◌≡◌, ◌≤◌, ◌⊎◌, ℕ, true, List, [], ◌∷◌, codes, Option, Some, option_map, option_and_then, IsSomeAnd}
+use Rattle.std.specs.Prelude.{◌≡◌, ◌≤◌, ◌⊎◌, ⊤, ℕ, Bool, true, false, List, [], ◌∷◌, codes, Option, Some, is_some, option_map, option_and_then, IsSomeAnd}
 use Rattle.std.specs.Str.Parse.{digits_value, without_leading_plus}
 use Rattle.clap.specs.Kinds.{Kinds}
 use Rattle.clap.specs.Faults.{fault_of}
 use Rattle.clap.specs.Values.{IsUnsignedIn}
-use Rattle.clap.specs.Walk.{Row, one_of}
+use Rattle.clap.specs.Walk.{Row, one_of, first_of}
 use Rattle.clap.specs.Simple.{subcommand_of}
 use Rattle.clap.specs.Words.{App, Rule, Text, new_app, new_rule, with_rule, with_subcommand}
 use Rattle.clap.specs.declared.builder.action.ArgAction.TheVariants.{Set}
 use Rattle.clap.specs.declared.builder.value_parser.ValueParser.{ValueParser}
-use Rattle.clap.specs.declared.builder.value_parser.ValueParser.TheVariants.{Unsigned}
+use Rattle.clap.specs.declared.builder.value_parser.ValueParser.TheVariants.{Unsigned, String}
 use Rattle.casreg_script.specs.Load.{IsLoad}
 use Rattle.casreg_script.specs.declared.load.Load.{Load}
 use Rattle.casreg_command.specs.declared.words.Options.{Options}
@@ -31,25 +31,37 @@ abbrev pub over_cluster : Text → App
 over_cluster name = with_rule (with_rule (with_rule (new_app name) (option_of (codes "acceptors") (Unsigned 1 9) (codes "3")))
     (option_of (codes "proposers") (Unsigned 1 16) (codes "1"))) (option_of (codes "tries") (Unsigned 1 64) (codes "1"))
 
+-- one of these whose record may be written
+abbrev pub with_marks : Text → App
+with_marks name = with_rule (over_cluster name) (option_of (codes "marks") String (codes "no"))
+
 -- a script
 abbrev pub script : App
-script = over_cluster (codes "script")
+script = with_marks (codes "script")
 
 -- a race
 abbrev pub race : App
-race = over_cluster (codes "race")
+race = with_marks (codes "race")
 
 -- a load by a seed, of up to 100,000 lines
 abbrev pub load : App
 load = with_rule (with_rule (over_cluster (codes "load")) (option_of (codes "seed") (Unsigned 0 18446744073709551615) (codes "1")))
     (option_of (codes "lines") (Unsigned 0 100000) (codes "1000"))
 
+-- an audit, without options
+abbrev pub audit : App
+audit = new_app (codes "audit")
+
 -- the program without its subcommands, one of which is required
 abbrev pub bare : App
 bare = let app = new_app (codes "casreg") in record app { top = record app.top { subcommand_required = true } }
 
+-- with those that run something over a cluster
+abbrev pub running : App
+running = with_subcommand (with_subcommand (with_subcommand bare script.top) race.top) load.top
+
 abbrev pub casreg : App
-casreg = with_subcommand (with_subcommand (with_subcommand bare script.top) race.top) load.top
+casreg = with_subcommand running audit.top
 
 -- ---- what clap makes of the words
 -- the words behind the name of the program
@@ -87,15 +99,34 @@ HasOptions rows = IsNumberIn 1 9 (one_of (codes "acceptors") rows) × IsNumberIn
 abbrev pub HasDrawing : List Row → Type 0
 HasDrawing rows = IsNumberIn 0 18446744073709551615 (one_of (codes "seed") rows) × IsNumberIn 0 100000 (one_of (codes "lines") rows)
 
--- a script, a race or a load was met, with all of its options
-abbrev pub HasCommand : Option (Text × List Row) → Type 0
-HasCommand given = IsSomeAnd given (λ found. HasOptions found.1 × ((found.0 ≡ codes "script") ⊎ (found.0 ≡ codes "race") ⊎ ((found.0 ≡ codes "load") × HasDrawing found.1)))
+-- `--marks` of a script or a race has some text
+abbrev pub HasMarks : List Row → Type 0
+HasMarks rows = is_some (first_of (codes "marks") rows) ≡ true
 
--- the numbers that the options of a script or a race have
+-- a subcommand of this name has these options
+abbrev pub HasAll : Text → List Row → Type 0
+HasAll name rows = (((name ≡ codes "script") ⊎ (name ≡ codes "race")) × HasOptions rows × HasMarks rows)
+    ⊎ ((name ≡ codes "load") × HasOptions rows × HasDrawing rows) ⊎ (name ≡ codes "audit")
+
+-- a script, a race, a load or an audit was met, with all of its options
+abbrev pub HasCommand : Option (Text × List Row) → Type 0
+HasCommand given = IsSomeAnd given (λ found. HasAll found.0 found.1)
+
+-- what `--marks` says: whether the record is written
+abbrev pub marks_word : Bool → Text
+marks_word true = codes "yes"
+marks_word false = codes "no"
+
+-- it says neither
+abbrev pub SaysNeither : List Row → Type 0
+SaysNeither rows = (marks : Bool) → first_of (codes "marks") rows ≡ Some (marks_word marks) → ⊥
+
+-- the numbers that the options of a script or a race have, and what the last of them says
 pub record HasNumbers (given : Option (Text × List Row)) (options : Options) : Type 0 where
   pub acceptors : number_of (codes "acceptors") given ≡ Some options.acceptors
   pub proposers : number_of (codes "proposers") given ≡ Some options.proposers
   pub tries : number_of (codes "tries") given ≡ Some options.tries
+  pub marks : option_and_then (λ found. first_of (codes "marks") found.1) given ≡ Some (marks_word options.marks)
 
 -- the numbers that the options of a load have
 pub record HasLoad (given : Option (Text × List Row)) (load : Load) : Type 0 where
@@ -110,8 +141,9 @@ abbrev pub AsksFor : Option (Text × List Row) → Request → Type 0
 AsksFor given (request.Script options) = IsNamed (codes "script") given × HasNumbers given options
 AsksFor given (request.Race options) = IsNamed (codes "race") given × HasNumbers given options
 AsksFor given (request.Load load) = IsNamed (codes "load") given × HasLoad given load
+AsksFor given request.Audit = IsNamed (codes "audit") given
 
--- The words are those of a command that asks for this: clap finds nothing wrong, and the options have these numbers.
+-- The words are those of a command that asks for this: clap finds nothing wrong, the options have these numbers, and `--marks` says yes or no.
 pub record AreWords (words : List Text) (request : Request) : Type 0 where
   pub taken : faults_of words ≡ []
   pub asks : AsksFor (subcommand_of casreg (command_line words)) request
@@ -134,14 +166,17 @@ abbrev pub IsInRange : Request → Type 0
 IsInRange (request.Script options) = AreOptionsInRange options
 IsInRange (request.Race options) = AreOptionsInRange options
 IsInRange (request.Load load) = IsLoadInRange load
+IsInRange request.Audit = ⊤
 
--- how large a cluster is asked for
+-- how large a cluster is asked for; none of an audit
 abbrev pub acceptors_of : Request → ℕ
 acceptors_of (request.Script options) = options.acceptors
 acceptors_of (request.Race options) = options.acceptors
 acceptors_of (request.Load load) = load.acceptors
+acceptors_of request.Audit = 0
 
 abbrev pub proposers_of : Request → ℕ
 proposers_of (request.Script options) = options.proposers
 proposers_of (request.Race options) = options.proposers
 proposers_of (request.Load load) = load.proposers
+proposers_of request.Audit = 0

@@ -1,6 +1,6 @@
 //! The top call: a command over the store, from the bytes in to the bytes out.
 
-ghost use Rattle.std.specs.Prelude.{◌≡◌, ◌≢◌, List, ℕ, map, string_bytes, vec_len, OnOk, IfErr, IfSome, IsErrOf};
+ghost use Rattle.std.specs.Prelude.{◌≡◌, ◌≢◌, ◌≤◌, ◌↔◌, IsTrue, List, ℕ, map, string_bytes, vec_len, OnOk, IfErr, IfSome, IsErrOf};
 ghost use Rattle.std.specs.Io.KnownBytes.{IsAtEnd};
 ghost use Rattle.cas_base.specs.Faults.{Rose};
 ghost use Rattle.cas_lines.specs.Lines.{Ending, Whole, ending_of, FailsBehind};
@@ -9,13 +9,15 @@ ghost use Rattle.cas_model.specs.View.{meaning};
 ghost use Rattle.cas_store.specs.Rack.{rack_meaning};
 ghost use Rattle.casreg_script.specs.Script.{State, IsInState};
 ghost use Rattle.casreg_script.specs.Stage.{AllIdle};
-ghost use Rattle.casreg_command.specs.Causes.{EndsIn, LoadEnds, Ran, RanCommand, ReadsLines, Wrote, status_of};
+ghost use Rattle.casreg_command.specs.Causes.{EndsIn, LoadEnds, RanCommand, RanLeaving, RanOver, ReadsLines, UsesDisks, Wrote, status_of};
 ghost use Rattle.casreg_script.specs.declared.load.Load.{Load as ALoad};
 ghost use Rattle.casreg_command.specs.Words.{AreWords, AreOptionsInRange, IsInRange, acceptors_of, proposers_of};
 ghost use Rattle.casreg_command.specs.declared.words.Options.{Options as ScriptOptions};
 ghost use Rattle.casreg_command.specs.declared.words.Request.{Request as ARequest};
 
+use crate::audit::audit_input;
 use crate::load::load_store;
+use crate::marks::end_with_marks;
 use crate::race::race_board;
 use crate::status::Status;
 use crate::words::{Options, Request, read_words};
@@ -26,6 +28,7 @@ use cas_fate::Fate;
 use cas_lines::lines::Lines;
 use cas_lines::sink::{Sink, put_all};
 use cas_lines::source::Source;
+use cas_record::Record;
 use cas_slot::Shelf;
 use cas_store::{Rack, Store};
 use cas_world::Config;
@@ -34,18 +37,21 @@ use std::alloc::{AllocError, Global};
 use std::sync::Wait;
 use std::thread::Threads;
 
-/// Runs the command that the words name. A script runs over the source's lines, and the answer to each line is written before it reads on. A
-/// race reads all lines before it runs any, runs each caller's in a thread of its own, with the fate at the place of its number, and writes
-/// once all have ended: the answers to bad lines in line order, then each caller's answers, callers in rising order, then the settled history
-/// of each key that has one, keys in byte order. A load reads nothing, runs lines that it draws, and writes the summary of their answers. The
-/// rack, which has 64 disks of acceptors and 17 of vaults, comes back with the same disks in their places, and so do the fates, which are 17.
+/// Runs the command that the words name. A script runs over the source's lines, and the answer to each line is written before it reads on.
+/// A race reads all lines before it runs any, runs each caller's in a thread of its own, with the fate at the place of its number, and
+/// writes once all have ended: the answers to bad lines in line order, then each caller's answers, callers in rising order, then the
+/// settled history of each key that has one, keys in byte order. A load reads nothing, runs lines that it draws, and writes the summary of
+/// their answers. An audit reads a record and writes one line that says whether it is legal; it leaves all disks alone. With `--marks yes`
+/// a script or a race writes its record behind all else, a line a mark, unless a write or memory failed before. The rack, which has 64
+/// disks of acceptors and 17 of vaults, comes back with the same disks in their places, and so do the fates, which are 17.
 ///
-/// The words are read by clap: `script`, `race` or `load`, with the options `--acceptors` (1 to 9, or 3 where it is not given), `--proposers` (1 to
-/// 16, or 1) and `--tries` (1 to 64, or 1), and of `load` `--seed` (any `u64`, or 1) and `--lines` (up to 100,000, or 1,000). Then all disks
-/// are asked for their lengths in the order of their numbers, and each must be empty. Then the members' and the proposers' disks are started
-/// in that order. A line of a script asks for a change or for an event, is a remark, which has no answer, or is answered as bad, with the
-/// reason; in a race an event's line is bad. The statuses say how the run ended: [`Status::NotEmpty`] comes only of a disk that was not empty, where disks tell what they keep,
-/// and [`Status::DiskFault`] only of one whose count of faults rose.
+/// The words are read by clap: `audit`, or `script`, `race` or `load`, with the options `--acceptors` (1 to 9, or 3 where it is not given),
+/// `--proposers` (1 to 16, or 1) and `--tries` (1 to 64, or 1), of `load` `--seed` (any `u64`, or 1) and `--lines` (up to 100,000, or
+/// 1,000), and of the others `--marks` (`yes` or `no`, or `no`). Then all disks are asked for their lengths in the order of their numbers,
+/// and each must be empty. Then the members' and the proposers' disks are started in that order. A line of a script asks for a change or
+/// for an event, is a remark, which has no answer, or is answered as bad, with the reason; in a race an event's line is bad. The statuses
+/// say how the run ended: [`Status::NotEmpty`] comes only of a disk that was not empty, where disks tell what they keep, and
+/// [`Status::DiskFault`] only of one whose count of faults rose.
 pub fn cluster<R: Threads + Wait + Sync, S: Source, K: Sink, D: Disk + Send + Drop, F: Fate + Send>(
     rt: &R,
     alloc: Global,
@@ -58,14 +64,15 @@ pub fn cluster<R: Threads + Wait + Sync, S: Source, K: Sink, D: Disk + Send + Dr
     requires acceptors { vec_len rack.acceptors ≡ 64 }
     requires vaults { vec_len rack.vaults ≡ 17 }
     requires fates { vec_len fates.old ≡ 17 }
-    // Of a script, what was written is the transcript of a script run over the lines of the input, in a new world over the rack's disks, whose members
-    // are up; the record of
-    // that run is legal, along it each change line that nothing stood against was answered done, or that there was no memory, where the
-    // members and its proposer were up after it, and the rack that comes back holds the disks of its last world. Where the source failed
-    // these are all lines that had ended by then, and no others. Of a load, what was written is the summary of the answers of the load run
-    // over the lines that its seed draws, in a new world over the rack's disks, whose members are up; the record of that run is legal, and the rack that comes back
-    // holds the disks of its last world. Of a race, what was written is the text of a legal record in which each caller's own marks are those of
-    // what its lines ask for, in their order, with the answers that are written, and tell of no more losses than its fate counted harms.
+    // Of a script, what was written is the transcript of a script run over the lines of the input, in a new world over the rack's disks, whose
+    // members are up; the record of that run is legal, along it each change line that nothing stood against was answered done, or that there
+    // was no memory, where the members and its proposer were up after it, and the rack that comes back holds the disks of its last world.
+    // Where the source failed these are all lines that had ended by then, and no others. Of a load, what was written is the summary of the
+    // answers of the load run over the lines that its seed draws, in a new world over the rack's disks, whose members are up; the record of
+    // that run is legal, and the rack that comes back holds the disks of its last world. Of a race, what was written is the text of a legal
+    // record in which each caller's own marks are those of what its lines ask for, in their order, with the answers that are written, and tell
+    // of no more losses than its fate counted harms. With `--marks yes` the text of the record stands behind that of a script or a race whose
+    // answers were all written. Of an audit, what was written is the line that says what is found in the lines of the input.
     ensures ran { RanCommand (meaning ⟦<DiskShelf<D> as Shelf>⟧ D.Disk) (rack_meaning D.Disk)
         (map string_bytes words.now) (record {
           input = S.remaining source.old;
@@ -93,8 +100,7 @@ pub fn cluster<R: Threads + Wait + Sync, S: Source, K: Sink, D: Disk + Send + Dr
         (Request.Race options) → ⊥) → fates.new ≡ fates.old }
     ensures untouched { result.0 ≡ Status.Usage
         → (source.new ≡ source.old) × (sink.new ≡ sink.old) × (result.1 ≡ rack) }
-    ensures all_acceptors { vec_len result.1.acceptors ≡ 64 }
-    ensures all_vaults { vec_len result.1.vaults ≡ 17 }
+    ensures all_disks { (vec_len result.1.acceptors ≡ 64) × (vec_len result.1.vaults ≡ 17) }
     ensures all_fates { vec_len fates.new ≡ 17 }
 {
     match read_words(alloc, words) {
@@ -153,6 +159,9 @@ fn run<R: Threads + Wait + Sync, S: Source, K: Sink, D: Disk + Send + Drop, F: F
     ensures all_vaults { vec_len result.1.vaults ≡ 17 }
     ensures all_fates { vec_len fates.new ≡ 17 }
 {
+    if !uses_disks(request) {
+        return (audit_input(alloc, source, sink), rack);
+    }
     if let Err(fault) = rack.expect_empty() {
         return (Status::from(fault), rack);
     }
@@ -172,6 +181,17 @@ fn run<R: Threads + Wait + Sync, S: Source, K: Sink, D: Disk + Send + Drop, F: F
             Ok(store) => load_store(alloc, load, sink, store),
             Err((fault, rack)) => (Status::from(fault), rack),
         },
+        Request::Audit => unreachable!(),
+    }
+}
+
+/// Whether a command runs over acceptors and proposers.
+fn uses_disks(request: Request) -> bool
+    ensures { IsTrue result ↔ UsesDisks request }
+{
+    match request {
+        Request::Script(_) | Request::Race(_) | Request::Load(_) => true,
+        Request::Audit => false,
     }
 }
 
@@ -205,10 +225,15 @@ fn config_of(request: Request) -> Config
             acceptors,
             proposers,
         },
+        Request::Audit => Config {
+            acceptors: 0,
+            proposers: 0,
+        },
     }
 }
 
-/// Runs the script in a store in which nothing has happened, and takes the store apart then.
+/// Runs the script in a store in which nothing has happened, and takes the store apart then. The record is
+/// written behind the answers where that is asked for.
 fn run_script<S: Source, K: Sink, D: Disk + Drop>(
     alloc: Global,
     options: Options,
@@ -220,7 +245,7 @@ fn run_script<S: Source, K: Sink, D: Disk + Drop>(
     requires known { store.world.last_proposer ≡ options.proposers }
     requires idle { AllIdle store.world }
     requires quiet { IsAtRest store.world.council }
-    ensures ran { Ran (meaning ⟦<DiskShelf<D> as Shelf>⟧ D.Disk) D.tells options.tries
+    ensures ran { RanOver (meaning ⟦<DiskShelf<D> as Shelf>⟧ D.Disk) D.tells options
         (FailsBehind S.take_gives source.old source.new) (S.remaining source.old)
         (K.contents sink.old) (K.contents sink.new) store.world result.0 result.1 }
     ensures usage { result.0 ≢ Status.Usage }
@@ -234,6 +259,40 @@ fn run_script<S: Source, K: Sink, D: Disk + Drop>(
     ensures all_acceptors { vec_len result.1.acceptors ≡ 64 }
     ensures all_vaults { vec_len result.1.vaults ≡ 17 }
 {
+    let (ended, record, rack) = answer_script(alloc, options, source, sink, store);
+    (
+        end_with_marks(alloc, options.marks, ended, &record, sink),
+        rack,
+    )
+}
+
+/// Runs the script in a store in which nothing has happened, and takes the store apart then, into its record and its disks.
+fn answer_script<S: Source, K: Sink, D: Disk + Drop>(
+    alloc: Global,
+    options: Options,
+    source: &mut S,
+    sink: &mut K,
+    store: Store<D>,
+) -> (Status, Record, Rack<D>)
+    requires range { AreOptionsInRange options }
+    requires known { store.world.last_proposer ≡ options.proposers }
+    requires idle { AllIdle store.world }
+    requires quiet { IsAtRest store.world.council }
+    ensures ran { RanLeaving (meaning ⟦<DiskShelf<D> as Shelf>⟧ D.Disk) D.tells options.tries
+        (FailsBehind S.take_gives source.old source.new) (S.remaining source.old)
+        (K.contents sink.old) (K.contents sink.new) store.world result.1.marks result.0 result.2 }
+    ensures usage { result.0 ≢ Status.Usage }
+    ensures read_fault { result.0 ≡ Status.ReadFault
+        → Rose (S.faults_of source.old) (S.faults_of source.new) }
+    ensures never_falls { K.faults_of sink.old ≤ K.faults_of sink.new }
+    ensures write_fault { result.0 ≡ Status.WriteFault
+        → Rose (K.faults_of sink.old) (K.faults_of sink.new) }
+    ensures ends { (ending : Ending) → result.0 ≡ status_of ending
+        → IfSome (S.remaining source.old) (λ input. ending_of input ≡ ending) }
+    ensures read { result.0 ≡ Status.Ok → IsAtEnd (S.remaining source.new) }
+    ensures all_acceptors { vec_len result.2.acceptors ≡ 64 }
+    ensures all_vaults { vec_len result.2.vaults ≡ 17 }
+{
     let Store { world, room } = store;
     let mut script = Script::new(world, options.proposers, options.tries);
     let answered = answer_lines(alloc, &mut script, source, sink);
@@ -241,10 +300,10 @@ fn run_script<S: Source, K: Sink, D: Disk + Drop>(
         world: script.into_world(),
         room,
     };
-    let (_record, rack) = store.close();
+    let (record, rack) = store.close();
     match answered {
-        Ok(()) => (Status::Ok, rack),
-        Err(status) => (status, rack),
+        Ok(()) => (Status::Ok, record, rack),
+        Err(status) => (status, record, rack),
     }
 }
 
@@ -270,6 +329,7 @@ fn answer_lines<S: Source, K: Sink, H: Shelf, D: Disk>(
     ensures fails { IfErr result (λ status. (status ≢ Status.Ok) × (status ≢ Status.Usage)) }
     ensures read_fault { IsErrOf result Status.ReadFault
         → Rose (S.faults_of source.old) (S.faults_of source.new) }
+    ensures never_falls { K.faults_of sink.old ≤ K.faults_of sink.new }
     ensures write_fault { IsErrOf result Status.WriteFault
         → Rose (K.faults_of sink.old) (K.faults_of sink.new) }
     ensures ends { (ending : Ending) → IsErrOf result (status_of ending)

@@ -4,9 +4,11 @@
 //! callers race in `casreg_race`.
 #![tactic(auto)]
 
+mod audit;
 pub mod cluster;
 mod fates;
 mod load;
+mod marks;
 mod race;
 mod status;
 mod words;

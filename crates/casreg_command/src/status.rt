@@ -4,10 +4,12 @@ ghost use Rattle.std.specs.Prelude.{◌≡◌};
 ghost use Rattle.casreg_command.specs.Status.{number_of};
 ghost use Rattle.casreg_command.specs.declared.status.Status.TheVariants.{WriteFault, NoMemory};
 
+use cas_audit::AuditFault;
 use cas_lines::lines::LineFault;
 use cas_lines::source::Failed;
 use cas_store::RackFault;
 use cas_world::OpenFault;
+use casreg_marks::MarksFault;
 use casreg_race::RaceFault;
 use casreg_tasks::histories::HistoryFault;
 use std::alloc::AllocError;
@@ -83,6 +85,39 @@ impl From<RaceFault> for Status {
             RaceFault::NotRun(fault) => Status::from(fault),
             RaceFault::CutOff(HistoryFault::WriteFault) => Status::WriteFault,
             RaceFault::CutOff(HistoryFault::NoMemory) => Status::NoMemory,
+        }
+    }
+}
+
+/// Why an audit told nothing.
+impl From<AuditFault> for Status {
+    ghost use Rattle.std.specs.Prelude.{◌≡◌};
+    ghost use Rattle.casreg_command.specs.Status.{status_of_audit};
+
+    ghost from_gives = { λ fault status. status ≡ status_of_audit fault };
+
+    fn from(fault: AuditFault) -> Status {
+        match fault {
+            AuditFault::ReadFault => Status::ReadFault,
+            AuditFault::WriteFault => Status::WriteFault,
+            AuditFault::TooManyLines => Status::TooManyLines,
+            AuditFault::NoMemory => Status::NoMemory,
+            AuditFault::Endless { line } => Status::Endless { line },
+        }
+    }
+}
+
+/// Why a record was not written whole.
+impl From<MarksFault> for Status {
+    ghost use Rattle.std.specs.Prelude.{◌≡◌};
+    ghost use Rattle.casreg_command.specs.Status.{status_of_marks};
+
+    ghost from_gives = { λ fault status. status ≡ status_of_marks fault };
+
+    fn from(fault: MarksFault) -> Status {
+        match fault {
+            MarksFault::WriteFault => Status::WriteFault,
+            MarksFault::NoMemory => Status::NoMemory,
         }
     }
 }

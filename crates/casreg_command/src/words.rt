@@ -1,11 +1,12 @@
 //! The words of the command line.
 
-ghost use Rattle.std.specs.Prelude.{◌≡◌, ◌≢◌, ◌≤◌, ◌∷◌, [], ℕ, false, map, string_bytes, codes, IfOk, IfSome, MatchOption, Some, option_map};
+ghost use Rattle.std.specs.Prelude.{◌≡◌, ◌≤◌, ◌∷◌, [], ℕ, false, map, string_bytes, codes, IfOk, IfSome, MatchOption, Some, None, option_map};
 ghost use Rattle.clap.specs.Matches.{found_of};
 ghost use Rattle.clap.specs.Simple.{app_of, subcommand_rows_of};
-ghost use Rattle.clap.specs.Walk.{one_of, rows_of, rule_of};
+ghost use Rattle.clap.specs.Walk.{first_of, one_of, rows_of, rule_of};
 ghost use Rattle.clap.specs.declared.builder.command.Command.TheViews.{out-Command};
-ghost use Rattle.casreg_command.specs.Words.{option_of, over_cluster, script, race, load, casreg, command_line, faults_of, number_in, IsNumberIn, HasOptions, HasDrawing, HasCommand, AsksFor, AreWords, AreOptionsInRange, IsLoadInRange, IsInRange};
+ghost use Rattle.casreg_command.specs.Words.{option_of, over_cluster, with_marks, script, race, load, audit, running, casreg, command_line, faults_of, number_in, marks_word};
+ghost use Rattle.casreg_command.specs.Words.{IsNumberIn, HasOptions, HasMarks, SaysNeither, HasDrawing, HasCommand, AsksFor, AreWords, AreOptionsInRange, IsLoadInRange, IsInRange};
 ghost use Rattle.casreg_command.specs.declared.words.Request.{Request as ARequest};
 
 use casreg_script::Load;
@@ -23,6 +24,8 @@ pub struct Options {
     pub proposers: u8,
     /// How often a call is tried, from 1 to 64.
     pub tries: u8,
+    /// Whether the record is written behind all other output.
+    pub marks: bool,
 }
 
 /// What the words ask for.
@@ -34,15 +37,18 @@ pub enum Request {
     Race(Options),
     /// `load`: to run lines that are drawn.
     Load(Load),
+    /// `audit`: to audit the record that the input spells.
+    Audit,
 }
 
-/// What the words ask for: the command `script`, `race` or `load`, whose options `--acceptors` (1 to 9, or 3 where it is not given),
+/// What the words ask for: the command `script`, `race`, `load` or `audit`. Of the first three the options `--acceptors` (1 to 9, or 3 where it is not given),
 /// `--proposers` (1 to 16, or 1) and `--tries` (1 to 64, or 1), and of `load` `--seed` (any `u64`, or 1) and `--lines` (up to 100,000,
-/// or 1,000), may stand once each, in any order. `None` comes exactly where the words are none of a command; a request for help is none.
+/// or 1,000), and of the other two `--marks` (`yes` or `no`, or `no`), may stand once each, in any order. `None` comes exactly where the words are none of a command; a request for help is none.
 /// Only memory can fail.
 pub fn read_words(alloc: Global, words: &[String]) -> Result<Option<Request>, AllocError>
     ensures words { IfOk result (λ request. MatchOption request
-        (faults_of (map string_bytes words.now) ≢ []) (AreWords (map string_bytes words.now))) }
+        ((other : ARequest) → AreWords (map string_bytes words.now) other → ⊥)
+        (AreWords (map string_bytes words.now))) }
     ensures range { IfOk result (λ request. IfSome request IsInRange) }
     // There are no two readings of the words.
     ensures only { IfOk result (λ request. (other : ARequest)
@@ -51,43 +57,70 @@ pub fn read_words(alloc: Global, words: &[String]) -> Result<Option<Request>, Al
     let line = with_name(alloc, words)?;
     let command = casreg(alloc)?;
     match command.try_get_matches_from(&line) {
-        Ok(matches) => Ok(Some(request_of(&matches))),
+        Ok(matches) => Ok(request_of(&matches)),
         Err(error) if error.kind() == ErrorKind::OutOfMemory => Err(AllocError),
         Err(_error) => Ok(None),
     }
 }
 
-/// What the subcommand asks for that a parse met.
-fn request_of(matches: &ArgMatches<'_>) -> Request
+/// What the subcommand asks for that a parse met: nothing, where `--marks` says neither yes nor no.
+fn request_of(matches: &ArgMatches<'_>) -> Option<Request>
     requires { HasCommand (subcommand_rows_of matches.now) }
-    ensures asks { AsksFor (subcommand_rows_of matches.now) result }
-    ensures range { IsInRange result }
+    ensures asks { IfSome result (AsksFor (subcommand_rows_of matches.now)) }
+    ensures none { result ≡ None
+        → (other : ARequest) → AsksFor (subcommand_rows_of matches.now) other → ⊥ }
+    ensures range { IfSome result IsInRange }
 {
     let (name, given) = matches.subcommand().unwrap();
-    if name == "load" {
-        Request::Load(load_of(given))
+    if name == "audit" {
+        Some(Request::Audit)
+    } else if name == "load" {
+        Some(Request::Load(load_of(given)))
     } else if name == "race" {
-        Request::Race(options_of(given))
+        Some(Request::Race(options_of(given)?))
     } else {
-        Request::Script(options_of(given))
+        Some(Request::Script(options_of(given)?))
     }
 }
 
-/// The options of `script` or `race`.
-fn options_of(given: &ArgMatches<'_>) -> Options
-    requires { HasOptions (rows_of (found_of given.now)) }
-    ensures acceptors { option_map number_in
-        (one_of (codes "acceptors") (rows_of (found_of given.now))) ≡ Some result.acceptors }
-    ensures proposers { option_map number_in
-        (one_of (codes "proposers") (rows_of (found_of given.now))) ≡ Some result.proposers }
-    ensures tries { option_map number_in (one_of (codes "tries") (rows_of (found_of given.now)))
-        ≡ Some result.tries }
-    ensures range { AreOptionsInRange result }
+/// The options of `script` or `race`: nothing, where `--marks` says neither yes nor no.
+fn options_of(given: &ArgMatches<'_>) -> Option<Options>
+    requires options { HasOptions (rows_of (found_of given.now)) }
+    requires marks { HasMarks (rows_of (found_of given.now)) }
+    ensures acceptors { IfSome result (λ options. option_map number_in
+        (one_of (codes "acceptors") (rows_of (found_of given.now))) ≡ Some options.acceptors) }
+    ensures proposers { IfSome result (λ options. option_map number_in
+        (one_of (codes "proposers") (rows_of (found_of given.now))) ≡ Some options.proposers) }
+    ensures tries { IfSome result (λ options. option_map number_in
+        (one_of (codes "tries") (rows_of (found_of given.now))) ≡ Some options.tries) }
+    ensures marks { MatchOption result (SaysNeither (rows_of (found_of given.now)))
+        (λ options. first_of (codes "marks") (rows_of (found_of given.now))
+        ≡ Some (marks_word options.marks)) }
+    ensures range { IfSome result AreOptionsInRange }
 {
-    Options {
+    let marks = marks_of(given)?;
+    Some(Options {
         acceptors: number_of(given, "acceptors", 9),
         proposers: number_of(given, "proposers", 16),
         tries: number_of(given, "tries", 64),
+        marks,
+    })
+}
+
+/// Whether `--marks` says yes: nothing, where it says neither that nor no.
+fn marks_of(given: &ArgMatches<'_>) -> Option<bool>
+    requires { HasMarks (rows_of (found_of given.now)) }
+    ensures { MatchOption result (SaysNeither (rows_of (found_of given.now)))
+        (λ marks. first_of (codes "marks") (rows_of (found_of given.now))
+        ≡ Some (marks_word marks)) }
+{
+    let text = given.get_str("marks").unwrap();
+    if text == "yes" {
+        Some(true)
+    } else if text == "no" {
+        Some(false)
+    } else {
+        None
     }
 }
 
@@ -107,15 +140,10 @@ fn load_of(given: &ArgMatches<'_>) -> Load
         ≡ Some result.lines }
     ensures range { IsLoadInRange result }
 {
-    let Options {
-        acceptors,
-        proposers,
-        tries,
-    } = options_of(given);
     Load {
-        acceptors,
-        proposers,
-        tries,
+        acceptors: number_of(given, "acceptors", 9),
+        proposers: number_of(given, "proposers", 16),
+        tries: number_of(given, "tries", 64),
         seed: seed_of(given),
         lines: lines_of(given),
     }
@@ -169,6 +197,13 @@ fn with_name<'a>(alloc: Global, words: &'a [String]) -> Result<Vec<&'a str>, All
 fn casreg<'a>(alloc: Global) -> Result<Command<'a>, AllocError>
     ensures { IfOk result (λ command. app_of command ≡ casreg) }
 {
+    running(alloc)?.subcommand(audit(alloc))
+}
+
+/// The program with the subcommands that run something over a cluster.
+fn running<'a>(alloc: Global) -> Result<Command<'a>, AllocError>
+    ensures { IfOk result (λ command. app_of command ≡ running) }
+{
     let bare = Command::new(alloc, "casreg").subcommand_required(true);
     bare.subcommand(script(alloc)?)?
         .subcommand(race(alloc)?)?
@@ -180,7 +215,7 @@ fn script<'a>(alloc: Global) -> Result<Command<'a>, AllocError>
     ensures app { IfOk result (λ command. app_of command ≡ script) }
     ensures local { IfOk result (λ command. (out-Command command).has_globals ≡ false) }
 {
-    over_cluster(alloc, "script")
+    with_marks(alloc, "script")
 }
 
 /// The subcommand `race`.
@@ -188,7 +223,7 @@ fn race<'a>(alloc: Global) -> Result<Command<'a>, AllocError>
     ensures app { IfOk result (λ command. app_of command ≡ race) }
     ensures local { IfOk result (λ command. (out-Command command).has_globals ≡ false) }
 {
-    over_cluster(alloc, "race")
+    with_marks(alloc, "race")
 }
 
 /// The subcommand `load`.
@@ -204,6 +239,23 @@ fn load<'a>(alloc: Global) -> Result<Command<'a>, AllocError>
         "1000",
     );
     over_cluster(alloc, "load")?.arg(seed)?.arg(lines)
+}
+
+/// The subcommand `audit`.
+fn audit<'a>(alloc: Global) -> Command<'a>
+    ensures app { app_of result ≡ audit }
+    ensures local { (out-Command result).has_globals ≡ false }
+{
+    Command::new(alloc, "audit")
+}
+
+/// A subcommand of this name, with the options of a cluster and `--marks`.
+fn with_marks<'a>(alloc: Global, name: &'a str) -> Result<Command<'a>, AllocError>
+    ensures app { IfOk result (λ command. app_of command ≡ with_marks name.now) }
+    ensures local { IfOk result (λ command. (out-Command command).has_globals ≡ false) }
+{
+    let marks = option_of(alloc, "marks", ValueParser::String, "no");
+    over_cluster(alloc, name)?.arg(marks)
 }
 
 /// A subcommand of this name, with the options of a cluster.

@@ -27,7 +27,6 @@ use cas_lines::lines::LineFault;
 use cas_lines::sink::{Sink, put_all};
 use cas_lines::source::Source;
 use cas_record::Record;
-use cas_store::Rack;
 use casreg_tasks::histories::{HistoryFault, write_histories};
 use casreg_tasks::tasks::{Sheet, Task, read_sheet};
 use std::alloc::{AllocError, Global};
@@ -71,7 +70,7 @@ pub fn race_on<R: Threads + Wait + Sync, S: Source, K: Sink, D: Disk + Send + Dr
     board: Board<D>,
     mut passes: Vec<Pass<D>>,
     fates: &mut Vec<F>,
-) -> (Result<(), RaceFault>, Rack<D>)
+) -> (Result<(), RaceFault>, Closed<D>)
     requires proposers { proposers ≤ 16 }
     requires tries { 1 ≤ tries }
     requires seats { board.seats ≡ proposers + 1 }
@@ -79,12 +78,15 @@ pub fn race_on<R: Threads + Wait + Sync, S: Source, K: Sink, D: Disk + Send + Dr
     requires idle { All (λ pass. IsPassOf board pass × NothingIsOpen pass.own) passes.items }
     requires room { vec_capacity passes ≡ proposers + 1 }
     requires fates { vec_len fates.old ≡ 17 }
-    ensures raced { (marks : List Mark) × (D.tells → IsLegal (reverse marks))
-        × (D.tells → AreTellingsSo (proposers + 1) (reverse marks)) × (D.tells
-        → AreKept D.may_leave (reverse marks) result.1.acceptors.items) × WroteRace D.tells
-        tries proposers (S.remaining source.old) (K.contents sink.old) (K.contents sink.new)
-        (map F.harm_count fates.old.items) (map F.harm_count fates.new.items) marks result.0
-        × AreDeserved D.fault_count result.1.acceptors.items result.1.vaults.items marks }
+    ensures legal { D.tells → IsLegal (reverse result.1.book.marks) }
+    ensures tellings { D.tells → AreTellingsSo (proposers + 1) (reverse result.1.book.marks) }
+    ensures kept { D.tells
+        → AreKept D.may_leave (reverse result.1.book.marks) result.1.rack.acceptors.items }
+    ensures deserved { AreDeserved D.fault_count result.1.rack.acceptors.items
+        result.1.rack.vaults.items result.1.book.marks }
+    ensures raced { WroteRace D.tells tries proposers (S.remaining source.old)
+        (K.contents sink.old) (K.contents sink.new) (map F.harm_count fates.old.items)
+        (map F.harm_count fates.new.items) result.1.book.marks result.0 }
     ensures read { OnOk result.0 (IsAtEnd (S.remaining source.new)) }
     ensures whole { OnOk result.0
         (IfSome (S.remaining source.old) (λ input. ending_of input ≡ Whole)) }
@@ -94,11 +96,12 @@ pub fn race_on<R: Threads + Wait + Sync, S: Source, K: Sink, D: Disk + Send + Dr
         → IfSome (S.remaining source.old) (λ input. ending_of input ≡ TooMany) }
     ensures endless { (line : ℕ) → IsErrOf result.0 (RaceFault.NotRun (LineFault.Endless line))
         → IfSome (S.remaining source.old) (λ input. ending_of input ≡ TooLong line) }
+    ensures never_falls { K.faults_of sink.old ≤ K.faults_of sink.new }
     ensures write_fault { IsErrOf result.0 (RaceFault.CutOff HistoryFault.WriteFault)
         → Rose (K.faults_of sink.old) (K.faults_of sink.new) }
     ensures fates { vec_len fates.new ≡ 17 }
-    ensures all_acceptors { vec_len result.1.acceptors ≡ 64 }
-    ensures all_vaults { vec_len result.1.vaults ≡ 17 }
+    ensures all_acceptors { vec_len result.1.rack.acceptors ≡ 64 }
+    ensures all_vaults { vec_len result.1.rack.vaults ≡ 17 }
 {
     let raced = run_lines(
         rt,
@@ -110,13 +113,13 @@ pub fn race_on<R: Threads + Wait + Sync, S: Source, K: Sink, D: Disk + Send + Dr
         &mut passes,
         fates,
     );
-    let Closed { book, rack } = board.close(passes);
+    let closed = board.close(passes);
     match raced {
-        Ok(results) => match write_race(alloc, &results, &book, sink) {
-            Ok(()) => (Ok(()), rack),
-            Err(fault) => (Err(RaceFault::CutOff(fault)), rack),
+        Ok(results) => match write_race(alloc, &results, &closed.book, sink) {
+            Ok(()) => (Ok(()), closed),
+            Err(fault) => (Err(RaceFault::CutOff(fault)), closed),
         },
-        Err(fault) => (Err(RaceFault::NotRun(fault)), rack),
+        Err(fault) => (Err(RaceFault::NotRun(fault)), closed),
     }
 }
 
@@ -196,6 +199,7 @@ fn write_race<K: Sink>(
     ensures front { OnErr result
         (WroteFrontOf (IsRaceText results.now.bad.items (map vec_items results.now.told.items)
         (reverse book.now.marks)) (K.contents sink.old) (K.contents sink.new)) }
+    ensures never_falls { K.faults_of sink.old ≤ K.faults_of sink.new }
     ensures write_fault { IsErrOf result HistoryFault.WriteFault
         → Rose (K.faults_of sink.old) (K.faults_of sink.new) }
 {

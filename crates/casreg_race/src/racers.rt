@@ -36,8 +36,8 @@ pub(crate) fn line_up<D: Disk, F>(
     requires none { racers.old.items ≡ [] }
     requires room { vec_len passes.old ≤ vec_capacity racers.old }
     requires fates { vec_len passes.old ≤ vec_len fates.old }
-    requires tasks { vec_len tasks.old ≡ vec_len passes.old }
-    requires told { vec_len told.old ≡ vec_len passes.old }
+    requires lists { (vec_len tasks.old ≡ vec_len passes.old)
+        × (vec_len told.old ≡ vec_len passes.old) }
     ensures passes { map (λ racer. racer.pass) racers.new.items ≡ passes.old.items }
     ensures fates { map (λ racer. racer.fate) racers.new.items ++ reverse fates.new.items
         ≡ fates.old.items }

@@ -1,6 +1,6 @@
 //! The settled histories of a record, in words. How a register came to its state is the record's matter.
 
-ghost use Rattle.std.specs.Prelude.{◌≡◌, reverse, IfOk, OnOk, OnErr, IsErrOf};
+ghost use Rattle.std.specs.Prelude.{◌≡◌, ◌≤◌, reverse, IfOk, OnOk, OnErr, IsErrOf};
 ghost use Rattle.cas_base.specs.Faults.{Rose};
 ghost use Rattle.casreg_tasks.specs.Histories.{AreHistories, entry_line, head_line, history_text};
 ghost use Rattle.casreg_tasks.specs.Texts.{WroteFrontOf, WroteText};
@@ -54,6 +54,7 @@ pub fn write_histories<K: Sink>(
         (K.contents sink.old) (K.contents sink.new)) }
     ensures front { OnErr result (WroteFrontOf (AreHistories (reverse book.now.marks))
         (K.contents sink.old) (K.contents sink.new)) }
+    ensures never_falls { K.faults_of sink.old ≤ K.faults_of sink.new }
     ensures write_fault { IsErrOf result HistoryFault.WriteFault
         → Rose (K.faults_of sink.old) (K.faults_of sink.new) }
 {

@@ -9,6 +9,8 @@ mod faults;
 #[cfg(test)]
 mod racing;
 #[cfg(test)]
+mod records;
+#[cfg(test)]
 mod rows;
 #[cfg(test)]
 mod words;

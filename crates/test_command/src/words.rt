@@ -10,15 +10,17 @@ fn runs(acceptors: u8, proposers: u8, tries: u8) -> Option<Request> {
         acceptors,
         proposers,
         tries,
+        marks: false,
     }))
 }
 
 /// A race with these options is asked for.
-fn races(acceptors: u8, proposers: u8, tries: u8) -> Option<Request> {
+fn races(acceptors: u8, proposers: u8, tries: u8, marks: bool) -> Option<Request> {
     Some(Request::Race(Options {
         acceptors,
         proposers,
         tries,
+        marks,
     }))
 }
 
@@ -69,11 +71,22 @@ fn knows_the_words(rt: HostRuntime) -> Result<(), Fail> {
         ("load --seed 1 --seed 1", None),
         ("load 3", None),
         ("load script", None),
-        ("race", races(3, 1, 1)),
+        ("race", races(3, 1, 1, false)),
         (
             "race --tries 64 --acceptors=9 --proposers 16",
-            races(9, 16, 64),
+            races(9, 16, 64, false),
         ),
+        ("race --marks yes", races(3, 1, 1, true)),
+        ("race --marks=no --tries 2", races(3, 1, 2, false)),
+        ("script --marks no", runs(3, 1, 1)),
+        ("script --marks Yes", None),
+        ("script --marks", None),
+        ("script --marks yes --marks yes", None),
+        ("load --marks yes", None),
+        ("audit", Some(Request::Audit)),
+        ("audit --", Some(Request::Audit)),
+        ("audit --tries 1", None),
+        ("audit x", None),
         ("race --proposers 17", None),
         ("race --tries 8 --tries 8", None),
         ("race --seed 1", None),

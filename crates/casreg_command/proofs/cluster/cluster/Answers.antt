@@ -1,17 +1,18 @@
-use Rattle.std.proofs.Common.{◌≡◌, ◌≢◌, [], Option, Some, map, string_bytes, refl, sym, ◌∙◌, subst, inl, inr}
+use Rattle.std.proofs.Common.{◌≡◌, Option, Some, map, string_bytes, refl, sym, ◌∙◌, subst, inl, inr}
 use Rattle.std.specs.Prelude.{MatchOption}
 use Rattle.casreg_command.specs.Causes.{ReadsLines, no_words_read}
-use Rattle.casreg_command.specs.Words.{AreWords, faults_of}
+use Rattle.casreg_command.specs.Words.{AreWords}
 use Rattle.casreg_command.specs.declared.words.Request.{Request}
 use Rattle.casreg_command.specs.declared.words.Request.TheVariants as request
 use Rattle.casreg_command.proofs.Blame.{blamed}
-use Rattle.casreg_command.proofs.Written.{stored, wrote_nothing, wrote_of, completes_of, load_completes_of, no_end, no_memory_completes}
+use Rattle.cas_store.proofs.Keeping.{stored}
+use Rattle.casreg_command.proofs.Written.{wrote_nothing, wrote_of, completes_of, load_completes_of, no_end, no_memory_completes}
 use Rattle.cas_store.specs.Rack.{rack_meaning}
 use Rattle.casreg_command.proofs.cluster.cluster.Given.{Over}
 use Rattle.casreg_command.proofs.cluster.cluster.Goals as goal
 
 are_words : (g : Over) (c : goal.After-run g) → AreWords (map string_bytes c.args.words.now) c.in-Ok-Some.request
-are_words g c = subst (λ (o : Option Request). MatchOption o (faults_of (map string_bytes c.args.words.now) ≢ []) (AreWords (map string_bytes c.args.words.now))) c.in-Ok-Some.field-0-is c.in-Ok-Some.ensures.words
+are_words g c = subst (λ (o : Option Request). MatchOption o ((other : Request) → AreWords (map string_bytes c.args.words.now) other → ⊥) (AreWords (map string_bytes c.args.words.now))) c.in-Ok-Some.field-0-is c.in-Ok-Some.ensures.words
 
 -- the words ask for nothing else
 only_one : (g : Over) (c : goal.After-run g) (other : Request) → AreWords (map string_bytes c.args.words.now) other → c.in-Ok-Some.request ≡ other

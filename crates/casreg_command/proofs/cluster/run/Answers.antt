@@ -5,19 +5,29 @@ use Rattle.std.proofs.Common.{refl}
 use Rattle.casreg_command.specs.Causes.{not_empty}
 use Rattle.casreg_command.specs.declared.words.Request.TheVariants as request
 use Rattle.casreg_command.proofs.Along.{ran_over, new_of}
-use Rattle.casreg_command.proofs.Written.{stored, wrote_nothing, closed_still, no_race, wrote_by, summed_ends}
+use Rattle.cas_store.proofs.Keeping.{stored}
+use Rattle.casreg_command.proofs.Written.{wrote_nothing, closed_still, no_race, wrote_by, summed_ends}
 use Rattle.casreg_script.proofs.Opened.{new_idle, new_quiet}
+use Rattle.casreg_command.proofs.Marked.{is_audit}
 use Rattle.casreg_command.proofs.cluster.run.Goals as goal
 
+-- ---- an audit
+pub returns-then-not-uses_disks-clause-wrote : goal.returns-then-not-uses_disks-clause-wrote
+returns-then-not-uses_disks-clause-wrote g c =
+    wrote_by (stored g.D.Disk) (rack_meaning g.D.Disk) c.args.request request.Audit _ _ (is_audit c.args.request (λ uses. let yes = c.uses_disks.ensures.1 uses in let no = c.if-not-uses_disks.true in absurd (cc (yes, no))))
+    (record { wrote = c.audit_input.ensures.wrote; rack = refl })
+
+-- ---- over disks
+
 pub returns-in-Err-clause-wrote : goal.returns-in-Err-clause-wrote
-returns-in-Err-clause-wrote g c = wrote_nothing (stored g.D.Disk) (rack_meaning g.D.Disk) c.args.request _ _ (not_empty c.in-Err.fault c.in-Err.ensures.err c.from.ensures) refl
+returns-in-Err-clause-wrote g c = wrote_nothing (stored g.D.Disk) (rack_meaning g.D.Disk) c.args.request _ _ (not_empty c.in-Err.fault (c.uses_disks.ensures.0 c.if-not-uses_disks.false) c.in-Err.ensures.err c.from.ensures) refl
 
 pub run_script-requires-clause-idle : goal.run_script-requires-clause-idle
 run_script-requires-clause-idle g c = new_idle _ _ c.in-Ok.store.world c.in-Ok.ensures.opening c.in-Ok.ensures.places
 
 pub returns-in-Err-open-clause-wrote : goal.returns-in-Err-open-clause-wrote
 returns-in-Err-open-clause-wrote g c =
-    wrote_nothing (stored g.D.Disk) (rack_meaning g.D.Disk) c.args.request _ _ (closed_still (rack_meaning g.D.Disk) c.args.request _ _ c.expect_empty.new.self c.in-Err-open.fault c.config_of-config.result.acceptors c.config_of-config.result.proposers c.config_of-config.ensures.acceptors c.config_of-config.ensures.proposers c.from-in-Err-open.ensures
+    wrote_nothing (stored g.D.Disk) (rack_meaning g.D.Disk) c.args.request _ _ (closed_still (rack_meaning g.D.Disk) c.args.request _ _ c.expect_empty.new.self c.in-Err-open.fault c.config_of-config.result.acceptors c.config_of-config.result.proposers (c.uses_disks.ensures.0 c.if-not-uses_disks.false) c.config_of-config.ensures.acceptors c.config_of-config.ensures.proposers c.from-in-Err-open.ensures
     c.in_default.ensures.ok c.in-Err-open.ensures.fault) refl
 
 pub run_script-requires-clause-quiet : goal.run_script-requires-clause-quiet
@@ -50,7 +60,7 @@ returns-in-Ok-open-2-clause-loads g c load is = (refl, summed_ends c.load_store.
 
 pub returns-in-Err-open-3-clause-wrote : goal.returns-in-Err-open-3-clause-wrote
 returns-in-Err-open-3-clause-wrote g c =
-    wrote_nothing (stored g.D.Disk) (rack_meaning g.D.Disk) c.args.request _ _ (closed_still (rack_meaning g.D.Disk) c.args.request _ _ c.expect_empty.new.self c.in-Err-open-3.fault c.config_of-config.result.acceptors c.config_of-config.result.proposers c.config_of-config.ensures.acceptors c.config_of-config.ensures.proposers c.from-in-Err-open-3.ensures
+    wrote_nothing (stored g.D.Disk) (rack_meaning g.D.Disk) c.args.request _ _ (closed_still (rack_meaning g.D.Disk) c.args.request _ _ c.expect_empty.new.self c.in-Err-open-3.fault c.config_of-config.result.acceptors c.config_of-config.result.proposers (c.uses_disks.ensures.0 c.if-not-uses_disks.false) c.config_of-config.ensures.acceptors c.config_of-config.ensures.proposers c.from-in-Err-open-3.ensures
     c.in_default.ensures.ok c.in-Err-open-3.ensures.fault) refl
 
 pub returns-in-Err-open-2-clause-wrote : goal.returns-in-Err-open-2-clause-wrote

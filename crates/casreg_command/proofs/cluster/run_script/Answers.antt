@@ -1,32 +1,33 @@
-use Rattle.std.proofs.Common.{Err, ap}
-use Rattle.cas_model.specs.View.{meaning}
-use Rattle.cas_disk_shelf.specs.declared.shelf.DiskShelf.{DiskShelf}
-use Rattle.casreg_script.specs.Script.{opening_state}
-use Rattle.casreg_command.specs.declared.status.Status.{Status}
+use Rattle.std.proofs.Common.{List, subst}
+use Rattle.cas_record.specs.declared.mark.Mark.{Mark}
+use Rattle.casreg_command.specs.Records.{EndsBehindMarks}
 use Rattle.casreg_command.specs.declared.status.Status.TheVariants as status
-use Rattle.casreg_command.proofs.Written.{stored, ran_from, ends_whole}
+use Rattle.casreg_command.proofs.Marked.{before_is, before_ending, write_fault_behind}
 use Rattle.casreg_command.proofs.cluster.run_script.Goals as goal
-
-pub returns-in-Ok-clause-ran : goal.returns-in-Ok-clause-ran
-returns-in-Ok-clause-ran g c =
-    ran_from (stored g.D.Disk) g.D.Disk.tells c.args.options.tries c.new-script.result.tries _ _ _ _ c.args.store.world c.into_world.result c.answer_lines-answered.new.script c.close-record.result.0.marks status.Ok c.close-record.result.1 c.new-script.ensures.tries c.into_world.ensures
-    (c.in-Ok.ensures.all (opening_state c.args.store.world) c.new-script.ensures.state) c.close-record.ensures.marks c.close-record.ensures.legal
-    c.close-record.ensures.kept c.close-record.ensures.held c.close-record.ensures.acceptors c.close-record.ensures.vaults
-
-pub returns-in-Ok-clause-ends : goal.returns-in-Ok-clause-ends
-returns-in-Ok-clause-ends g c = ends_whole _ c.in-Ok.ensures.whole
 
 pub returns-clause-ran : goal.returns-clause-ran
 returns-clause-ran g c =
-    ran_from (stored g.D.Disk) g.D.Disk.tells c.args.options.tries c.new-script.result.tries _ _ _ _ c.args.store.world c.into_world.result c.answer_lines-answered.new.script c.close-record.result.0.marks c.in-Err.status c.close-record.result.1 c.new-script.ensures.tries c.into_world.ensures
-    (c.in-Err.ensures.wrote (opening_state c.args.store.world) c.new-script.ensures.state) c.close-record.ensures.marks c.close-record.ensures.legal
-    c.close-record.ensures.kept c.close-record.ensures.held c.close-record.ensures.acceptors c.close-record.ensures.vaults
+    let by = c.answer_script-ended.ensures.ran in
+    record {
+      before = c.answer_script-ended.result.0;
+      between = g.K.Sink.contents c.answer_script-ended.new.sink;
+      ran = by.ran;
+      behind = subst (λ (marks : List Mark). EndsBehindMarks c.args.options.marks marks c.answer_script-ended.result.0 (g.K.Sink.contents c.answer_script-ended.new.sink) (g.K.Sink.contents c.end_with_marks.new.sink) c.end_with_marks.result)
+          by.marks_are c.end_with_marks.ensures.ends;
+    }
+
+pub returns-clause-usage : goal.returns-clause-usage
+returns-clause-usage g c is = c.answer_script-ended.ensures.usage (before_is status.Usage (λ e. absurd (cc e)) (λ e. absurd (cc e)) c.end_with_marks.ensures.ends is)
 
 pub returns-clause-read_fault : goal.returns-clause-read_fault
-returns-clause-read_fault g c is = c.in-Err.ensures.read_fault (ap (λ (s : Status). Err s) is)
+returns-clause-read_fault g c is = c.answer_script-ended.ensures.read_fault (before_is status.ReadFault (λ e. absurd (cc e)) (λ e. absurd (cc e)) c.end_with_marks.ensures.ends is)
 
 pub returns-clause-write_fault : goal.returns-clause-write_fault
-returns-clause-write_fault g c is = c.in-Err.ensures.write_fault (ap (λ (s : Status). Err s) is)
+returns-clause-write_fault g c is =
+    write_fault_behind _ _ _ c.answer_script-ended.ensures.never_falls c.end_with_marks.ensures.never_falls c.end_with_marks.ensures.ends c.answer_script-ended.ensures.write_fault c.end_with_marks.ensures.write_fault is
 
 pub returns-clause-ends : goal.returns-clause-ends
-returns-clause-ends g c ending is = c.in-Err.ensures.ends ending (ap (λ (s : Status). Err s) is)
+returns-clause-ends g c ending is = c.answer_script-ended.ensures.ends ending (before_ending ending c.end_with_marks.ensures.ends is)
+
+pub returns-clause-read : goal.returns-clause-read
+returns-clause-read g c is = c.answer_script-ended.ensures.read (before_is status.Ok (λ e. absurd (cc e)) (λ e. absurd (cc e)) c.end_with_marks.ensures.ends is)

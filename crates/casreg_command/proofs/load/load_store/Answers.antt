@@ -4,7 +4,8 @@ use Rattle.cas_disk_shelf.specs.declared.shelf.DiskShelf.{DiskShelf}
 use Rattle.casreg_command.specs.declared.status.Status.{Status}
 use Rattle.casreg_command.specs.declared.status.Status.TheVariants as status
 use Rattle.casreg_command.specs.Causes.{LoadEnds}
-use Rattle.casreg_command.proofs.Written.{stored, loaded_from, summed_ends}
+use Rattle.cas_store.proofs.Keeping.{stored}
+use Rattle.casreg_command.proofs.Written.{loaded_from, summed_ends}
 use Rattle.casreg_command.proofs.load.load_store.Goals as goal
 
 pub returns-in-Ok-clause-loaded : goal.returns-in-Ok-clause-loaded

@@ -21,24 +21,16 @@ returns-in_err-told-clause-passes g c = new_passes c.args.board.now c.args.propo
 pub returns-in_err-racers-clause-passes : goal.returns-in_err-racers-clause-passes
 returns-in_err-racers-clause-passes g c = new_passes c.args.board.now c.args.proposers c.args.passes.now.items c.requires.passes c.requires.idle
 
-pub line_up-requires-clause-tasks : goal.line_up-requires-clause-tasks
-line_up-requires-clause-tasks g c =
+pub line_up-requires-clause-lists : goal.line_up-requires-clause-lists
+line_up-requires-clause-lists g c =
     let count = count_of c.args.board.now.id c.args.proposers c.args.passes.now.items c.requires.passes in
     let parted = c.in_ok-bad.ensures.parted.2.callers in
     let mapped = length-map c.in_ok-bad.field-0.tasks.items vec_items in
     let tasks = c.in_ok-bad.field-0.tasks.ok.0 in
-    let passes = c.args.passes.now.ok.0 in
-    omega (arith, count, parted, mapped, tasks, passes)
-
-pub line_up-requires-clause-told : goal.line_up-requires-clause-told
-line_up-requires-clause-told g c =
-    let count = count_of c.args.board.now.id c.args.proposers c.args.passes.now.items c.requires.passes in
-    let parted = c.in_ok-bad.ensures.parted.2.callers in
-    let mapped = length-map c.in_ok-bad.field-0.tasks.items vec_items in
     let rooms = c.in_ok-told.ensures.count.0 in
     let read : length c.deref.result.now ≡ length c.in_ok-bad.field-0.tasks.items = ap (λ (l : List (Vec Task Global)). length l) c.deref.ensures.value in
     let passes = c.args.passes.now.ok.0 in
-    omega (arith, count, parted, mapped, rooms, read, passes)
+    (omega (arith, count, parted, mapped, tasks, passes), omega (arith, count, parted, mapped, rooms, read, passes))
 
 abbrev ARacer : Over → Type 0
 ARacer g = Racer g.row.D.Denot g.row.F.Denot

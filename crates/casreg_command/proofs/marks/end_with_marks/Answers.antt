@@ -1,0 +1,14 @@
+use Rattle.std.proofs.Common.{List, refl, subst}
+use Rattle.cas_record.specs.declared.mark.Mark.{Mark}
+use Rattle.casreg_command.specs.Records.{EndsBehindMarks, whole, cut_off}
+use Rattle.casreg_command.proofs.marks.end_with_marks.Goals as goal
+
+pub returns-in-Ok-clause-ends : goal.returns-in-Ok-clause-ends
+returns-in-Ok-clause-ends g c =
+    subst (λ (marks : List Mark). EndsBehindMarks c.args.asked marks c.args.ended (g.K.Sink.contents c.args.sink.now) (g.K.Sink.contents c.write_marks.new.sink) c.args.ended) c.marks.ensures
+    (whole c.if-not-asked.false (c.is_complete.ensures.0 c.if-not-is_complete.false) (record { written = c.in-Ok.ensures.all; spells = c.in-Ok.ensures.spells }) refl)
+
+pub returns-in-Err-clause-ends : goal.returns-in-Err-clause-ends
+returns-in-Err-clause-ends g c =
+    subst (λ (marks : List Mark). EndsBehindMarks c.args.asked marks c.args.ended (g.K.Sink.contents c.args.sink.now) (g.K.Sink.contents c.write_marks.new.sink) c.from.result) c.marks.ensures
+    (cut_off c.in-Err.fault c.if-not-asked.false (c.is_complete.ensures.0 c.if-not-is_complete.false) c.in-Err.ensures.front c.from.ensures)
