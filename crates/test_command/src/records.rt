@@ -23,10 +23,18 @@ const ANSWER: usize = 24;
 fn the_record_stands_behind_all_else(rt: HostRuntime) -> Result<(), Fail> {
     for (words, input, written) in [
         ("script --marks yes", "1 add a 5\n", MARKED),
-        ("script --marks no", "1 add a 5\n", "1: done v0 num 5 at 1.1\n"),
+        (
+            "script --marks no",
+            "1 add a 5\n",
+            "1: done v0 num 5 at 1.1\n",
+        ),
         ("script --marks yes", "", "record 0\n"),
         ("race --marks yes", "", "record 0\n"),
-        ("race --marks yes", "show 1 a\n", "bad 1 unknown word\nrecord 0\n"),
+        (
+            "race --marks yes",
+            "show 1 a\n",
+            "bad 1 unknown word\nrecord 0\n",
+        ),
     ] {
         let run = run(&rt, words, input.as_bytes(), FINE)?;
         assert_eq!(rt; run.status, Status::Ok, "{words}");
