@@ -1,6 +1,6 @@
 //! Records behind all other output, and audits of them.
 
-use crate::rows::{FINE, Outside, SCRIPT, run, with_letters};
+use crate::rows::{FINE, NONE_ODD, Odd, Outside, SCRIPT, run, with_letters};
 use casreg_command::Status;
 use std::test::Fail;
 
@@ -91,9 +91,14 @@ fn a_record_is_audited(rt: HostRuntime) -> Result<(), Fail> {
 /// A script whose disks are not empty does not start, and an audit does not look at them.
 #[test]
 fn an_audit_looks_at_no_disk(rt: HostRuntime) -> Result<(), Fail> {
-    let mut outside = FINE;
-    outside.odd.number = 3;
-    outside.odd.bytes = b"x";
+    let outside = Outside {
+        odd: Odd {
+            number: 3,
+            bytes: b"x",
+            ..NONE_ODD
+        },
+        ..FINE
+    };
     let refused = run(&rt, SCRIPT, b"1 add a 5\n", outside)?;
     assert_eq!(rt; refused.status, Status::NotEmpty { disk: 3 });
     let audited = run(&rt, "audit", b"record 0\n", outside)?;
