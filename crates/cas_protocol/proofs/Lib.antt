@@ -1,5 +1,6 @@
 pub mod Along
 pub mod Answered
+pub mod CountedReads
 pub mod Deeds
 pub mod Events
 pub mod Growing
@@ -7,8 +8,10 @@ pub mod Handling
 pub mod Held
 pub mod Known
 pub mod Pages
+pub mod Probes
 pub mod Proposes
 pub mod Proposing
+pub mod QuorumReads
 pub mod Rides
 pub mod SlotChanges
 pub mod Staying

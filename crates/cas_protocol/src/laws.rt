@@ -2,6 +2,7 @@
 
 ghost use Rattle.cas_protocol.specs.Laws.{AcceptorsAnswerLawfully, AcceptorsStopLawfully, OthersChangeNothing, WhatWasTakenStays, ProposersDrawLawfully, ProposersProposeLawfully, ProposalsMakeStates, RidersProposeLawfully, PromisesRideLawfully, ProposersCountLawfully, CallsAreDoneLawfully, RepliesAreTrue, WhatIsKnownStays, TombstonesAreFloors, WhatIsAckedIsHeld, WhatIsSettledIsHeld};
 ghost use Rattle.cas_protocol.specs.Protocol.{EventsKeepHistory, RunsAreLegal, SomeRunIsDone};
+ghost use Rattle.cas_protocol.specs.Reads.{ReadsGoOn, ReadsOfNothing, ReadsStand, ReadsMayCount};
 
 /// An acceptor that keeps what the log tells, and answers a request that it was asked, keeps what the log tells then: what it
 /// promised, took, raised or removed, its vote and its reply go on with the log lawfully, and each has its reason.
@@ -91,6 +92,31 @@ pub fn what_is_acknowledged_is_held()
 /// is that of a history which the settled one begins.
 pub fn what_is_settled_is_held()
     ensures { WhatIsSettledIsHeld }
+{}
+
+/// What a read tells goes on from all that was settled when it began. A proposer asks the members of its era what they accepted for a
+/// key, and writes nothing. Where a prepare quorum told one ballot, the history up to that ballot begins with what was settled before
+/// the question was asked, in this era or in any earlier one. The state that was told is the one that this history leaves.
+pub fn reads_go_on()
+    ensures { ReadsGoOn }
+{}
+
+/// Where a prepare quorum told a read that it accepted nothing, the register was empty when the read began: what was settled leaves the
+/// empty state. It may have been removed then, but no floor of the key is made while it is read.
+pub fn reads_of_nothing_are_so()
+    ensures { ReadsOfNothing }
+{}
+
+/// What a read tells stands, where those that told it are an accept quorum of the era in which it was proposed. The history up to it
+/// begins what is settled as soon as what is settled last is at or above it, already when they told it or whenever later.
+pub fn reads_stand()
+    ensures { ReadsStand }
+{}
+
+/// Where what they told is above what is settled last, their votes may be marked, although none of them may have told anybody of it
+/// before, and then it may be acknowledged. The history up to it is what is settled then.
+pub fn reads_may_count()
+    ensures { ReadsMayCount }
 {}
 
 /// Whatever happens, a cluster with a history has one after it: each request that was ever made may be answered at any time, any
