@@ -9,7 +9,6 @@ use Rattle.cas_ballot.proofs.BallotLemmas.{at_most_antisym, at_most_or_less, at_
 use Rattle.cas_record.specs.declared.entry.Entry.{Entry}
 use Rattle.cas_record.specs.declared.mark.Mark.{Mark}
 use Rattle.cas_record.specs.declared.mark.Mark.TheVariants.{Acked}
-use Rattle.cas_record.specs.declared.mark.Proposal.{Proposal}
 use Rattle.cas_record.specs.Histories.Chain.{is_key, chain_of, top_of, settled_of}
 use Rattle.cas_record.specs.Laws.{IsChosen}
 use Rattle.cas_record.specs.Logs.Happening.{Happening, Drew, marks_of}
@@ -64,8 +63,8 @@ stand cluster meets log later tag key by acceptor accepted orderly lawful part t
       taken = λ member is. subst (λ (k : List ℕ). MayVote later member k made.proposal.ballot) (sym made.same_key) (subst (MayVote later member key) (sym made.same_ballot) (vote member is));
     }
 
-    below : (made : IsMadeState (marks_of log) key accepted.ballot accepted.era accepted.state) → BallotLess accepted.ballot (top_of key marks) → (top_of key marks ≡ zero_ballot) ⊎ Settles key (top_of key marks) later
-        → IsPrefix (chain_of key accepted.ballot marks) (settled_of key marks)
+    below : (made : IsMadeState (marks_of log) key accepted.ballot accepted.era accepted.state) → BallotLess accepted.ballot (top_of key marks)
+        → (top_of key marks ≡ zero_ballot) ⊎ Settles key (top_of key marks) later → IsPrefix (chain_of key accepted.ballot marks) (settled_of key marks)
     below made less (inl zero) = absurd (none_below_zero (subst (BallotLess accepted.ballot) zero less))
     below made less (inr (by_opening o)) =
         let place = stands_in_log later (chosen made).proposed in

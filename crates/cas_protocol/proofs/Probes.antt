@@ -1,10 +1,9 @@
 -- What a probe tells of the log: what the acceptor's slot had accepted when it answered; and that a vote that is seen may be marked.
-use Rattle.std.proofs.Common.{◌≡◌, ℕ, true, List, [], Option, Some, sym, ap, subst, ◌∙◌}
+use Rattle.std.proofs.Common.{◌≡◌, ℕ, true, List, [], Option, sym, ap, subst, ◌∙◌}
 use Rattle.cas_ballot.specs.declared.ballot.Ballot.{Ballot}
 use Rattle.cas_ballot.specs.Members.{has_member}
 use Rattle.cas_slot.specs.declared.message.Ask.{Ask}
 use Rattle.cas_slot.specs.declared.message.Ask.TheVariants as ask
-use Rattle.cas_slot.specs.declared.message.Tell.{Tell}
 use Rattle.cas_slot.specs.declared.message.Tell.TheVariants as tell
 use Rattle.cas_slot.specs.declared.slot.Accepted.{Accepted}
 use Rattle.cas_slot.specs.Slot.{accepted_ballot}
@@ -54,12 +53,14 @@ probed_at cluster {log} {tag} {key} {acceptor} {accepted} orderly was =
     }
 
 -- what is told is a state that was proposed, or with which a history opened
-pub probed_state : {log : List Happening} {tag : Ballot} {key : List ℕ} {acceptor : ℕ} {accepted : Option Accepted} → WasProbed log tag key acceptor accepted → IsAcceptedState (marks_of log) key accepted
+pub probed_state : {log : List Happening} {tag : Ballot} {key : List ℕ} {acceptor : ℕ} {accepted : Option Accepted} → WasProbed log tag key acceptor accepted
+    → IsAcceptedState (marks_of log) key accepted
 probed_state {log} {tag} {key} {acceptor} {accepted} was =
     subst (λ (q : Ask). IsTellState (marks_of log) q (tell.Probed was.promise accepted)) was.asked (subst (IsTellState (marks_of log) was.told.request.ask) was.tells was.told.state)
 
 -- ---- a vote that is seen
-pub may_vote : (cluster : Cluster) {log : List Happening} {acceptor : ℕ} {key : List ℕ} {ballot : Ballot} → Lawful cluster log → Orderly cluster log → IsVoteSeen log acceptor key ballot → MayVote log acceptor key ballot
+pub may_vote : (cluster : Cluster) {log : List Happening} {acceptor : ℕ} {key : List ℕ} {ballot : Ballot} → Lawful cluster log → Orderly cluster log → IsVoteSeen log acceptor key ballot
+    → MayVote log acceptor key ballot
 may_vote cluster lawful orderly (by_deed ride took) = record { ride = ride; taken = took }
 may_vote cluster {log} {acceptor} {key} {ballot} lawful orderly (by_probe tag accepted was same) =
     let then_ = probed_at cluster orderly was in

@@ -1,5 +1,5 @@
 -- A proposer with a quorum proposes lawfully, and what it read is the state from which its proposal goes on.
-use Rattle.std.proofs.Common.{◌≡◌, ◌<◌, ◌≤◌, ℕ, suc, arith, true, false, List, [], ◌∷◌, Option, Some, None, refl, sym, ap, subst, ◌∙◌, inl, inr}
+use Rattle.std.proofs.Common.{◌≡◌, ◌<◌, ◌≤◌, ℕ, suc, arith, true, List, [], ◌∷◌, Option, Some, None, refl, sym, ap, subst, ◌∙◌, inl, inr}
 use Rattle.std.specs.Prelude.{◌⊎◌, ◌==◌, ◌&&◌, not, Contains}
 use Rattle.cas_base.proofs.Bools.{and_left, and_right, both_true, if_false, not_tells, false_of_not}
 use Rattle.cas_ballot.specs.declared.ballot.Ballot.{Ballot}

@@ -33,12 +33,12 @@ use Rattle.cas_record.proofs.Logs.Listings.{marks_part}
 use Rattle.cas_record.proofs.Logs.Openings.{opening_before, opening_at, has_opening_deeper, first_taken, never_proposed}
 use Rattle.cas_record.proofs.Logs.Orders.{reason, orderly_older, drawn_once}
 use Rattle.cas_record.proofs.Logs.Slots.{slot_bounds}
-use Rattle.cas_record.proofs.PlaceLemmas.{deeper, stands_deeper, stands_at, stands_part, part_at, order, older_than, newer_than, at_one, nil_prefix, prefix_same}
+use Rattle.cas_record.proofs.PlaceLemmas.{deeper, stands_deeper, stands_at, stands_part, part_at, order, older_than, newer_than, at_one, nil_prefix}
 use Rattle.cas_record.proofs.Tests.{key_is}
 use Rattle.cas_protocol.specs.Acceptors.{IsAcceptedState}
 use Rattle.cas_protocol.specs.Proposers.{WasProbed}
 use Rattle.cas_protocol.specs.Protocol.{IsFloorClear}
-use Rattle.cas_protocol.specs.Reads.{AreFloorsKnown, IsQuorumRead, ReadsGoOn, ReadsOfNothing}
+use Rattle.cas_protocol.specs.Reads.{ReadsGoOn, ReadsOfNothing}
 use Rattle.cas_protocol.proofs.Answered.{accepted_not_zero}
 use Rattle.cas_protocol.proofs.Events.{clear_stays, above_floor}
 use Rattle.cas_protocol.proofs.Held.{begins}
@@ -105,8 +105,8 @@ reached_near cluster meets {era = era} {acked = acked} lawful quorum a low high 
     by_member shared.acceptor acked took.ride shared.left (stands_deeper took.stands a.at) at_most
 
 -- nothing was proposed two eras after one that the reader has not left
-not_ahead : (cluster : Cluster) {before older : List Happening} {q : Proposal} {proposer era : ℕ} → Lawful cluster before → proposer ≤ cluster.last_proposer → (Stands (Entered proposer (suc era)) before → ⊥)
-    → At (Marked (Proposed q)) older before → suc (suc era) ≤ q.era → ⊥
+not_ahead : (cluster : Cluster) {before older : List Happening} {q : Proposal} {proposer era : ℕ} → Lawful cluster before → proposer ≤ cluster.last_proposer
+    → (Stands (Entered proposer (suc era)) before → ⊥) → At (Marked (Proposed q)) older before → suc (suc era) ≤ q.era → ⊥
 not_ahead cluster {q = q} {proposer = proposer} {era = era} lawful known not_beyond q_at ahead =
     let entry = entered_at cluster lawful q_at (omega arith) in
     let next : q.era ≡ suc entry.left = entry.next in
@@ -165,16 +165,16 @@ floor_later : {part log : List Happening} {key : List ℕ} {floor : Ballot} → 
 floor_later part has = record { state = has.state; stands = stands_part has.stands (marks_part part) }
 
 -- who is clear of a floor stays so
-clear_later : (cluster : Cluster) {before now : List Happening} {acceptor : ℕ} {key : List ℕ} {floor : Ballot} → IsOlderPart before now → Lawful cluster now → Orderly cluster now → HasFloor key floor (marks_of before)
-    → IsClear before acceptor key floor → IsClear now acceptor key floor
+clear_later : (cluster : Cluster) {before now : List Happening} {acceptor : ℕ} {key : List ℕ} {floor : Ballot} → IsOlderPart before now → Lawful cluster now → Orderly cluster now
+    → HasFloor key floor (marks_of before) → IsClear before acceptor key floor → IsClear now acceptor key floor
 clear_later cluster whole lawful orderly has clear = clear
 clear_later cluster {before} {acceptor = acceptor} {key = key} {floor = floor} (later {y = h} {rest = rest} part) lawful orderly has clear =
     let there = floor_later part has in
     clear_stays cluster h rest orderly.1 (λ ballot ride may. first_taken cluster lawful.0 there may) (above_floor cluster h rest orderly there) (clear_later cluster part lawful.0 orderly.0 has clear)
 
 -- a member of the reader's era that told a ballot told nothing, or one at or above each floor
-told_floor : (cluster : Cluster) {before log : List Happening} {key : List ℕ} {proposer era : ℕ} {ballot floor : Ballot} {acceptor : ℕ} → Lawful cluster log → Orderly cluster log → Lawful cluster before
-    → proposer ≤ cluster.last_proposer → (Stands (Entered proposer (suc era)) before → ⊥) → IsToldAfter cluster before log key era ballot acceptor → HasFloor key floor (marks_of before)
+told_floor : (cluster : Cluster) {before log : List Happening} {key : List ℕ} {proposer era : ℕ} {ballot floor : Ballot} {acceptor : ℕ} → Lawful cluster log → Orderly cluster log
+    → Lawful cluster before → proposer ≤ cluster.last_proposer → (Stands (Entered proposer (suc era)) before → ⊥) → IsToldAfter cluster before log key era ballot acceptor → HasFloor key floor (marks_of before)
     → IsFloorClear cluster before key floor → IsNoneOrAbove floor ballot
 told_floor cluster {before} {log} {key} {proposer} {era} {ballot} {floor} {acceptor} lawful orderly lawful_before known not_beyond told has is =
     let lawful_now = lawful_older cluster lawful told.at in
@@ -245,7 +245,8 @@ removed_at cluster {log = log} {key = key} {taken = taken} {ride = ride} {accept
           let may : MayDrop dropped.stands.older acceptor key dropped.tombstone = law cluster lawful at in
           let by : MayDropBy dropped.stands.older acceptor key dropped.tombstone = reason cluster orderly at in
           let asked_at = deeper by.was_asked.asked.at at in
-          let remove : MayAsk cluster by.was_asked.asked.older by.request (ask.Remove key dropped.tombstone) = subst (MayAsk cluster by.was_asked.asked.older by.request) by.is (reason cluster orderly asked_at) in
+          let remove : MayAsk cluster by.was_asked.asked.older by.request (ask.Remove key dropped.tombstone) =
+          subst (MayAsk cluster by.was_asked.asked.older by.request) by.is (reason cluster orderly asked_at) in
           record {
             removal = by.request;
             floor = dropped.tombstone;
@@ -260,7 +261,8 @@ removed_at cluster {log = log} {key = key} {taken = taken} {ride = ride} {accept
 -- what is settled last is at or above each floor and each acknowledgment
 pub floor_low : {key : List ℕ} {floor : Ballot} {state : State} {older marks : List Mark} → At (Floor key floor state) older marks → BallotAtMost floor (top_of key marks)
 floor_low {key} {floor} {older = older} here =
-    subst (BallotAtMost floor) (sym (if_true (is_key key key) (greater_of floor (top_of key older)) (top_of key older) (key_is {a = key} {b = key} refl))) (at_most_greater_left floor (top_of key older))
+    subst (BallotAtMost floor) (sym (if_true (is_key key key) (greater_of floor (top_of key older)) (top_of key older) (key_is {a = key} {b = key} refl)))
+    (at_most_greater_left floor (top_of key older))
 floor_low {key} (past {y = mark} {rest = rest} at) = at_most_trans (floor_low at) (top_more key mark rest)
 
 acked_low : {log : List Happening} {key : List ℕ} {ballot : Ballot} → AckedAt key ballot log → BallotAtMost ballot (top_of key (marks_of log))

@@ -74,8 +74,8 @@ pub record IsProposedIn (log : List Happening) (a : Acknowledgment) : Type 0 whe
   pub same_ballot : proposal.ballot ≡ a.ballot
   pub same_era : proposal.era ≡ a.era
 
--- a vote is seen: the acceptor took the ballot, or told a probe of the key that it had accepted it; it may have stopped within the write
--- and answered nobody when it took it
+-- A vote is seen: the acceptor took the ballot, or told a probe of the key that it had accepted it. It may have stopped as it took it, and
+-- have answered nobody then.
 pub data IsVoteSeen (log : List Happening) (acceptor : ℕ) (key : List ℕ) (ballot : Ballot) : Type 0 where
   by_deed : (ride : Ballot) → Stands (Took acceptor key ballot ride) log → IsVoteSeen log acceptor key ballot
   by_probe : (tag : Ballot) (accepted : Accepted) → WasProbed log tag key acceptor (Some accepted) → accepted.ballot ≡ ballot → IsVoteSeen log acceptor key ballot

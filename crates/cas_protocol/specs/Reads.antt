@@ -28,8 +28,8 @@ pub record HasToldBallot (log : List Happening) (tag : Ballot) (key : List ℕ) 
   pub probed : WasProbed log tag key acceptor accepted
   pub same_ballot : accepted_ballot accepted ≡ ballot
 
--- A proposer drew a tag for its question when the log was the earlier one, in the last era that it had entered. Each of these acceptors,
--- who hold a prepare quorum of that era, told a probe with the tag this one ballot.
+-- A proposer drew a tag for its question when the log was the earlier one, and was in the era and in none after it. Each of these
+-- acceptors, who are a prepare quorum of that era, told a probe with the tag this one ballot.
 pub record IsQuorumRead (cluster : Cluster) (before log : List Happening) (tag : Ballot) (key : List ℕ) (ballot : Ballot) (by : List ℕ) : Type 0 where
   pub era : ℕ
   pub drawn : At (Drew tag [] era) before log
@@ -53,8 +53,8 @@ pub record MayBeCounted (cluster : Cluster) (log : List Happening) (a : Acknowle
   pub quorum : cluster.accepts a.era a.by ≡ true
 
 -- ---- laws
--- Where a quorum told a read one ballot, the history up to that ballot goes on from all that was settled of the key when the read began,
--- and the state that was told is the one that this history leaves.
+-- If a prepare quorum told a read one ballot, the history up to it begins with all that was settled of the key when the tag was drawn. The
+-- state that was told is the one that this history leaves.
 abbrev pub ReadsGoOn : Type 0
 ReadsGoOn = (cluster : Cluster) → ClusterMeets cluster → (before log : List Happening) (tag : Ballot) (key by : List ℕ) (acceptor : ℕ) (accepted : Accepted)
     → Lawful cluster log → Orderly cluster log → AreFloorsKnown cluster before key
@@ -62,8 +62,8 @@ ReadsGoOn = (cluster : Cluster) → ClusterMeets cluster → (before log : List 
     → IsPrefix (settled_of key (marks_of before)) (chain_of key accepted.ballot (marks_of log))
     × (accepted.state ≡ replay_from (opening_state key (marks_of log)) (chain_of key accepted.ballot (marks_of log)))
 
--- Where a quorum told a read that it accepted nothing, and no floor of the key was made meanwhile, what was settled of the key when the
--- read began leaves the empty state.
+-- If each of a prepare quorum told a read that it accepted nothing, and no floor of the key was made meanwhile, what was settled of the
+-- key when the tag was drawn leaves the empty state.
 abbrev pub ReadsOfNothing : Type 0
 ReadsOfNothing = (cluster : Cluster) → ClusterMeets cluster → (before log : List Happening) (tag : Ballot) (key by : List ℕ)
     → Lawful cluster log → Orderly cluster log → AreFloorsKnown cluster before key
@@ -71,8 +71,8 @@ ReadsOfNothing = (cluster : Cluster) → ClusterMeets cluster → (before log : 
     → IsQuorumRead cluster before log tag key zero_ballot by
     → replay_from (opening_state key (marks_of before)) (settled_of key (marks_of before)) ≡ Empty
 
--- Where acceptors told one ballot, and are an accept quorum of its era, the history up to it begins what is settled of the key as soon as
--- what is settled last is at or above it: when they told it, or whenever later.
+-- Those who told a ballot may be an accept quorum of its era. In their log, and in each that goes on from it, the history up to the
+-- ballot then begins what is settled of the key, if the last that settled is at or above it.
 abbrev pub ReadsStand : Type 0
 ReadsStand = (cluster : Cluster) → ClusterMeets cluster → (log later : List Happening) (tag : Ballot) (key by : List ℕ) (acceptor : ℕ) (accepted : Accepted)
     → Orderly cluster log → Lawful cluster later → IsOlderPart log later
@@ -80,8 +80,8 @@ ReadsStand = (cluster : Cluster) → ClusterMeets cluster → (log later : List 
     → cluster.accepts accepted.era by ≡ true → BallotAtMost accepted.ballot (top_of key (marks_of later))
     → IsPrefix (chain_of key accepted.ballot (marks_of later)) (settled_of key (marks_of later))
 
--- Where it is above what is settled last, their votes may be marked, and then it may be acknowledged by them. The history up to it is
--- what is settled then.
+-- If their ballot is above the last that settled, their votes may be marked, and it may be acknowledged by them. The history up to it is
+-- then what is settled.
 abbrev pub ReadsMayCount : Type 0
 ReadsMayCount = (cluster : Cluster) (log : List Happening) (tag : Ballot) (key by : List ℕ) (acceptor : ℕ) (accepted : Accepted)
     → Lawful cluster log → Orderly cluster log → ((p : Proposal) → Stands (Proposed p) (marks_of log) → Stands (Drew p.ballot p.key p.era) log)

@@ -95,26 +95,26 @@ pub fn what_is_settled_is_held()
 {}
 
 /// What a read tells goes on from all that was settled when it began. A proposer asks the members of its era what they accepted for a
-/// key, and writes nothing. Where a prepare quorum told one ballot, the history up to that ballot begins with what was settled before
-/// the question was asked, in this era or in any earlier one. The state that was told is the one that this history leaves.
+/// key, and writes nothing. If a prepare quorum told one ballot, the history up to that ballot begins with what was settled before the
+/// question was asked, in this era or in any other. The state that was told is the one that this history leaves.
 pub fn reads_go_on()
     ensures { ReadsGoOn }
 {}
 
-/// Where a prepare quorum told a read that it accepted nothing, the register was empty when the read began: what was settled leaves the
-/// empty state. It may have been removed then, but no floor of the key is made while it is read.
+/// If each of a prepare quorum told a read that it accepted nothing, the register was empty when the read began: what was settled leaves
+/// the empty state. Slots may be removed while it is read, but no floor of the key is made.
 pub fn reads_of_nothing_are_so()
     ensures { ReadsOfNothing }
 {}
 
-/// What a read tells stands, where those that told it are an accept quorum of the era in which it was proposed. The history up to it
-/// begins what is settled as soon as what is settled last is at or above it, already when they told it or whenever later.
+/// What a read tells stands if those who told it are an accept quorum of the era in which it was proposed. The history up to it begins
+/// what is settled as soon as the last that settled is at or above it, when they told it or whenever later.
 pub fn reads_stand()
     ensures { ReadsStand }
 {}
 
-/// Where what they told is above what is settled last, their votes may be marked, although none of them may have told anybody of it
-/// before, and then it may be acknowledged. The history up to it is what is settled then.
+/// If what they told is above the last that settled, their votes may be marked, although they may have told nobody before. Then it may be
+/// acknowledged by them, and the history up to it is what is settled.
 pub fn reads_may_count()
     ensures { ReadsMayCount }
 {}
