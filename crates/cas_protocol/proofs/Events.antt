@@ -453,7 +453,7 @@ opens cluster = record {
   };
 }
 
-has_history : (cluster : Cluster) → ClusterMeets cluster → (global : GlobalState) → Run cluster global → HasHistory cluster global
+pub has_history : (cluster : Cluster) → ClusterMeets cluster → (global : GlobalState) → Run cluster global → HasHistory cluster global
 has_history cluster meets global opened = opens cluster
 has_history cluster meets global (then before run event) = keeps cluster meets before (has_history cluster meets before run) event
 

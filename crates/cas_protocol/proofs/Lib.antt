@@ -12,6 +12,7 @@ pub mod Probes
 pub mod Proposes
 pub mod Proposing
 pub mod QuorumReads
+pub mod ReadWitness
 pub mod Rides
 pub mod SlotChanges
 pub mod Staying

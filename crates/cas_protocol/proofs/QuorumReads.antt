@@ -1,5 +1,5 @@
 -- What a read of a quorum tells goes on from what was settled when it began.
-use Rattle.std.proofs.Common.{◌≡◌, ◌≤◌, ℕ, suc, true, List, [], Option, Some, arith, refl, sym, ap, subst, ◌∙◌, inl, inr}
+use Rattle.std.proofs.Common.{◌≡◌, ◌≤◌, ℕ, suc, true, List, [], ◌∷◌, Option, Some, arith, refl, sym, ap, subst, ◌∙◌, inl, inr}
 use Rattle.std.specs.Prelude.{◌⊎◌}
 use Rattle.cas_base.proofs.Bools.{if_true}
 use Rattle.cas_ballot.specs.declared.ballot.Ballot.{Ballot}
@@ -38,10 +38,11 @@ use Rattle.cas_record.proofs.Tests.{key_is}
 use Rattle.cas_protocol.specs.Acceptors.{IsAcceptedState}
 use Rattle.cas_protocol.specs.Proposers.{WasProbed}
 use Rattle.cas_protocol.specs.Protocol.{IsFloorClear}
-use Rattle.cas_protocol.specs.Reads.{ReadsGoOn, ReadsOfNothing}
+use Rattle.cas_protocol.specs.Reads.{ReadsGoOn, ReadsOfNothing, WhatIsReadStays}
 use Rattle.cas_protocol.proofs.Answered.{accepted_not_zero}
 use Rattle.cas_protocol.proofs.Events.{clear_stays, above_floor}
 use Rattle.cas_protocol.proofs.Held.{begins}
+use Rattle.cas_protocol.proofs.Growing.{tell_grows}
 use Rattle.cas_protocol.proofs.Probes.{probed_at, probed_state}
 use Rattle.cas_protocol.proofs.Proposes.{opens_empty, floor_not_zero, all_in_low}
 
@@ -348,3 +349,35 @@ nothing_read cluster meets before log tag key by lawful orderly floors none_made
       where
         mark_floor : OpeningAt key top before → HasFloor key top marks
         mark_floor o = record { state = o.state; stands = mark_stands (stands_at o.at) }
+
+-- ---- what stays
+probed_stays : (cluster : Cluster) (h : Happening) (log : List Happening) → Lawful cluster (h ∷ log) → {tag : Ballot} {key : List ℕ} {acceptor : ℕ} {accepted : Option Accepted} → WasProbed log tag key acceptor accepted
+    → WasProbed (h ∷ log) tag key acceptor accepted
+probed_stays cluster h log lawful was =
+    record {
+      reply = was.reply;
+      told = record {
+        from = was.told.from;
+        request = was.told.request;
+        replied = record { older = was.told.replied.older; at = past was.told.replied.at };
+        state = tell_grows cluster h log was.told.request.ask was.reply.tell lawful was.told.state;
+      };
+      from = was.from;
+      asked = was.asked;
+      promise = was.promise;
+      tells = was.tells;
+    }
+
+pub stays : WhatIsReadStays
+stays cluster h log lawful = record {
+  probed = λ tag key acceptor accepted was. probed_stays cluster h log lawful was;
+  read = λ before tag key ballot by was. record {
+    era = was.era;
+    drawn = past was.drawn;
+    not_beyond = was.not_beyond;
+    quorum = was.quorum;
+    told = λ acceptor member.
+        let told = was.told acceptor member in
+        record { accepted = told.accepted; probed = probed_stays cluster h log lawful told.probed; same_ballot = told.same_ballot };
+  };
+}

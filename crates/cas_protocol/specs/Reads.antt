@@ -1,9 +1,14 @@
 -- A read that writes nothing: by one exchange a proposer asks what members of its era accepted for a key.
-use Rattle.std.specs.Prelude.{◌≡◌, ℕ, suc, true, List, [], ◌∷◌, Option, Some, ◌⊎◌}
+use Rattle.std.specs.Prelude.{◌≡◌, ℕ, suc, true, List, [], ◌∷◌, Option, Some, ◌⊎◌, pos}
 use Rattle.cas_ballot.specs.declared.ballot.Ballot.{Ballot}
 use Rattle.cas_ballot.specs.Ballot.{zero_ballot, BallotAtMost, BallotLess}
 use Rattle.cas_ballot.specs.Members.{has_member}
+use Rattle.cas_change.specs.declared.program.Act.TheVariants.{Add}
+use Rattle.cas_change.specs.declared.program.Guard.TheVariants.{Always}
 use Rattle.cas_change.specs.declared.state.State.TheVariants.{Empty}
+use Rattle.cas_slot.specs.declared.message.Request.{Request}
+use Rattle.cas_slot.specs.declared.message.Reply.{Reply}
+use Rattle.cas_slot.specs.declared.message.Tell.TheVariants as tell
 use Rattle.cas_slot.specs.declared.slot.Accepted.{Accepted}
 use Rattle.cas_slot.specs.Slot.{accepted_ballot}
 use Rattle.cas_record.specs.declared.mark.Acknowledgment.{Acknowledgment}
@@ -13,13 +18,14 @@ use Rattle.cas_record.specs.Histories.Chain.{chain_of, top_of, settled_of}
 use Rattle.cas_record.specs.Histories.Replay.{replay_from, opening_state}
 use Rattle.cas_record.specs.Laws.{HistoryIsOpened}
 use Rattle.cas_record.specs.Legal.{HasFloor}
-use Rattle.cas_record.specs.Logs.Happening.{Happening, Entered, Drew, marks_of}
+use Rattle.cas_record.specs.Logs.Happening.{Happening, Entered, Drew, Replied, marks_of}
 use Rattle.cas_record.specs.Logs.Lawful.{Cluster, ClusterMeets, Lawful}
 use Rattle.cas_record.specs.Logs.Orderly.{Orderly}
+use Rattle.cas_record.specs.Logs.Witness.{small_cluster, key_a, at}
 use Rattle.cas_record.specs.Places.{At, Stands, IsOlderPart, IsPrefix}
 use Rattle.cas_protocol.specs.Acceptors.{IsEmptyAt}
 use Rattle.cas_protocol.specs.Proposers.{IsProposedIn, IsVoteSeen, WasProbed}
-use Rattle.cas_protocol.specs.Protocol.{IsFloorClear}
+use Rattle.cas_protocol.specs.Protocol.{GlobalState, IsFloorClear, Run}
 
 -- ---- what a read knows
 -- the acceptor told a probe of the key that it accepted the ballot, or zero where it accepted nothing
@@ -88,3 +94,23 @@ ReadsMayCount = (cluster : Cluster) (log : List Happening) (tag : Ballot) (key b
     → ((member : ℕ) → has_member by member ≡ true → HasToldBallot log tag key accepted.ballot member) → WasProbed log tag key acceptor (Some accepted)
     → cluster.accepts accepted.era by ≡ true → BallotLess (top_of key (marks_of log)) accepted.ballot
     → MayBeCounted cluster log (acknowledgment_of key accepted by) × (settled_of key (Acked (acknowledgment_of key accepted by) ∷ marks_of log) ≡ chain_of key accepted.ballot (marks_of log))
+
+-- what a probe told was told once the log goes on with this, and a read that was told a ballot by a quorum was
+pub record StaysRead (cluster : Cluster) (h : Happening) (log : List Happening) : Type 0 where
+  pub probed : (tag : Ballot) (key : List ℕ) (acceptor : ℕ) (accepted : Option Accepted) → WasProbed log tag key acceptor accepted → WasProbed (h ∷ log) tag key acceptor accepted
+  pub read : (before : List Happening) (tag : Ballot) (key : List ℕ) (ballot : Ballot) (by : List ℕ) → IsQuorumRead cluster before log tag key ballot by → IsQuorumRead cluster before (h ∷ log) tag key ballot by
+
+-- Whatever happens lawfully, what was told stays told, and true.
+abbrev pub WhatIsReadStays : Type 0
+WhatIsReadStays = (cluster : Cluster) (h : Happening) (log : List Happening) → Lawful cluster (h ∷ log) → StaysRead cluster h log
+
+-- A run in which those that took a ballot stopped and told nobody, so that nothing was settled. A read finds the ballot, and then what its
+-- call adds to nothing is settled.
+pub record SomeReadIsCounted : Type 0 where
+  pub before : GlobalState
+  pub global : GlobalState
+  pub run : Run small_cluster global
+  pub silent : (request : Request) (reply : Reply) → Stands (Replied request reply) global.log → reply.tell ≡ tell.Accepted → ⊥
+  pub none_settled : settled_of key_a (marks_of before.log) ≡ []
+  pub read : IsQuorumRead small_cluster before.log global.log (at 3 0) key_a (at 1 0) (1 ∷ 2 ∷ [])
+  pub settled : settled_of key_a (marks_of global.log) ≡ record { caller = 0; call = 1; program = record { guard = Always; act = Add (pos 5) } ∷ [] } ∷ []

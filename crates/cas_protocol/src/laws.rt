@@ -2,7 +2,7 @@
 
 ghost use Rattle.cas_protocol.specs.Laws.{AcceptorsAnswerLawfully, AcceptorsStopLawfully, OthersChangeNothing, WhatWasTakenStays, ProposersDrawLawfully, ProposersProposeLawfully, ProposalsMakeStates, RidersProposeLawfully, PromisesRideLawfully, ProposersCountLawfully, CallsAreDoneLawfully, RepliesAreTrue, WhatIsKnownStays, TombstonesAreFloors, WhatIsAckedIsHeld, WhatIsSettledIsHeld};
 ghost use Rattle.cas_protocol.specs.Protocol.{EventsKeepHistory, RunsAreLegal, SomeRunIsDone};
-ghost use Rattle.cas_protocol.specs.Reads.{ReadsGoOn, ReadsOfNothing, ReadsStand, ReadsMayCount};
+ghost use Rattle.cas_protocol.specs.Reads.{ReadsGoOn, ReadsOfNothing, ReadsStand, ReadsMayCount, WhatIsReadStays, SomeReadIsCounted};
 
 /// An acceptor that keeps what the log tells, and answers a request that it was asked, keeps what the log tells then: what it
 /// promised, took, raised or removed, its vote and its reply go on with the log lawfully, and each has its reason.
@@ -119,6 +119,11 @@ pub fn reads_may_count()
     ensures { ReadsMayCount }
 {}
 
+/// Whatever happens lawfully while a read is under way, what it was told stays told, and true.
+pub fn what_is_read_stays()
+    ensures { WhatIsReadStays }
+{}
+
 /// Whatever happens, a cluster with a history has one after it: each request that was ever made may be answered at any time, any
 /// number of times or never, and proposers go by whichever replies were ever made to them; acceptors stop within any request;
 /// promises ride along, tombstones become floors, slots are removed, and proposers enter new eras.
@@ -138,4 +143,10 @@ pub fn runs_are_legal()
 /// and a second proposer's ballot is met.
 pub fn some_run_is_done()
     ensures { SomeRunIsDone }
+{}
+
+/// There is a run with such a read: two acceptors take a ballot, and each stops within its write and answers nobody. Nothing is settled
+/// then. A read finds what they took, their votes are marked, and it is acknowledged.
+pub fn some_read_is_counted()
+    ensures { SomeReadIsCounted }
 {}
