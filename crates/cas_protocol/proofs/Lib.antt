@@ -2,6 +2,7 @@ pub mod Along
 pub mod Answered
 pub mod CountedReads
 pub mod Deeds
+pub mod EmptyReads
 pub mod Events
 pub mod Growing
 pub mod Handling

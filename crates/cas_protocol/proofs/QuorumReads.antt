@@ -227,16 +227,16 @@ goes_on cluster meets before log tag key by acceptor accepted lawful orderly flo
 
 -- ---- nothing
 -- an acceptor that took a ballot before and told nothing removed the slot at a floor
-record RemovedAt (cluster : Cluster) (log : List Happening) (key : List ℕ) (taken : Ballot) : Type 0 where
-  removal : Request
-  floor : Ballot
-  has : HasFloor key floor (marks_of log)
-  above : BallotAtMost taken floor
-  asked : List Happening
-  at : At (Asked removal) asked log
-  acked : IsAcked key floor (marks_of asked)
+pub record RemovedAt (cluster : Cluster) (log : List Happening) (key : List ℕ) (taken : Ballot) : Type 0 where
+  pub removal : Request
+  pub floor : Ballot
+  pub has : HasFloor key floor (marks_of log)
+  pub above : BallotAtMost taken floor
+  pub asked : List Happening
+  pub at : At (Asked removal) asked log
+  pub acked : IsAcked key floor (marks_of asked)
 
-removed_at : (cluster : Cluster) {before log : List Happening} {key : List ℕ} {era : ℕ} {taken ride : Ballot} {acceptor : ℕ} → Lawful cluster log → Orderly cluster log
+pub removed_at : (cluster : Cluster) {before log : List Happening} {key : List ℕ} {era : ℕ} {taken ride : Ballot} {acceptor : ℕ} → Lawful cluster log → Orderly cluster log
     → IsToldAfter cluster before log key era zero_ballot acceptor → Stands (Took acceptor key taken ride) before → (taken ≡ zero_ballot → ⊥) → RemovedAt cluster log key taken
 removed_at cluster {log = log} {key = key} {taken = taken} {ride = ride} {acceptor = acceptor} lawful orderly told took some =
     elim ((slot_bounds cluster told.now acceptor key (lawful_older cluster lawful told.at)).took taken ride (stands_part took told.after)) [
@@ -266,13 +266,13 @@ floor_low {key} {floor} {older = older} here =
     (at_most_greater_left floor (top_of key older))
 floor_low {key} (past {y = mark} {rest = rest} at) = at_most_trans (floor_low at) (top_more key mark rest)
 
-acked_low : {log : List Happening} {key : List ℕ} {ballot : Ballot} → AckedAt key ballot log → BallotAtMost ballot (top_of key (marks_of log))
+pub acked_low : {log : List Happening} {key : List ℕ} {ballot : Ballot} → AckedAt key ballot log → BallotAtMost ballot (top_of key (marks_of log))
 acked_low {log} {key} {ballot} a =
     subst (λ k. BallotAtMost ballot (top_of k (marks_of log))) a.same_key
     (subst (λ b. BallotAtMost b (top_of a.acknowledgment.key (marks_of log))) a.same_ballot (acked_at_most_top (mark_at a.at)))
 
 -- what was acknowledged is not zero
-acked_some : (cluster : Cluster) {log : List Happening} {key : List ℕ} {ballot : Ballot} → Lawful cluster log → AckedAt key ballot log → ballot ≡ zero_ballot → ⊥
+pub acked_some : (cluster : Cluster) {log : List Happening} {key : List ℕ} {ballot : Ballot} → Lawful cluster log → AckedAt key ballot log → ballot ≡ zero_ballot → ⊥
 acked_some cluster lawful a zero = let p = acked_proposed cluster lawful a in not_zero cluster lawful p.at (p.same_ballot ∙ zero)
 
 pub nothing_read : ReadsOfNothing

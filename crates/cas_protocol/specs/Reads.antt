@@ -48,6 +48,13 @@ pub record AreFloorsKnown (cluster : Cluster) (log : List Happening) (key : List
   pub empty : (floor : Ballot) → HasFloor key floor (marks_of log) → IsEmptyAt (marks_of log) key floor ⊎ HistoryIsOpened cluster log key floor
   pub clear : (floor : Ballot) → HasFloor key floor (marks_of log) → IsFloorClear cluster log key floor
 
+-- the history up to a ballot leaves the empty state, begins with what was settled before, and begins what is settled now
+pub record WasEmptySince (before log : List Happening) (key : List ℕ) : Type 0 where
+  pub ballot : Ballot
+  pub goes_on : IsPrefix (settled_of key (marks_of before)) (chain_of key ballot (marks_of log))
+  pub begins : IsPrefix (chain_of key ballot (marks_of log)) (settled_of key (marks_of log))
+  pub empty : replay_from (opening_state key (marks_of log)) (chain_of key ballot (marks_of log)) ≡ Empty
+
 -- the acknowledgment of what was told by these
 abbrev pub acknowledgment_of : List ℕ → Accepted → List ℕ → Acknowledgment
 acknowledgment_of key accepted by = record { key = key; ballot = accepted.ballot; era = accepted.era; by = by }
@@ -76,6 +83,13 @@ ReadsOfNothing = (cluster : Cluster) → ClusterMeets cluster → (before log : 
     → ((floor : Ballot) → HasFloor key floor (marks_of log) → HasFloor key floor (marks_of before))
     → IsQuorumRead cluster before log tag key zero_ballot by
     → replay_from (opening_state key (marks_of before)) (settled_of key (marks_of before)) ≡ Empty
+
+-- If floors may have been made meanwhile, the register was empty at some time since: its history had gone on from what was settled before,
+-- and goes on to what is settled now.
+abbrev pub ReadsOfNothingWereEmpty : Type 0
+ReadsOfNothingWereEmpty = (cluster : Cluster) → ClusterMeets cluster → (before log : List Happening) (tag : Ballot) (key by : List ℕ)
+    → Lawful cluster log → Orderly cluster log → AreFloorsKnown cluster before key → AreFloorsKnown cluster log key
+    → IsQuorumRead cluster before log tag key zero_ballot by → WasEmptySince before log key
 
 -- Those who told a ballot may be an accept quorum of its era. In their log, and in each that goes on from it, the history up to the
 -- ballot then begins what is settled of the key, if the last that settled is at or above it.

@@ -2,7 +2,7 @@
 
 ghost use Rattle.cas_protocol.specs.Laws.{AcceptorsAnswerLawfully, AcceptorsStopLawfully, OthersChangeNothing, WhatWasTakenStays, ProposersDrawLawfully, ProposersProposeLawfully, ProposalsMakeStates, RidersProposeLawfully, PromisesRideLawfully, ProposersCountLawfully, CallsAreDoneLawfully, RepliesAreTrue, WhatIsKnownStays, TombstonesAreFloors, WhatIsAckedIsHeld, WhatIsSettledIsHeld};
 ghost use Rattle.cas_protocol.specs.Protocol.{EventsKeepHistory, RunsAreLegal, SomeRunIsDone};
-ghost use Rattle.cas_protocol.specs.Reads.{ReadsGoOn, ReadsOfNothing, ReadsStand, ReadsMayCount, WhatIsReadStays, SomeReadIsCounted};
+ghost use Rattle.cas_protocol.specs.Reads.{ReadsGoOn, ReadsOfNothing, ReadsOfNothingWereEmpty, ReadsStand, ReadsMayCount, WhatIsReadStays, SomeReadIsCounted};
 
 /// An acceptor that keeps what the log tells, and answers a request that it was asked, keeps what the log tells then: what it
 /// promised, took, raised or removed, its vote and its reply go on with the log lawfully, and each has its reason.
@@ -105,6 +105,12 @@ pub fn reads_go_on()
 /// the empty state. Slots may be removed while it is read, but no floor of the key is made.
 pub fn reads_of_nothing_are_so()
     ensures { ReadsOfNothing }
+{}
+
+/// If floors may have been made while it was read, the register was empty at some time since the read began: after all that was settled
+/// then, and before all that was settled later.
+pub fn reads_of_nothing_were_empty()
+    ensures { ReadsOfNothingWereEmpty }
 {}
 
 /// What a read tells stands if those who told it are an accept quorum of the era in which it was proposed. The history up to it begins
