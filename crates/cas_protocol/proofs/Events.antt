@@ -49,11 +49,12 @@ use Rattle.cas_protocol.specs.Acceptors.{told_of, IsAcceptedState, LogTells, IsM
 use Rattle.cas_protocol.specs.Desks.{IsRiding}
 use Rattle.cas_protocol.specs.Laws.{LogTellsKept}
 use Rattle.cas_protocol.specs.Proposers.{IsReplyTrue, AreRepliesTrue, AreFloorsClear, state_read}
-use Rattle.cas_protocol.specs.Protocol.{Made, GlobalState, kept_but, AllReplied, HasMade, IsMadeAsk, IsPrepared, IsPreparedByRide, is_done, IsLeaving, Begins, Draws, Asks, Answers, StopsWithin, Proposes, ProposesByRide, Counts, EndsDone, EndsElse, Harms, TellsOperator, MakesFloor, Enters, MarksEra, Run, opened, then, IsMadeOf, IsFloorClear, Knows, HasHistory, EventsKeepHistory, RunsAreLegal, HasEnded, IsEndedAsk}
+use Rattle.cas_protocol.specs.Protocol.{Made, GlobalState, kept_but, AllReplied, HasMade, IsMadeAsk, IsPrepared, IsPreparedByRide, is_done, IsLeaving, Begins, Draws, Asks, Answers, StopsWithin, Proposes, ProposesByRide, Counts, SeesVote, CountsSeen, EndsDone, EndsElse, Harms, TellsOperator, MakesFloor, Enters, MarksEra, Run, opened, then, IsMadeOf, IsFloorClear, Knows, HasHistory, EventsKeepHistory, RunsAreLegal, HasEnded, IsEndedAsk}
 use Rattle.cas_protocol.proofs.Along.{EachOf, along, deeds_each, votes_each}
 use Rattle.cas_protocol.proofs.Answered.{answers, deeds}
 use Rattle.cas_protocol.proofs.Growing.{made_grows, ask_grows}
 use Rattle.cas_protocol.proofs.Known as known
+use Rattle.cas_protocol.proofs.Probes.{may_vote, may_ack}
 use Rattle.cas_protocol.proofs.Proposes.{clear_of_floors, propose, count}
 use Rattle.cas_protocol.proofs.Rides.{rides, draws, done}
 use Rattle.cas_protocol.proofs.Staying.{tells_still}
@@ -116,7 +117,7 @@ opened_grows h log was = record {
 }
 
 -- who is clear of a floor stays so, as what is asked is above it
-clear_stays : (cluster : Cluster) (h : Happening) (log : List Happening) {acceptor : ℕ} {key : List ℕ} {floor : Ballot} → HasReason cluster log h
+pub clear_stays : (cluster : Cluster) (h : Happening) (log : List Happening) {acceptor : ℕ} {key : List ℕ} {floor : Ballot} → HasReason cluster log h
     → ((ballot ride : Ballot) → MayTakeFirst cluster log acceptor key ballot ride → BallotAtMost floor ballot) → ((request : Request) → Asked request ≡ h → IsRoundAsk request.ask → key_of request.ask ≡ key → BallotLess floor (tag_of request.ask)) → IsClear log acceptor key floor → IsClear (h ∷ log) acceptor key floor
 clear_stays cluster h log why first above (took_it ride took) = took_it ride (record { older = took.older; at = past took.at })
 clear_stays cluster h log {floor = floor} why first above (never_asked never none_taken) =
@@ -160,7 +161,7 @@ not_asked : {request : Request} {key : List ℕ} {floor : Ballot} {state : State
 not_asked e = cc
 
 -- what is asked once a floor stands is above it
-above_floor : (cluster : Cluster) (h : Happening) (log : List Happening) {key : List ℕ} {floor : Ballot} → Orderly cluster (h ∷ log) → HasFloor key floor (marks_of log) → (request : Request) → Asked request ≡ h
+pub above_floor : (cluster : Cluster) (h : Happening) (log : List Happening) {key : List ℕ} {floor : Ballot} → Orderly cluster (h ∷ log) → HasFloor key floor (marks_of log) → (request : Request) → Asked request ≡ h
     → IsRoundAsk request.ask → key_of request.ask ≡ key → BallotLess floor (tag_of request.ask)
 above_floor cluster h log {key} {floor} orderly has request now round same =
     let may : MayAsk cluster log request request.ask = subst (HasReason cluster log) (sym now) orderly.1 in
@@ -409,6 +410,8 @@ keeps cluster meets global history (Proposes p program read begun is) = prepared
 keeps cluster meets global history (ProposesByRide p program ready begun is) = prepared_by_ride cluster global p program ready history begun is
 keeps cluster meets global history (Counts a is) =
     goes_on cluster global (Marked (Acked a)) history (count cluster global.log a is.replies history.lawful history.orderly is.proposed (all_true is.replies history is.replied) is.by is.quorum) tt (λ id. tt) tt
+keeps cluster meets global history (SeesVote acceptor key ballot seen) = goes_on cluster global _ history (may_vote cluster history.lawful history.orderly seen) tt (λ id. tt) tt
+keeps cluster meets global history (CountsSeen a seen) = goes_on cluster global (Marked (Acked a)) history (may_ack cluster seen) tt (λ id. tt) tt
 keeps cluster meets global history (EndsDone made rounds stands acked open_yet) =
     let of = history.knows.made made stands in
     goes_on cluster global (Marked (Ended made.proposal.caller made.proposal.call rounds (answer.Done made.outcome.state made.outcome.took made.proposal.ballot))) history
@@ -450,7 +453,7 @@ opens cluster = record {
   };
 }
 
-has_history : (cluster : Cluster) → ClusterMeets cluster → (global : GlobalState) → Run cluster global → HasHistory cluster global
+pub has_history : (cluster : Cluster) → ClusterMeets cluster → (global : GlobalState) → Run cluster global → HasHistory cluster global
 has_history cluster meets global opened = opens cluster
 has_history cluster meets global (then before run event) = keeps cluster meets before (has_history cluster meets before run) event
 

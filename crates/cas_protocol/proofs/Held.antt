@@ -35,7 +35,7 @@ dropped_less cluster log {id} {key} lawful above tomb dropped =
     above.above (stands_part may.floor (part_of dropped.at))
 
 -- the history of the ballot begins that of what is accepted at or above it
-begins : (cluster : Cluster) (log : List Happening) (key : List ℕ) (ballot : Ballot) → Lawful cluster log → Seam log → AckedAt key ballot log → (accepted : Option Accepted)
+pub begins : (cluster : Cluster) (log : List Happening) (key : List ℕ) (ballot : Ballot) → Lawful cluster log → Seam log → AckedAt key ballot log → (accepted : Option Accepted)
     → IsAcceptedState (marks_of log) key accepted → BallotAtMost ballot (accepted_ballot accepted)
     → IsPrefix (chain_of key ballot (marks_of log)) (chain_of key (accepted_ballot accepted) (marks_of log))
 begins cluster log key ballot lawful seam acked accepted made low = elim (at_most_or_less (accepted_ballot accepted) ballot) [

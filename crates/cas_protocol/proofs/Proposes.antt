@@ -1,5 +1,5 @@
 -- A proposer with a quorum proposes lawfully, and what it read is the state from which its proposal goes on.
-use Rattle.std.proofs.Common.{◌≡◌, ◌<◌, ◌≤◌, ℕ, suc, arith, true, false, List, [], ◌∷◌, Option, Some, None, refl, sym, ap, subst, ◌∙◌, inl, inr}
+use Rattle.std.proofs.Common.{◌≡◌, ◌<◌, ◌≤◌, ℕ, suc, arith, true, List, [], ◌∷◌, Option, Some, None, refl, sym, ap, subst, ◌∙◌, inl, inr}
 use Rattle.std.specs.Prelude.{◌⊎◌, ◌==◌, ◌&&◌, not, Contains}
 use Rattle.cas_base.proofs.Bools.{and_left, and_right, both_true, if_false, not_tells, false_of_not}
 use Rattle.cas_ballot.specs.declared.ballot.Ballot.{Ballot}
@@ -176,7 +176,7 @@ opens_later : {key : List ℕ} {ballot : Ballot} {mark : Mark} {marks : List Mar
 opens_later o = record { state = o.state; older = o.older; at = past o.at; none = o.none }
 
 -- with no opening floor a history opens with the empty state
-opens_empty : (key : List ℕ) (marks : List Mark) → ((floor : Ballot) → OpensAt key floor marks → ⊥) → opening_state key marks ≡ Empty
+pub opens_empty : (key : List ℕ) (marks : List Mark) → ((floor : Ballot) → OpensAt key floor marks → ⊥) → opening_state key marks ≡ Empty
 opens_empty key [] none = refl
 opens_empty key (Floor k floor state ∷ older) none =
     if_false (is_key k key && not (has_calls older)) state (opening_state key older) (false_of_not _ (λ opens.
@@ -190,7 +190,7 @@ opens_empty key (Floor k floor state ∷ older) none =
 opens_empty key (mark ∷ older) none = opens_empty key older (λ f o. none f (opens_later o))
 
 -- a floor is not zero
-floor_not_zero : (cluster : Cluster) (log : List Happening) {key : List ℕ} {floor : Ballot} → Lawful cluster log → IsEmptyAt (marks_of log) key floor ⊎ HistoryIsOpened cluster log key floor → floor ≡ zero_ballot → ⊥
+pub floor_not_zero : (cluster : Cluster) (log : List Happening) {key : List ℕ} {floor : Ballot} → Lawful cluster log → IsEmptyAt (marks_of log) key floor ⊎ HistoryIsOpened cluster log key floor → floor ≡ zero_ballot → ⊥
 floor_not_zero cluster log lawful (inl empty) zero = made_not_zero cluster log lawful empty.1 zero
 floor_not_zero cluster log lawful (inr opened) zero = less_irreflexive (subst (BallotLess zero_ballot) zero opened.some)
 

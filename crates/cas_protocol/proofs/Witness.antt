@@ -48,13 +48,13 @@ use Rattle.cas_slot.specs.declared.message.Ask.{Ask}
 use Rattle.cas_protocol.specs.Acceptors.{deeds_of}
 use Rattle.cas_protocol.specs.Desks.{IsPastAll}
 use Rattle.cas_protocol.specs.Proposers.{AllRide}
-use Rattle.cas_protocol.specs.Protocol.{Made, GlobalState, opening, AllReplied, HasMade, IsPrepared, IsAccepted, ProtocolEvent, Begins, Draws, Asks, Answers, StopsWithin, Proposes, Counts, EndsDone, after, opened, then, SomeRunIsDone, IsPreparedByRide, ProposesByRide}
+use Rattle.cas_protocol.specs.Protocol.{Made, GlobalState, opening, AllReplied, HasMade, IsPrepared, IsAccepted, ProtocolEvent, Begins, Draws, Asks, Answers, StopsWithin, Proposes, Counts, EndsDone, after, opened, then, SomeRunIsDone, IsPreparedByRide, ProposesByRide, Run}
 use Rattle.cas_protocol.proofs.Answered.{deeds_marks}
 use Rattle.cas_protocol.proofs.Handling as handling
 use Rattle.cas_protocol.proofs.Handling.{none_kept, accepted_kept, room, reply_to, answered}
 
 -- ---- what does not stand in a list
-none : {A : Type 0} (test : A → Bool) (xs : List A) {x : A} → list_any test xs ≡ false → test x ≡ true → Stands x xs → ⊥
+pub none : {A : Type 0} (test : A → Bool) (xs : List A) {x : A} → list_any test xs ≡ false → test x ≡ true → Stands x xs → ⊥
 none test [] e t s = none_at_nil s.at
 none test (y ∷ ys) {x} e t s = elim (newest_or s) [
   | inl same ↦ not_both (test y) (ap test (sym same) ∙ t) (neither_left (test y) (list_any test ys) e)
@@ -73,7 +73,7 @@ abbrev is_proposed : Mark → Bool
 is_proposed (Proposed p) = true
 is_proposed other = false
 
-abbrev is_floor : Mark → Bool
+abbrev pub is_floor : Mark → Bool
 is_floor (Floor key floor state) = true
 is_floor other = false
 
@@ -82,34 +82,34 @@ is_ended (Ended caller call rounds answer) = true
 is_ended other = false
 
 -- ---- what acceptors answer
-abbrev one : Ballot
+abbrev pub one : Ballot
 one = at 1 0
 
-abbrev two : Ballot
+abbrev pub two : Ballot
 two = at 2 0
 
 abbrev pub five : State
 five = Held 0 (Number (pos 5))
 
-abbrev promised : Contents
+abbrev pub promised : Contents
 promised = handling.promised one
 
-abbrev accepted : Contents
+abbrev pub accepted : Contents
 accepted = handling.accepted one two five
 
 abbrev ask_prepare : ℕ → Request
 ask_prepare acceptor = ask_of acceptor 0 one (ask.Prepare key_a one)
 
-abbrev ask_accept : ℕ → Request
+abbrev pub ask_accept : ℕ → Request
 ask_accept acceptor = ask_of acceptor 0 one (ask.Accept key_a one 0 (Some two) five)
 
 one_above_zero : BallotLess zero_ballot one
 one_above_zero = record { counters = omega arith; proposers = λ same. absurd (omega (arith, same)) }
 
-promises : (acceptor : ℕ) → Handles nothing (ask_prepare acceptor) (tell.Promised None) promised
+pub promises : (acceptor : ℕ) → Handles nothing (ask_prepare acceptor) (tell.Promised None) promised
 promises acceptor = handling.promises acceptor 0 one (omega arith) one_above_zero
 
-takes : (acceptor : ℕ) → Handles promised (ask_accept acceptor) tell.Accepted accepted
+pub takes : (acceptor : ℕ) → Handles promised (ask_accept acceptor) tell.Accepted accepted
 takes acceptor = handling.takes acceptor 0 one two five (omega arith) (at_most_refl one)
 
 -- an acceptor that was never asked to promise takes it too
@@ -137,10 +137,10 @@ program = record { guard = Always; act = Add (pos 5) } ∷ []
 abbrev begins : ProtocolEvent small_cluster opening
 begins = Begins 0 1 key_a program refl
 
-abbrev begun : GlobalState
+abbrev pub begun : GlobalState
 begun = after small_cluster opening begins
 
-past_all : IsPastAll small_cluster begun.log 0 0 0 key_a
+pub past_all : IsPastAll small_cluster begun.log 0 0 0 key_a
 past_all = record {
   known = omega arith;
   is_in = inl refl;
@@ -155,7 +155,7 @@ abbrev drawn : GlobalState
 drawn = after small_cluster begun draws
 
 -- what is asked for the ballot
-asks_for : (log : List Happening) (request : Request) → request.from ≡ 0 → has_member (members_in 0) request.to ≡ true → Stands (Drew one key_a 0) log → list_any is_floor (marks_of log) ≡ false
+pub asks_for : (log : List Happening) (request : Request) → request.from ≡ 0 → has_member (members_in 0) request.to ≡ true → Stands (Drew one key_a 0) log → list_any is_floor (marks_of log) ≡ false
     → MayAskFor small_cluster log request key_a one
 asks_for log request from member stands no_floor = record {
   era = 0;
@@ -192,17 +192,17 @@ second = reply_to (ask_prepare 2) (tell.Promised None)
 abbrev second_promises : ProtocolEvent small_cluster asked_second
 second_promises = Answers (ask_prepare 2) second promised (record { older = promised_first.log; at = here }) (answered (ask_prepare 2) (tell.Promised None) refl (promises 2))
 
-abbrev promised_second : GlobalState
+abbrev pub promised_second : GlobalState
 promised_second = after small_cluster asked_second second_promises
 
 -- ---- it is proposed
-abbrev proposal : Proposal
+abbrev pub proposal : Proposal
 proposal = record { caller = 0; call = 1; key = key_a; ballot = one; read = zero_ballot; era = 0; prepared_by = 1 ∷ 2 ∷ [] }
 
-begun_stands : Stands (Begun 0 1 key_a program) (marks_of promised_second.log)
+pub begun_stands : Stands (Begun 0 1 key_a program) (marks_of promised_second.log)
 begun_stands = record { older = []; at = here }
 
-abbrev drawn_stands : Stands (Drew one key_a 0) promised_second.log
+abbrev pub drawn_stands : Stands (Drew one key_a 0) promised_second.log
 drawn_stands = record { older = begun.log; at = past (past (past (past (past (past here))))) }
 
 promises_replied : AllReplied promised_second.log (first ∷ second ∷ [])
@@ -217,11 +217,11 @@ two_promised : (1 ∷ 2 ∷ []) ≡ promisers_of one (first ∷ second ∷ [])
 unfolding members_where
 two_promised = refl
 
-two_are_enough : small_cluster.prepares 0 (1 ∷ 2 ∷ []) ≡ true
+pub two_are_enough : small_cluster.prepares 0 (1 ∷ 2 ∷ []) ≡ true
 unfolding members_where
 two_are_enough = refl
 
-prepared : IsPrepared small_cluster promised_second.log proposal None
+pub prepared : IsPrepared small_cluster promised_second.log proposal None
 prepared = record {
   round = record {
     drawn = drawn_stands;
@@ -246,7 +246,7 @@ made = record { proposal = proposal; outcome = outcome_of program Empty }
 abbrev proposes : ProtocolEvent small_cluster promised_second
 proposes = Proposes proposal program None begun_stands prepared
 
-abbrev proposed : GlobalState
+abbrev pub proposed : GlobalState
 proposed = after small_cluster promised_second proposes
 
 -- the next ballot is drawn, which is to ride along
@@ -254,7 +254,7 @@ abbrev drew_high : Happening → Bool
 drew_high (Drew ballot key era) = not (nat_le ballot.counter 1)
 drew_high other = false
 
-past_one : IsPastAll small_cluster proposed.log 0 0 1 key_a
+pub past_one : IsPastAll small_cluster proposed.log 0 0 1 key_a
 past_one = record {
   known = omega arith;
   is_in = inl refl;
@@ -275,12 +275,12 @@ drawn_ride = after small_cluster proposed draws_ride
 one_less : BallotLess one two
 one_less = record { counters = omega arith; proposers = λ same. absurd (omega (arith, same)) }
 
-accepts : (log : List Happening) (request : Request) → request.ask ≡ ask.Accept key_a one 0 (Some two) five → MayAskFor small_cluster log request key_a one → Stands (Marked (Proposed proposal)) log
+pub accepts : (log : List Happening) (request : Request) → request.ask ≡ ask.Accept key_a one 0 (Some two) five → MayAskFor small_cluster log request key_a one → Stands (Marked (Proposed proposal)) log
     → Stands (Drew two key_a 0) log → MayAsk small_cluster log request (ask.Accept key_a one 0 (Some two) five)
 accepts log request is may stands drawn =
     (may, record { proposal = proposal; stands = mark_stands stands; same_key = refl; same_ballot = refl }, record { era = 0; drawn = drawn; above = one_less })
 
-made_five : HasMade (made ∷ []) key_a one 0 five
+pub made_five : HasMade (made ∷ []) key_a one 0 five
 made_five = record { made = made; stands = record { older = []; at = here }; same_key = refl; same_ballot = refl; same_era = refl; same_state = refl }
 
 abbrev asks_to_accept : ProtocolEvent small_cluster drawn_ride
@@ -293,15 +293,21 @@ asks_to_accept = Asks (ask_accept 1) (record {
   to = omega arith;
 })
 
-abbrev asked_to_accept : GlobalState
+abbrev pub asked_to_accept : GlobalState
 asked_to_accept = after small_cluster drawn_ride asks_to_accept
 
 -- the first stops within it, and a crash leaves what it wrote
 abbrev stops_within : ProtocolEvent small_cluster asked_to_accept
 stops_within = StopsWithin (ask_accept 1) tell.Accepted accepted (record { older = drawn_ride.log; at = here }) (takes 1)
 
-abbrev stopped : GlobalState
+abbrev pub stopped : GlobalState
 stopped = after small_cluster asked_to_accept stops_within
+
+-- so far
+pub run_stopped : Run small_cluster stopped
+run_stopped =
+    then asked_to_accept (then drawn_ride (then proposed (then promised_second (then asked_second (then promised_first (then asked_first (then drawn (then begun (then opening opened begins) draws) asks_first) first_promises) asks_second) second_promises) proposes) draws_ride)
+    asks_to_accept) stops_within
 
 abbrev wrote : List Happening
 wrote = deeds_of 1 promised (ask_accept 1).ask tell.Accepted
@@ -320,7 +326,7 @@ abbrev accepted_again : GlobalState
 accepted_again = after small_cluster stopped first_accepts
 
 -- what stood before stands still
-stopped_has : {x : Happening} → Stands x asked_to_accept.log → Stands x stopped.log
+pub stopped_has : {x : Happening} → Stands x asked_to_accept.log → Stands x stopped.log
 stopped_has stands = stands_later wrote stands
 
 abbrev wrote_again : List Happening
@@ -384,11 +390,11 @@ two_accepted : (1 ∷ 2 ∷ []) ≡ accepters_of one (third ∷ fourth ∷ [])
 unfolding members_where
 two_accepted = refl
 
-two_suffice : small_cluster.accepts 0 (1 ∷ 2 ∷ []) ≡ true
+pub two_suffice : small_cluster.accepts 0 (1 ∷ 2 ∷ []) ≡ true
 unfolding members_where
 two_suffice = refl
 
-abbrev acknowledgment : Acknowledgment
+abbrev pub acknowledgment : Acknowledgment
 acknowledgment = record { key = key_a; ballot = one; era = 0; by = 1 ∷ 2 ∷ [] }
 
 -- the third acceptor is asked too, and answers nothing yet
@@ -473,7 +479,7 @@ marks_next : (test : Mark → Bool) → list_any test (marks_of begun_next.log) 
 marks_next test = ap (λ (marks : List Mark). list_any test (Begun 0 2 key_a program ∷ Ended 0 1 1 (answer.Done five (ByClause 0) one) ∷ Acked acknowledgment ∷ marks)) marks_other
 
 -- what an acceptor wrote does not pass the test, whether it wrote or not
-wrote_none : (test : Happening → Bool) (wrote_before : Bool) (h : Happening) (log : List Happening) → test h ≡ false → list_any test log ≡ false → list_any test (cond wrote_before [] (h ∷ []) ++ log) ≡ false
+pub wrote_none : (test : Happening → Bool) (wrote_before : Bool) (h : Happening) (log : List Happening) → test h ≡ false → list_any test log ≡ false → list_any test (cond wrote_before [] (h ∷ []) ++ log) ≡ false
 wrote_none test true h log passes_not older = older
 wrote_none test false h log passes_not older = neither (test h) (list_any test log) passes_not older
 
@@ -487,7 +493,7 @@ abbrev asks_no_ride : Happening → Bool
 asks_no_ride (Asked request) = rides_not request.ask
 asks_no_ride other = false
 
-abbrev wrote_at : Contents → Bool
+abbrev pub wrote_at : Contents → Bool
 wrote_at old = is_accepted_at (accepted_at old key_a) one
 
 none_entered : list_any is_entered begun_next.log ≡ false
@@ -632,7 +638,7 @@ against_has stands = record { older = stands.older; at = past (past (past stands
 pub done : SomeRunIsDone
 done = record {
   global = after small_cluster asked_against is_met;
-  run = then asked_against (then contended (then all_over (then proposed_next (then begun_next (then ended (then counted (then asked_late (then accepted_by_other (then asked_other (then accepted_again (then stopped (then asked_to_accept (then drawn_ride (then proposed (then promised_second (then asked_second (then promised_first (then asked_first (then drawn (then begun (then opening opened begins) draws) asks_first) first_promises) asks_second) second_promises) proposes) draws_ride) asks_to_accept) stops_within) first_accepts) asks_other) other_accepts) asks_late) counts) ends) begins_next) proposes_by_ride) answers_late) draws_against) asks_against) is_met;
+  run = then asked_against (then contended (then all_over (then proposed_next (then begun_next (then ended (then counted (then asked_late (then accepted_by_other (then asked_other (then accepted_again (then stopped run_stopped first_accepts) asks_other) other_accepts) asks_late) counts) ends) begins_next) proposes_by_ride) answers_late) draws_against) asks_against) is_met;
   done = mark_stands (against_has (over_has (record { older = counted.log; at = past (past here) })));
   next = mark_stands (against_has (over_has (record { older = begun_next.log; at = here })));
 }

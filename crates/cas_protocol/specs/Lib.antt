@@ -4,3 +4,4 @@ pub mod Held
 pub mod Laws
 pub mod Proposers
 pub mod Protocol
+pub mod Reads

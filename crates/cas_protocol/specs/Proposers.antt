@@ -8,12 +8,13 @@ use Rattle.cas_change.specs.declared.state.State.TheVariants.{Empty}
 use Rattle.cas_slot.specs.declared.message.Ask.TheVariants as ask
 use Rattle.cas_slot.specs.declared.message.Request.{Request}
 use Rattle.cas_slot.specs.declared.message.Reply.{Reply}
+use Rattle.cas_slot.specs.declared.message.Tell.TheVariants as tell
 use Rattle.cas_slot.specs.declared.slot.Accepted.{Accepted}
-use Rattle.cas_record.specs.declared.mark.Mark.TheVariants.{Proposed}
+use Rattle.cas_record.specs.declared.mark.Mark.TheVariants.{Proposed, Voted}
 use Rattle.cas_record.specs.declared.mark.Proposal.{Proposal}
 use Rattle.cas_record.specs.declared.mark.Acknowledgment.{Acknowledgment}
 use Rattle.cas_record.specs.Legal.{HasProposal, HasFloor, IsBegun, IsProposed, IsEnded}
-use Rattle.cas_record.specs.Logs.Happening.{Happening, Asked, Entered, Drew, Replied, marks_of}
+use Rattle.cas_record.specs.Logs.Happening.{Happening, Asked, Took, Entered, Drew, Replied, marks_of}
 use Rattle.cas_record.specs.Logs.Lawful.{Cluster}
 use Rattle.cas_record.specs.Laws.{HistoryIsOpened}
 use Rattle.cas_record.specs.Logs.Orderly.{IsAboveFloors, IsClear}
@@ -31,6 +32,15 @@ pub record IsReplyTrue (log : List Happening) (reply : Reply) : Type 0 where
 -- each of them is so
 abbrev pub AreRepliesTrue : List Happening → List Reply → Type 0
 AreRepliesTrue log replies = (reply : Reply) → Contains replies reply → IsReplyTrue log reply
+
+-- the acceptor told a probe of the key, asked with this tag, what it had accepted for the key
+pub record WasProbed (log : List Happening) (tag : Ballot) (key : List ℕ) (acceptor : ℕ) (accepted : Option Accepted) : Type 0 where
+  pub reply : Reply
+  pub told : IsReplyTrue log reply
+  pub from : reply.from ≡ acceptor
+  pub asked : told.request.ask ≡ ask.Probe tag key
+  pub promise : Ballot
+  pub tells : reply.tell ≡ tell.Probed promise accepted
 
 -- ---- a round
 -- The round of a call that is open and was not proposed: its ballot was drawn for the key in the era that the proposer is in, no
@@ -63,6 +73,18 @@ pub record IsProposedIn (log : List Happening) (a : Acknowledgment) : Type 0 whe
   pub same_key : proposal.key ≡ a.key
   pub same_ballot : proposal.ballot ≡ a.ballot
   pub same_era : proposal.era ≡ a.era
+
+-- A vote is seen: the acceptor took the ballot, or told a probe of the key that it had accepted it. It may have stopped as it took it, and
+-- have answered nobody then.
+pub data IsVoteSeen (log : List Happening) (acceptor : ℕ) (key : List ℕ) (ballot : Ballot) : Type 0 where
+  by_deed : (ride : Ballot) → Stands (Took acceptor key ballot ride) log → IsVoteSeen log acceptor key ballot
+  by_probe : (tag : Ballot) (accepted : Accepted) → WasProbed log tag key acceptor (Some accepted) → accepted.ballot ≡ ballot → IsVoteSeen log acceptor key ballot
+
+-- what was proposed has the mark of the vote of each of these, who are an accept quorum of its era
+pub record HasVotesSeen (cluster : Cluster) (log : List Happening) (a : Acknowledgment) : Type 0 where
+  pub proposed : IsProposedIn log a
+  pub votes : (acceptor : ℕ) → has_member a.by acceptor ≡ true → Stands (Voted acceptor a.key a.ballot) (marks_of log)
+  pub quorum : cluster.accepts a.era a.by ≡ true
 
 -- ---- a ride
 -- whoever was asked to accept the ballot was asked to promise this one by the same act

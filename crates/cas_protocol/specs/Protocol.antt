@@ -31,7 +31,7 @@ use Rattle.cas_record.specs.declared.operator.Asked.{Asked as OperatorAsked}
 use Rattle.cas_record.specs.declared.operator.OpAnswer.{OpAnswer}
 use Rattle.cas_record.specs.declared.mark.Acknowledgment.{Acknowledgment}
 use Rattle.cas_record.specs.declared.mark.Mark.{Mark}
-use Rattle.cas_record.specs.declared.mark.Mark.TheVariants.{Begun, Proposed, Acked, Floor, EraEntered, Ended, Harmed, Told}
+use Rattle.cas_record.specs.declared.mark.Mark.TheVariants.{Begun, Proposed, Voted, Acked, Floor, EraEntered, Ended, Harmed, Told}
 use Rattle.cas_record.specs.declared.mark.Proposal.{Proposal}
 use Rattle.cas_record.specs.Histories.Chain.{chain_of, link_of}
 use Rattle.cas_record.specs.Logs.Happening.{Happening, Marked, Asked, Drew, Entered, Replied, marks_of}
@@ -45,7 +45,7 @@ use Rattle.cas_record.specs.Histories.Replay.{replay_from, opening_state}
 use Rattle.cas_record.specs.Logs.Witness.{small_cluster, key_a, at}
 use Rattle.cas_protocol.specs.Acceptors.{LogTells, IsMadeState, IsEmptyAt, IsAskState, done_log, answered_log}
 use Rattle.cas_protocol.specs.Desks.{IsPastAll}
-use Rattle.cas_protocol.specs.Proposers.{IsReplyTrue, IsOpenRound, IsProposedIn, AllRide, state_read}
+use Rattle.cas_protocol.specs.Proposers.{IsReplyTrue, IsOpenRound, IsProposedIn, IsVoteSeen, HasVotesSeen, AllRide, state_read}
 
 -- ---- a cluster
 -- what a proposer made of what it read
@@ -196,6 +196,10 @@ pub data ProtocolEvent (cluster : Cluster) (global : GlobalState) : Type 0 where
   ProposesByRide : (p : Proposal) (program : List Clause) (ready : Ready) → Stands (Begun p.caller p.call p.key program) (marks_of global.log) → IsPreparedByRide cluster global p ready → ProtocolEvent cluster global
   -- what was proposed is counted
   Counts : (a : Acknowledgment) → IsAccepted cluster global.log a → ProtocolEvent cluster global
+  -- a vote is seen, whoever took the ballot and whether it ever told so when it took it
+  SeesVote : (acceptor : ℕ) (key : List ℕ) (ballot : Ballot) → IsVoteSeen global.log acceptor key ballot → ProtocolEvent cluster global
+  -- what was proposed is counted by the votes that were seen
+  CountsSeen : (a : Acknowledgment) → HasVotesSeen cluster global.log a → ProtocolEvent cluster global
   -- a call is answered Done with what was made, once that is acknowledged
   EndsDone : (made : Made) (rounds : ℕ) → Stands made global.made → IsAcked made.proposal.key made.proposal.ballot (marks_of global.log)
       → (IsEnded made.proposal.caller made.proposal.call (marks_of global.log) → ⊥) → ProtocolEvent cluster global
@@ -228,6 +232,8 @@ after cluster global (StopsWithin request tell new asked row) = record global { 
 after cluster global (Proposes p program read begun prepared) = with_proposal global p (outcome_of program (state_read read))
 after cluster global (ProposesByRide p program ready begun prepared) = with_proposal global p (outcome_of program ready.state)
 after cluster global (Counts a accepted) = with_mark global (Marked (Acked a))
+after cluster global (SeesVote acceptor key ballot seen) = with_mark global (Marked (Voted acceptor key ballot))
+after cluster global (CountsSeen a seen) = with_mark global (Marked (Acked a))
 after cluster global (EndsDone made rounds stands acked open_yet) =
     with_mark global (Marked (Ended made.proposal.caller made.proposal.call rounds (answer.Done made.outcome.state made.outcome.took made.proposal.ballot)))
 after cluster global (EndsElse caller call rounds answer other) = with_mark global (Marked (Ended caller call rounds answer))

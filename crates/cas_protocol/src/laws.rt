@@ -2,6 +2,7 @@
 
 ghost use Rattle.cas_protocol.specs.Laws.{AcceptorsAnswerLawfully, AcceptorsStopLawfully, OthersChangeNothing, WhatWasTakenStays, ProposersDrawLawfully, ProposersProposeLawfully, ProposalsMakeStates, RidersProposeLawfully, PromisesRideLawfully, ProposersCountLawfully, CallsAreDoneLawfully, RepliesAreTrue, WhatIsKnownStays, TombstonesAreFloors, WhatIsAckedIsHeld, WhatIsSettledIsHeld};
 ghost use Rattle.cas_protocol.specs.Protocol.{EventsKeepHistory, RunsAreLegal, SomeRunIsDone};
+ghost use Rattle.cas_protocol.specs.Reads.{ReadsGoOn, ReadsOfNothing, ReadsOfNothingWereEmpty, ReadsStand, ReadsMayCount, WhatIsReadStays, SomeReadIsCounted};
 
 /// An acceptor that keeps what the log tells, and answers a request that it was asked, keeps what the log tells then: what it
 /// promised, took, raised or removed, its vote and its reply go on with the log lawfully, and each has its reason.
@@ -93,6 +94,42 @@ pub fn what_is_settled_is_held()
     ensures { WhatIsSettledIsHeld }
 {}
 
+/// What a read tells goes on from all that was settled when it began. A proposer asks the members of its era what they accepted for a
+/// key, and writes nothing. If a prepare quorum told one ballot, the history up to that ballot begins with what was settled before the
+/// question was asked, in this era or in any other. The state that was told is the one that this history leaves.
+pub fn reads_go_on()
+    ensures { ReadsGoOn }
+{}
+
+/// If each of a prepare quorum told a read that it accepted nothing, the register was empty when the read began: what was settled leaves
+/// the empty state. Slots may be removed while it is read, but no floor of the key is made.
+pub fn reads_of_nothing_are_so()
+    ensures { ReadsOfNothing }
+{}
+
+/// If floors may have been made while it was read, the register was empty at some time since the read began: after all that was settled
+/// then, and before all that was settled later.
+pub fn reads_of_nothing_were_empty()
+    ensures { ReadsOfNothingWereEmpty }
+{}
+
+/// What a read tells stands if those who told it are an accept quorum of the era in which it was proposed. The history up to it begins
+/// what is settled as soon as the last that settled is at or above it, when they told it or whenever later.
+pub fn reads_stand()
+    ensures { ReadsStand }
+{}
+
+/// If what they told is above the last that settled, their votes may be marked, although they may have told nobody before. Then it may be
+/// acknowledged by them, and the history up to it is what is settled.
+pub fn reads_may_count()
+    ensures { ReadsMayCount }
+{}
+
+/// Whatever happens lawfully while a read is under way, what it was told stays told, and true.
+pub fn what_is_read_stays()
+    ensures { WhatIsReadStays }
+{}
+
 /// Whatever happens, a cluster with a history has one after it: each request that was ever made may be answered at any time, any
 /// number of times or never, and proposers go by whichever replies were ever made to them; acceptors stop within any request;
 /// promises ride along, tombstones become floors, slots are removed, and proposers enter new eras.
@@ -112,4 +149,10 @@ pub fn runs_are_legal()
 /// and a second proposer's ballot is met.
 pub fn some_run_is_done()
     ensures { SomeRunIsDone }
+{}
+
+/// There is a run with such a read: two acceptors take a ballot, and each stops within its write and answers nobody. Nothing is settled
+/// then. A read finds what they took, their votes are marked, and it is acknowledged.
+pub fn some_read_is_counted()
+    ensures { SomeReadIsCounted }
 {}
