@@ -17,6 +17,10 @@ pub enum PlanFault {
     TooMany,
     /// `last`: the acceptor that leaves is the only member.
     Last,
+    /// `bad size`: a size is not from 1 to the number of members, or the two sizes together are not above it.
+    BadSize,
+    /// `not majority`: an acceptor joins or leaves while a size is not the majority of the members.
+    NotMajority,
 }
 
 impl fmt::Display for PlanFault {
@@ -29,6 +33,8 @@ impl fmt::Display for PlanFault {
             PlanFault::IdUsed => write!(f, "id used"),
             PlanFault::TooMany => write!(f, "too many"),
             PlanFault::Last => write!(f, "last"),
+            PlanFault::BadSize => write!(f, "bad size"),
+            PlanFault::NotMajority => write!(f, "not majority"),
         }
     }
 }

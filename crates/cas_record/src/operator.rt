@@ -20,6 +20,10 @@ pub enum Asked {
     Collect(Key),
     /// What each acceptor keeps for the key.
     Probe(Key),
+    /// That quorums have these sizes from now on.
+    Resize { need_prep: u32, need_acc: u32 },
+    /// What the members agree on of the key, without a write.
+    Read(Key),
 }
 
 impl Asked {
@@ -32,6 +36,14 @@ impl Asked {
             Asked::Leave(id) => Ok(Asked::Leave(*id)),
             Asked::Collect(key) => Ok(Asked::Collect(key.copy()?)),
             Asked::Probe(key) => Ok(Asked::Probe(key.copy()?)),
+            Asked::Resize {
+                need_prep,
+                need_acc,
+            } => Ok(Asked::Resize {
+                need_prep: *need_prep,
+                need_acc: *need_acc,
+            }),
+            Asked::Read(key) => Ok(Asked::Read(key.copy()?)),
         }
     }
 }
@@ -48,6 +60,13 @@ pub enum OpAnswer {
     /// The acceptor left, and its plan is finished in this era. So many keys were proposed anew for it.
     Left {
         id: AcceptorId,
+        era: u32,
+        rescanned: u32,
+    },
+    /// Quorums have these sizes, and their plan is finished in this era. So many keys were proposed anew for it.
+    Resized {
+        need_prep: u32,
+        need_acc: u32,
         era: u32,
         rescanned: u32,
     },
