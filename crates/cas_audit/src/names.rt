@@ -158,6 +158,8 @@ pub enum AskedName {
     Leave,
     Collect,
     Probe,
+    Resize,
+    Read,
 }
 
 /// What a word begins that an operator asked for.
@@ -172,6 +174,10 @@ pub fn asked_name(word: &[u8]) -> Option<AskedName>
         Some(AskedName::Collect)
     } else if says(word, "probe") {
         Some(AskedName::Probe)
+    } else if says(word, "resize") {
+        Some(AskedName::Resize)
+    } else if says(word, "read") {
+        Some(AskedName::Read)
     } else {
         None
     }
@@ -182,11 +188,13 @@ pub fn asked_name(word: &[u8]) -> Option<AskedName>
 pub enum ToldName {
     Joined,
     Left,
+    Resized,
     Already,
     Not,
     Id,
     Too,
     Last,
+    Bad,
     Busy,
     Collected,
     Absent,
@@ -201,6 +209,8 @@ pub fn told_name(word: &[u8]) -> Option<ToldName>
         Some(ToldName::Joined)
     } else if says(word, "left") {
         Some(ToldName::Left)
+    } else if says(word, "resized") {
+        Some(ToldName::Resized)
     } else if says(word, "already") {
         Some(ToldName::Already)
     } else if says(word, "not") {
@@ -211,6 +221,8 @@ pub fn told_name(word: &[u8]) -> Option<ToldName>
         Some(ToldName::Too)
     } else if says(word, "last") {
         Some(ToldName::Last)
+    } else if says(word, "bad") {
+        Some(ToldName::Bad)
     } else if says(word, "busy") {
         Some(ToldName::Busy)
     } else if says(word, "collected") {

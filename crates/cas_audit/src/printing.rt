@@ -502,7 +502,20 @@ fn print_asked(alloc: Global, asked: &Asked) -> Result<Vec<u8>, AllocError>
         }
         Asked::Collect(key) => around_key(String::from_str(alloc, "collect ")?, key, "", b""),
         Asked::Probe(key) => around_key(String::from_str(alloc, "probe ")?, key, "", b""),
+        Asked::Resize {
+            need_prep,
+            need_acc,
+        } => print_resize(alloc, *need_prep, *need_acc),
+        Asked::Read(key) => around_key(String::from_str(alloc, "read ")?, key, "", b""),
     }
+}
+
+/// The request that quorums have these sizes.
+fn print_resize(alloc: Global, need_prep: u32, need_acc: u32) -> Result<Vec<u8>, AllocError>
+    ensures text { IfOk result (λ text. text.items ≡ asked_text (Asked.Resize need_prep need_acc)) }
+    ensures fits { AskedFits (Asked.Resize need_prep need_acc) }
+{
+    Ok(format!(in alloc; "resize {need_prep} {need_acc}")?.into_bytes())
 }
 
 /// What an operator was answered.
@@ -518,6 +531,12 @@ fn print_op_answer(alloc: Global, answer: &OpAnswer) -> Result<Vec<u8>, AllocErr
         OpAnswer::Left { id, era, rescanned } => {
             print_finished(alloc, "left ", *id, *era, *rescanned)
         }
+        OpAnswer::Resized {
+            need_prep,
+            need_acc,
+            era,
+            rescanned,
+        } => print_resized(alloc, "resized ", *need_prep, *need_acc, *era, *rescanned),
         OpAnswer::Refused(fault) => Ok(format!(in alloc; "{fault}")?.into_bytes()),
         OpAnswer::Busy { era } => {
             let mut text = String::from_str(alloc, "busy ")?;
@@ -564,6 +583,27 @@ fn print_finished(
     let number = id.number();
     let mut text = String::from_str(alloc, name)?;
     write!(text, "{number} era {era}")?;
+    write!(text, " rescanned {rescanned}")?;
+    Ok(text.into_bytes())
+}
+
+/// The answer that quorums have these sizes, behind the name of what was done.
+fn print_resized(
+    alloc: Global,
+    name: &str,
+    need_prep: u32,
+    need_acc: u32,
+    era: u32,
+    rescanned: u32,
+) -> Result<Vec<u8>, AllocError>
+    ensures text { IfOk result (λ text. text.items ≡ name.now ++ decimal need_prep ++ codes " "
+        ++ decimal need_acc ++ codes " era " ++ decimal era
+        ++ codes " rescanned " ++ decimal rescanned) }
+    ensures fits { ToldFits (OpAnswer.Resized need_prep need_acc era rescanned) }
+{
+    let mut text = String::from_str(alloc, name)?;
+    write!(text, "{need_prep} {need_acc}")?;
+    write!(text, " era {era}")?;
     write!(text, " rescanned {rescanned}")?;
     Ok(text.into_bytes())
 }

@@ -8,7 +8,7 @@ ghost use Rattle.cas_audit.specs.Spelling.Lines.{IsMarkLine};
 ghost use Rattle.cas_audit.specs.Spelling.Printing.{is_told, has_text, mark_text};
 ghost use Rattle.cas_audit.specs.Spelling.Ranges.{MarkFits};
 ghost use Rattle.cas_record.specs.declared.mark.Mark.{Mark};
-ghost use Rattle.cas_audit.specs.Spelling.Reading.{named_at, harm_name, mark_name, mark_at, mark_of, begun_at, quorum_at, proposal_at, acknowledgment_at, voted_at, floor_at, entered_at, ended_at, harmed_at, told_mark_at, cause_of, cause_at, proposed_at, stop_of, stop_in, took_of, took_at, done_at, answer_at, asked_of, asked_at, finished_at, collected_at, not_in, not_at, told_of, told_by, told_at, line_mark};
+ghost use Rattle.cas_audit.specs.Spelling.Reading.{named_at, harm_name, mark_name, mark_at, mark_of, begun_at, quorum_at, proposal_at, acknowledgment_at, voted_at, floor_at, entered_at, ended_at, harmed_at, told_mark_at, cause_of, cause_at, proposed_at, stop_of, stop_in, took_of, took_at, done_at, answer_at, asked_of, asked_at, finished_at, resized_at, collected_at, not_in, not_at, told_of, told_by, told_at, line_mark};
 
 use crate::names::{
     AskedName, CauseName, MarkName, StopName, ToldName, TookName, asked_name, cause_name,
@@ -222,6 +222,15 @@ fn asked_of(alloc: Global, name: AskedName, words: &mut Words<'_>) -> Result<Ask
         AskedName::Leave => Ok(Asked::Leave(read_acceptor(words)?)),
         AskedName::Collect => Ok(Asked::Collect(read_key(alloc, words)?)),
         AskedName::Probe => Ok(Asked::Probe(read_key(alloc, words)?)),
+        AskedName::Resize => {
+            let need_prep = read_u32(words)?;
+            let need_acc = read_u32(words)?;
+            Ok(Asked::Resize {
+                need_prep,
+                need_acc,
+            })
+        }
+        AskedName::Read => Ok(Asked::Read(read_key(alloc, words)?)),
     }
 }
 
@@ -234,6 +243,24 @@ fn read_finished(words: &mut Words<'_>) -> Result<(AcceptorId, u32, u32), TextRe
     let era = read_numbered(words, "era")?;
     let rescanned = read_numbered(words, "rescanned")?;
     Ok((id, era, rescanned))
+}
+
+/// What follows the first word of a resize's answer.
+#[tactic(auto, unfolding(crate::specs::Spelling::Reading::resized_at))]
+fn read_resized(words: &mut Words<'_>) -> Result<OpAnswer, TextRefusal>
+    ensures exact { Reads result words.new (resized_at words.old) }
+    ensures written { IfOk result (λ answer. is_told answer ≡ true) }
+{
+    let need_prep = read_u32(words)?;
+    let need_acc = read_u32(words)?;
+    let era = read_numbered(words, "era")?;
+    let rescanned = read_numbered(words, "rescanned")?;
+    Ok(OpAnswer::Resized {
+        need_prep,
+        need_acc,
+        era,
+        rescanned,
+    })
 }
 
 /// What follows the first word of a collection's answer.
@@ -269,6 +296,8 @@ fn read_not(words: &mut Words<'_>) -> Result<OpAnswer, TextRefusal>
         Ok(OpAnswer::NotEmpty {
             version: read_marked_version(words)?,
         })
+    } else if says(word, "majority") {
+        Ok(OpAnswer::Refused(PlanFault::NotMajority))
     } else {
         Err(unknown_word(at))
     }
@@ -289,6 +318,7 @@ fn told_of(alloc: Global, name: ToldName, words: &mut Words<'_>) -> Result<OpAns
             let (id, era, rescanned) = read_finished(words)?;
             Ok(OpAnswer::Left { id, era, rescanned })
         }
+        ToldName::Resized => read_resized(words),
         ToldName::Already => {
             take_name(words, "in")?;
             Ok(OpAnswer::Refused(PlanFault::AlreadyIn))
@@ -303,6 +333,10 @@ fn told_of(alloc: Global, name: ToldName, words: &mut Words<'_>) -> Result<OpAns
             Ok(OpAnswer::Refused(PlanFault::TooMany))
         }
         ToldName::Last => Ok(OpAnswer::Refused(PlanFault::Last)),
+        ToldName::Bad => {
+            take_name(words, "size")?;
+            Ok(OpAnswer::Refused(PlanFault::BadSize))
+        }
         ToldName::Busy => Ok(OpAnswer::Busy {
             era: read_u32(words)?,
         }),

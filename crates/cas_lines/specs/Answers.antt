@@ -81,9 +81,14 @@ probe_text probe = codes " " ++ decimal probe.acceptor ++ codes "=" ++ told_text
 abbrev pub plan_text : ℕ → ℕ → ℕ → List ℕ
 plan_text id era rescanned = decimal id ++ codes " era " ++ decimal era ++ codes " rescanned " ++ decimal rescanned
 
+-- the sizes of quorums, the era in which their plan is finished, and how many keys were proposed anew for it
+abbrev pub sizes_text : ℕ → ℕ → ℕ → ℕ → List ℕ
+sizes_text need_prep need_acc era rescanned = decimal need_prep ++ codes " " ++ decimal need_acc ++ codes " era " ++ decimal era ++ codes " rescanned " ++ decimal rescanned
+
 abbrev pub op_text : OpAnswer → List ℕ
 op_text (op.Joined id era rescanned) = codes "joined " ++ plan_text id era rescanned
 op_text (op.Left id era rescanned) = codes "left " ++ plan_text id era rescanned
+op_text (op.Resized need_prep need_acc era rescanned) = codes "resized " ++ sizes_text need_prep need_acc era rescanned
 op_text (op.Refused fault) = plan_fault_text fault
 op_text (op.Busy era) = codes "busy " ++ decimal era
 op_text (op.Collected key ballot removed kept) = codes "collected " ++ key ++ codes " at " ++ ballot_text ballot ++ codes " removed " ++ decimal removed ++ codes " kept " ++ decimal kept

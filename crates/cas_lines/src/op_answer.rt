@@ -5,7 +5,7 @@
 ghost use Rattle.std.specs.Prelude.{◌≡◌, [], ◌∷◌, ◌++◌, string_bytes, OnOk, IfOk};
 ghost use Rattle.std.specs.List.{flat_map};
 ghost use Rattle.cas_change.specs.Key.{IsKeyByte};
-ghost use Rattle.cas_lines.specs.Answers.{kept_text, told_text, probe_text, plan_text, op_text, op_line};
+ghost use Rattle.cas_lines.specs.Answers.{kept_text, told_text, probe_text, plan_text, sizes_text, op_text, op_line};
 
 use crate::answer::push_answer;
 use cas_ballot::AcceptorId;
@@ -36,6 +36,15 @@ pub fn push_op(line: &mut String, answer: &OpAnswer) -> Result<(), AllocError>
         OpAnswer::Left { id, era, rescanned } => {
             line.push_str("left ")?;
             push_plan(line, *id, *era, *rescanned)
+        }
+        OpAnswer::Resized {
+            need_prep,
+            need_acc,
+            era,
+            rescanned,
+        } => {
+            line.push_str("resized ")?;
+            push_sizes(line, *need_prep, *need_acc, *era, *rescanned)
         }
         OpAnswer::Refused(fault) => write!(line, "{fault}"),
         OpAnswer::Busy { era } => write!(line, "busy {era}"),
@@ -71,6 +80,23 @@ fn push_plan(line: &mut String, id: AcceptorId, era: u32, rescanned: u32) -> Res
 {
     let id = id.number();
     write!(line, "{id} era {era} rescanned {rescanned}")
+}
+
+/// The sizes of quorums, the era in which their plan is finished, and how many keys were proposed anew for it.
+fn push_sizes(
+    line: &mut String,
+    need_prep: u32,
+    need_acc: u32,
+    era: u32,
+    rescanned: u32,
+) -> Result<(), AllocError>
+    ensures { OnOk result (string_bytes line.new
+        ≡ string_bytes line.old ++ sizes_text need_prep need_acc era rescanned) }
+{
+    write!(
+        line,
+        "{need_prep} {need_acc} era {era} rescanned {rescanned}"
+    )
 }
 
 /// Writes a key behind `line`.

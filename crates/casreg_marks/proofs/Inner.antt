@@ -272,6 +272,9 @@ asks words (asked.Join id) is = pair (codes "join") (IsAcceptor id) refl (accept
 asks words (asked.Leave id) is = pair (codes "leave") (IsAcceptor id) refl (acceptor_word id) is
 asks words (asked.Collect name) is = words_are is.0 (first (word {one = codes "collect"} refl) (first (key is.1) none))
 asks words (asked.Probe name) is = words_are is.0 (first (word {one = codes "probe"} refl) (first (key is.1) none))
+asks words (asked.Resize need_prep need_acc) is =
+    words_are is.2 (first (word {one = codes "resize"} refl) (first (number is.3.0) (first (number is.4.0) none)))
+asks words (asked.Read name) is = words_are is.0 (first (word {one = codes "read"} refl) (first (key is.1) none))
 
 finished : (words : List Word) (name : Word) (id era rescanned : ℕ) → has_inner name ≡ true → IsFinished words name id era rescanned → AreInner words
 finished words name id era rescanned named is =
@@ -284,10 +287,15 @@ refused fault.NotIn = record { have = refl }
 refused fault.IdUsed = record { have = refl }
 refused fault.TooMany = record { have = refl }
 refused fault.Last = record { have = refl }
+refused fault.BadSize = record { have = refl }
+refused fault.NotMajority = record { have = refl }
 
 tells : (words : List Word) (said : OpAnswer) → SpellsTold words said → AreInner words
 tells words (told.Joined id era rescanned) is = finished words (codes "joined") id era rescanned refl is
 tells words (told.Left id era rescanned) is = finished words (codes "left") id era rescanned refl is
+tells words (told.Resized need_prep need_acc era rescanned) is =
+    words_are is.4 (first (word {one = codes "resized"} refl) (first (number is.5.0) (first (number is.6.0) (first (word {one = codes "era"} refl) (first (number is.7.0)
+    (first (word {one = codes "rescanned"} refl) (first (number is.8.0) none)))))))
 tells words (told.Refused reason) is = words_are is (refused reason)
 tells words (told.Busy era) is = pair (codes "busy") (IsNumber 32 era) refl (small 32 era) is
 tells words (told.Collected name ballot removed kept) is =

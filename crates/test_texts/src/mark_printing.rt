@@ -215,6 +215,41 @@ fn writes_what_an_operator_is_told(rt: HostRuntime) -> Result<(), Fail> {
 }
 
 #[test]
+fn writes_what_is_told_of_sizes(rt: HostRuntime) -> Result<(), Fail> {
+    let alloc = rt.alloc();
+    let resized = OpAnswer::Resized {
+        need_prep: 4,
+        need_acc: 2,
+        era: 3,
+        rescanned: 5,
+    };
+    let told = Mark::Told {
+        asked: Asked::Resize {
+            need_prep: 4,
+            need_acc: 2,
+        },
+        answer: resized,
+    };
+    let want = b"told resize 4 2 -> resized 4 2 era 3 rescanned 5";
+    prints(&rt, alloc, told, want)?;
+    let bad = Mark::Told {
+        asked: Asked::Resize {
+            need_prep: 0,
+            need_acc: 4_294_967_295,
+        },
+        answer: OpAnswer::Refused(PlanFault::BadSize),
+    };
+    prints(&rt, alloc, bad, b"told resize 0 4294967295 -> bad size")?;
+    let refused = OpAnswer::Refused(PlanFault::NotMajority);
+    tells(&rt, alloc, refused, b"told join 4 -> not majority")?;
+    let read = Mark::Told {
+        asked: Asked::Read(Key::read(alloc, b"a")?),
+        answer: OpAnswer::Stopped(Answer::Short { got: 1, need: 2 }),
+    };
+    prints(&rt, alloc, read, b"told read a -> short 1 2")
+}
+
+#[test]
 fn writes_no_answer_to_a_probe(rt: HostRuntime) -> Result<(), Fail> {
     let alloc = rt.alloc();
     let probed = Mark::Told {

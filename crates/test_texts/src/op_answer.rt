@@ -60,12 +60,22 @@ fn writes_a_line_for_a_plan(rt: HostRuntime) -> Result<(), Fail> {
         rescanned: 0,
     };
     answers(&rt, rt.alloc(), left, b"op: left 3 era 1 rescanned 0\n")?;
+    let resized = OpAnswer::Resized {
+        need_prep: 4,
+        need_acc: 2,
+        era: 3,
+        rescanned: 5,
+    };
+    let want = b"op: resized 4 2 era 3 rescanned 5\n";
+    answers(&rt, rt.alloc(), resized, want)?;
     for (fault, want) in [
         (PlanFault::AlreadyIn, b"op: already in\n".as_slice()),
         (PlanFault::NotIn, b"op: not in\n"),
         (PlanFault::IdUsed, b"op: id used\n"),
         (PlanFault::TooMany, b"op: too many\n"),
         (PlanFault::Last, b"op: last\n"),
+        (PlanFault::BadSize, b"op: bad size\n"),
+        (PlanFault::NotMajority, b"op: not majority\n"),
     ] {
         answers(&rt, rt.alloc(), OpAnswer::Refused(fault), want)?;
     }

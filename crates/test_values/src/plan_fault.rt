@@ -9,6 +9,8 @@ fn are_printed_in_words(rt: HostRuntime) -> Result<(), Fail> {
         (PlanFault::IdUsed, "id used"),
         (PlanFault::TooMany, "too many"),
         (PlanFault::Last, "last"),
+        (PlanFault::BadSize, "bad size"),
+        (PlanFault::NotMajority, "not majority"),
     ] {
         assert_eq!(rt; fault.to_string(rt.alloc())?.as_str(), text);
     }

@@ -29,7 +29,7 @@ use Rattle.cas_record.specs.declared.operator.OpAnswer.{OpAnswer}
 use Rattle.cas_record.specs.declared.operator.OpAnswer.TheVariants as told
 use Rattle.cas_audit.specs.Spelling.Lines.{IsNumber, SpellsCall, IsBallot, IsSet, IsVersion, SpellsAsked, IsFinished, SpellsTold, IsQuorum, harm_word, IsMarkLine, IsCountLine}
 use Rattle.cas_audit.specs.Spelling.Reading.{u8_of, u32_of, call_of, ballot_of, members_of, said_at, named_at, behind_name, numbered_at, marked_version_at, mark_name, asked_name, told_name}
-use Rattle.cas_audit.specs.Spelling.Reading.{harm_name, answer_at, stop_in, asked_of, asked_at, finished_at, collected_at, not_in, not_at, told_of, told_by, told_at, begun_at, quorum_at}
+use Rattle.cas_audit.specs.Spelling.Reading.{harm_name, answer_at, stop_in, asked_of, asked_at, finished_at, resized_at, collected_at, not_in, not_at, told_of, told_by, told_at, begun_at, quorum_at}
 use Rattle.cas_audit.specs.Spelling.Reading.{proposal_at, acknowledgment_at, voted_at, floor_at, entered_at, ended_at, harmed_at, told_mark_at, mark_of, mark_at, line_mark}
 use Rattle.cas_audit.specs.Spelling.Texts.{count_at}
 use Rattle.cas_audit.specs.declared.names.AskedName.{AskedName}
@@ -113,9 +113,11 @@ asked_word asks.Join = codes "join"
 asked_word asks.Leave = codes "leave"
 asked_word asks.Collect = codes "collect"
 asked_word asks.Probe = codes "probe"
+asked_word asks.Resize = codes "resize"
+asked_word asks.Read = codes "read"
 
 asked_named : (word : Word) (name : AskedName) → asked_name word ≡ Some name → word ≡ asked_word name
-asked_named word name e = is_named asked_word (asks.Join ∷ asks.Leave ∷ asks.Collect ∷ asks.Probe ∷ []) word name e
+asked_named word name e = is_named asked_word (asks.Join ∷ asks.Leave ∷ asks.Collect ∷ asks.Probe ∷ asks.Resize ∷ asks.Read ∷ []) word name e
 
 -- the words that were read, and those behind them
 abbrev AskedOf : List Word → Asked × WordsLeft → Type 0
@@ -147,6 +149,21 @@ asked_of-found asks.Probe left z e =
     let made : Asked × WordsLeft = (asked.Probe k.0.0, k.0.1) in
     let same : made ≡ z = cc (k.2) in
     subst (AskedOf (codes "probe" ∷ left.words)) same (codes "probe" ∷ k.0.0 ∷ [], ap (λ (ws : List Word). codes "probe" ∷ ws) one.0, (refl, one.1))
+asked_of-found asks.Resize left z e =
+    let p = bind_ok (said_at u32_of left) _ z e in
+    let a = bind_ok (said_at u32_of p.0.1) _ z p.2 in
+    let prep = said_one u32_of (IsNumber 32) u32_found left p.0 p.1 in
+    let acc = said_one u32_of (IsNumber 32) u32_found p.0.1 a.0 a.1 in
+    let made : Asked × WordsLeft = (asked.Resize p.0.0 a.0.0, a.0.1) in
+    let same : made ≡ z = cc (a.2) in
+    let split : left.words ≡ prep.0 ∷ acc.0 ∷ a.0.1.words = prep.1 ∙ ap (λ (ws : List Word). prep.0 ∷ ws) acc.1 in
+    subst (AskedOf (codes "resize" ∷ left.words)) same (codes "resize" ∷ prep.0 ∷ acc.0 ∷ [], ap (λ (ws : List Word). codes "resize" ∷ ws) split, (prep.0, acc.0, refl, prep.2, acc.2))
+asked_of-found asks.Read left z e =
+    let k = bind_ok (key_at left) _ z e in
+    let one = key_one left k.0 k.1 in
+    let made : Asked × WordsLeft = (asked.Read k.0.0, k.0.1) in
+    let same : made ≡ z = cc (k.2) in
+    subst (AskedOf (codes "read" ∷ left.words)) same (codes "read" ∷ k.0.0 ∷ [], ap (λ (ws : List Word). codes "read" ∷ ws) one.0, (refl, one.1))
 
 asked_found : (left : WordsLeft) (z : Asked × WordsLeft) → asked_at left ≡ Ok z → AskedOf left.words z
 unfolding asked_at
@@ -155,23 +172,30 @@ asked_found left z e =
     let first = named_one asked_name asked_word asked_named left n.0 n.1 in
     subst (λ (ws : List Word). AskedOf ws z) (sym first) (asked_of-found n.0.0 n.0.1 z n.2)
 
-asked_again : (words : List Word) (a : Asked) → SpellsAsked words a → (at : ℕ) (rest : List Word) → asked_at (from at (words ++ rest)) ≡ Ok (a, from (at + 1 + 1) rest)
+asked_again : (words : List Word) (a : Asked) → SpellsAsked words a → (at : ℕ) (rest : List Word) → (next : ℕ) × (asked_at (from at (words ++ rest)) ≡ Ok (a, from next rest))
 unfolding asked_at asked_of named_at
-asked_again words (asked.Join id) is at rest = ap (λ (ws : List Word). asked_at (from at (ws ++ rest))) is.1 ∙ rw (acceptor_read is.0 id is.2 (at + 1) rest) refl
-asked_again words (asked.Leave id) is at rest = ap (λ (ws : List Word). asked_at (from at (ws ++ rest))) is.1 ∙ rw (acceptor_read is.0 id is.2 (at + 1) rest) refl
-asked_again words (asked.Collect key) is at rest = ap (λ (ws : List Word). asked_at (from at (ws ++ rest))) is.0 ∙ rw (key_read key is.1 (at + 1) rest) refl
-asked_again words (asked.Probe key) is at rest = ap (λ (ws : List Word). asked_at (from at (ws ++ rest))) is.0 ∙ rw (key_read key is.1 (at + 1) rest) refl
+asked_again words (asked.Join id) is at rest = (at + 1 + 1, ap (λ (ws : List Word). asked_at (from at (ws ++ rest))) is.1 ∙ rw (acceptor_read is.0 id is.2 (at + 1) rest) refl)
+asked_again words (asked.Leave id) is at rest = (at + 1 + 1, ap (λ (ws : List Word). asked_at (from at (ws ++ rest))) is.1 ∙ rw (acceptor_read is.0 id is.2 (at + 1) rest) refl)
+asked_again words (asked.Collect key) is at rest = (at + 1 + 1, ap (λ (ws : List Word). asked_at (from at (ws ++ rest))) is.0 ∙ rw (key_read key is.1 (at + 1) rest) refl)
+asked_again words (asked.Probe key) is at rest = (at + 1 + 1, ap (λ (ws : List Word). asked_at (from at (ws ++ rest))) is.0 ∙ rw (key_read key is.1 (at + 1) rest) refl)
+asked_again words (asked.Resize need_prep need_acc) is at rest = (
+  at + 1 + 1 + 1,
+  ap (λ (ws : List Word). asked_at (from at (ws ++ rest))) is.2 ∙ rw (u32_read is.0 need_prep is.3 (at + 1) (is.1 ∷ rest), u32_read is.1 need_acc is.4 (at + 1 + 1) rest) refl,
+)
+asked_again words (asked.Read key) is at rest = (at + 1 + 1, ap (λ (ws : List Word). asked_at (from at (ws ++ rest))) is.0 ∙ rw (key_read key is.1 (at + 1) rest) refl)
 
 -- ---- what operators are answered
 
 abbrev told_word : ToldName → Word
 told_word tells.Joined = codes "joined"
 told_word tells.Left = codes "left"
+told_word tells.Resized = codes "resized"
 told_word tells.Already = codes "already"
 told_word tells.Not = codes "not"
 told_word tells.Id = codes "id"
 told_word tells.Too = codes "too"
 told_word tells.Last = codes "last"
+told_word tells.Bad = codes "bad"
 told_word tells.Busy = codes "busy"
 told_word tells.Collected = codes "collected"
 told_word tells.Absent = codes "absent"
@@ -180,7 +204,7 @@ told_word tells.Proposer = codes "proposer"
 told_named : (word : Word) (name : ToldName) → told_name word ≡ Some name → word ≡ told_word name
 told_named word name e =
     is_named told_word
-    (tells.Joined ∷ tells.Left ∷ tells.Already ∷ tells.Not ∷ tells.Id ∷ tells.Too ∷ tells.Last ∷ tells.Busy ∷ tells.Collected ∷ tells.Absent ∷ tells.Proposer ∷ []) word name e
+    (tells.Joined ∷ tells.Left ∷ tells.Resized ∷ tells.Already ∷ tells.Not ∷ tells.Id ∷ tells.Too ∷ tells.Last ∷ tells.Bad ∷ tells.Busy ∷ tells.Collected ∷ tells.Absent ∷ tells.Proposer ∷ []) word name e
 
 finished_found : (name : Word) (left : WordsLeft) (x : (ℕ × ℕ × ℕ) × WordsLeft) → finished_at left ≡ Ok x → x.1.words ≡ [] → IsFinished (name ∷ left.words) name x.0.0 x.0.1 x.0.2
 unfolding finished_at
@@ -197,6 +221,25 @@ finished_found name left x e end =
     let middle : a.0.1.words ≡ codes "era" ∷ era.0 ∷ codes "rescanned" ∷ count.0 ∷ [] = era.1 ∙ ap (λ (ws : List Word). codes "era" ∷ era.0 ∷ ws) last in
     subst (λ (f : ℕ × ℕ × ℕ). IsFinished (name ∷ left.words) name f.0 f.1 f.2) p.0
     (who.0, era.0, count.0, ap (λ (ws : List Word). name ∷ ws) (who.1 ∙ ap (λ (ws : List Word). who.0 ∷ ws) middle), who.2, era.2, count.2)
+
+resized_found : (left : WordsLeft) (z : OpAnswer × WordsLeft) → resized_at left ≡ Ok z → z.1.words ≡ [] → SpellsTold (codes "resized" ∷ left.words) z.0
+unfolding resized_at
+resized_found left z e end =
+    let p = bind_ok (said_at u32_of left) _ z e in
+    let a = bind_ok (said_at u32_of p.0.1) _ z p.2 in
+    let n = bind_ok (numbered_at (codes "era") a.0.1) _ z a.2 in
+    let r = bind_ok (numbered_at (codes "rescanned") n.0.1) _ z n.2 in
+    let done = nothing_more (told.Resized p.0.0 a.0.0 n.0.0 r.0.0) r.0.1 z r.2 end in
+    let prep = said_one u32_of (IsNumber 32) u32_found left p.0 p.1 in
+    let acc = said_one u32_of (IsNumber 32) u32_found p.0.1 a.0 a.1 in
+    let era = numbered_one (codes "era") a.0.1 n.0 n.1 in
+    let count = numbered_one (codes "rescanned") n.0.1 r.0 r.1 in
+    let last : n.0.1.words ≡ codes "rescanned" ∷ count.0 ∷ [] = count.1 ∙ ap (λ (ws : List Word). codes "rescanned" ∷ count.0 ∷ ws) done.1 in
+    let middle : a.0.1.words ≡ codes "era" ∷ era.0 ∷ codes "rescanned" ∷ count.0 ∷ [] = era.1 ∙ ap (λ (ws : List Word). codes "era" ∷ era.0 ∷ ws) last in
+    let split : left.words ≡ prep.0 ∷ acc.0 ∷ codes "era" ∷ era.0 ∷ codes "rescanned" ∷ count.0 ∷ [] =
+    prep.1 ∙ ap (λ (ws : List Word). prep.0 ∷ ws) (acc.1 ∙ ap (λ (ws : List Word). acc.0 ∷ ws) middle) in
+    subst (SpellsTold (codes "resized" ∷ left.words)) done.0
+    (prep.0, acc.0, era.0, count.0, ap (λ (ws : List Word). codes "resized" ∷ ws) split, prep.2, acc.2, era.2, count.2)
 
 collected_found : (left : WordsLeft) (z : OpAnswer × WordsLeft) → collected_at left ≡ Ok z → z.1.words ≡ [] → SpellsTold (codes "collected" ∷ left.words) z.0
 unfolding collected_at
@@ -250,7 +293,7 @@ not_in-found at word behind z e end =
           let p = nothing_more (told.Refused fault.NotIn) behind z q.1 end in
           let is : word ≡ codes "in" = (bytes_eq-Decides word (codes "in")).0 q.0 in
           subst (SpellsTold (codes "not" ∷ word ∷ behind.words)) p.0 (λ i. codes "not" ∷ is i ∷ p.1 i)
-      | inr r ↦ elim (chosen (bytes_eq word (codes "empty")) (marked_version_at behind >>= λ x. done {A = OpAnswer × WordsLeft} (told.NotEmpty x.0, x.1)) (Err (record { why = why.UnknownWord; word = at })) (Ok z) r.1) [
+      | inr r ↦ elim (chosen (bytes_eq word (codes "empty")) (marked_version_at behind >>= λ x. done {A = OpAnswer × WordsLeft} (told.NotEmpty x.0, x.1)) _ (Ok z) r.1) [
         | inl q ↦
             let v = bind_ok (marked_version_at behind) _ z q.1 in
             let p = nothing_more (told.NotEmpty v.0.0) v.0.1 z v.2 end in
@@ -258,7 +301,13 @@ not_in-found at word behind z e end =
             let is : word ≡ codes "empty" = (bytes_eq-Decides word (codes "empty")).0 q.0 in
             let last : behind.words ≡ version.0 ∷ [] = version.1 ∙ ap (λ (ws : List Word). version.0 ∷ ws) p.1 in
             subst (SpellsTold (codes "not" ∷ word ∷ behind.words)) p.0 (version.0, (λ i. codes "not" ∷ is i ∷ last i), version.2)
-        | inr q ↦ absurd (cc (q.1))
+        | inr s ↦ elim (chosen (bytes_eq word (codes "majority")) (done {A = OpAnswer × WordsLeft} (told.Refused fault.NotMajority, behind)) (Err (record { why = why.UnknownWord; word = at })) (Ok z) s.1) [
+          | inl q ↦
+              let p = nothing_more (told.Refused fault.NotMajority) behind z q.1 end in
+              let is : word ≡ codes "majority" = (bytes_eq-Decides word (codes "majority")).0 q.0 in
+              subst (SpellsTold (codes "not" ∷ word ∷ behind.words)) p.0 (λ i. codes "not" ∷ is i ∷ p.1 i)
+          | inr q ↦ absurd (cc (q.1))
+        ]
       ]
     ]
 
@@ -281,6 +330,7 @@ told_of-found tells.Left left z e end =
     let f = bind_ok (finished_at left) _ z e in
     let p = nothing_more (told.Left f.0.0.0 f.0.0.1 f.0.0.2) f.0.1 z f.2 end in
     subst (SpellsTold (codes "left" ∷ left.words)) p.0 (finished_found (codes "left") left f.0 f.1 p.1)
+told_of-found tells.Resized left z e end = resized_found left z e end
 told_of-found tells.Already left z e end =
     let p = refused_found (codes "already") (codes "in") (told.Refused fault.AlreadyIn) left z e end in
     subst (SpellsTold (codes "already" ∷ left.words)) p.0 p.1
@@ -297,6 +347,9 @@ told_of-found tells.Too left z e end =
 told_of-found tells.Last left z e end =
     let p = nothing_more (told.Refused fault.Last) left z e end in
     subst (SpellsTold (codes "last" ∷ left.words)) p.0 (ap (λ (ws : List Word). codes "last" ∷ ws) p.1)
+told_of-found tells.Bad left z e end =
+    let p = refused_found (codes "bad") (codes "size") (told.Refused fault.BadSize) left z e end in
+    subst (SpellsTold (codes "bad" ∷ left.words)) p.0 p.1
 told_of-found tells.Busy left z e end =
     let p = pair_found u32_of (λ x. told.Busy x) (IsNumber 32) u32_found (codes "busy") left z e end in
     subst (SpellsTold (codes "busy" ∷ left.words)) p.1 p.2
@@ -329,7 +382,7 @@ told_found left z e end =
     subst (λ (ws : List Word). SpellsTold ws z.0) (sym split) (told_by-found (told_name w.0.0) left.at w.0.0 w.0.1 z refl w.2 end)
 
 told_again : (words : List Word) (a : OpAnswer) → SpellsTold words a → ReadsAll told_at words a
-unfolding told_at told_by told_of behind_name numbered_at collected_at not_at not_in marked_version_at finished_at
+unfolding told_at told_by told_of behind_name numbered_at collected_at not_at not_in marked_version_at finished_at resized_at
 told_again words (told.Joined id era rescanned) is at = (
   at + 1 + 1 + 1 + 1 + 1 + 1,
   ap (λ (ws : List Word). told_at (from at ws)) is.3
@@ -348,11 +401,24 @@ told_again words (told.Left id era rescanned) is at = (
         u32_read is.2 rescanned is.6 (at + 1 + 1 + 1 + 1 + 1) [],
       ) refl,
 )
+told_again words (told.Resized need_prep need_acc era rescanned) is at =
+    let counts : List Word = codes "era" ∷ is.2 ∷ codes "rescanned" ∷ is.3 ∷ [] in (
+      at + 1 + 1 + 1 + 1 + 1 + 1 + 1,
+      ap (λ (ws : List Word). told_at (from at ws)) is.4
+          ∙ rw (
+            u32_read is.0 need_prep is.5 (at + 1) (is.1 ∷ counts),
+            u32_read is.1 need_acc is.6 (at + 1 + 1) counts,
+            u32_read is.2 era is.7 (at + 1 + 1 + 1 + 1) (codes "rescanned" ∷ is.3 ∷ []),
+            u32_read is.3 rescanned is.8 (at + 1 + 1 + 1 + 1 + 1 + 1) [],
+          ) refl,
+    )
 told_again words (told.Refused fault.AlreadyIn) is at = (at + 1 + 1, ap (λ (ws : List Word). told_at (from at ws)) is)
 told_again words (told.Refused fault.NotIn) is at = (at + 1 + 1, ap (λ (ws : List Word). told_at (from at ws)) is)
 told_again words (told.Refused fault.IdUsed) is at = (at + 1 + 1, ap (λ (ws : List Word). told_at (from at ws)) is)
 told_again words (told.Refused fault.TooMany) is at = (at + 1 + 1, ap (λ (ws : List Word). told_at (from at ws)) is)
 told_again words (told.Refused fault.Last) is at = (at + 1, ap (λ (ws : List Word). told_at (from at ws)) is)
+told_again words (told.Refused fault.BadSize) is at = (at + 1 + 1, ap (λ (ws : List Word). told_at (from at ws)) is)
+told_again words (told.Refused fault.NotMajority) is at = (at + 1 + 1, ap (λ (ws : List Word). told_at (from at ws)) is)
 told_again words (told.Busy era) is at = (at + 1 + 1, ap (λ (ws : List Word). told_at (from at ws)) is.1 ∙ rw (u32_read is.0 era is.2 (at + 1) []) refl)
 told_again words (told.Collected key ballot removed kept) is at =
     let word : Word = is.0 in
@@ -606,8 +672,9 @@ mark_reads words (Harmed caller call false) is =
 mark_reads words (Harmed caller call true) is =
     ap (λ (ws : List Word). mark_at (from 0 ws)) is.1 ∙ rw (call_read is.0 caller call is.2 1 (codes "down" ∷ [])) refl
 mark_reads words (Told asked answer) is =
-    let t = told_again is.1 answer is.4 4 in
-    ap (λ (ws : List Word). mark_at (from 0 ws)) is.2 ∙ rw (asked_again is.0 asked is.3 1 (codes "->" ∷ is.1), t.1) refl
+    let a = asked_again is.0 asked is.3 1 (codes "->" ∷ is.1) in
+    let t = told_again is.1 answer is.4 (a.0 + 1) in
+    ap (λ (ws : List Word). mark_at (from 0 ws)) is.2 ∙ rw (a.1, t.1) refl
 
 -- what is printed for a mark says it
 pub line_says : {A E : Type 0} (items : A → List ℕ) (result : Result A E) (mark : Mark) → IfOk result (λ line. line_mark (items line) ≡ Ok mark)

@@ -1,12 +1,12 @@
 -- A mark as it is printed, read again.
-use Rattle.std.proofs.Common.{◌≡◌, ℕ, ◌+◌, ◌^◌, ◌<◌, true, false, List, [], ◌∷◌, ◌++◌, Ok, refl, sym, ap, ◌∙◌, append-nil, arith}
+use Rattle.std.proofs.Common.{◌≡◌, ℕ, ◌+◌, ◌^◌, ◌<◌, true, false, List, [], ◌∷◌, ◌++◌, length, Ok, refl, sym, ap, ◌∙◌, append-nil, arith}
 use Rattle.std.specs.Prelude.{codes, decimal, Result, Err, IfOk}
 use Rattle.cas_ballot.specs.Ballot.{ballot_text}
 use Rattle.cas_change.specs.Key.{IsKey}
 use Rattle.cas_change_text.specs.Printing.{program_text, state_text}
 use Rattle.cas_change_text.specs.Words.{Word, words_of}
 use Rattle.cas_change_text.proofs.BothWays.{from, clauses_again, state_again}
-use Rattle.cas_change_text.proofs.Printed.{IsWord, IsWord-decimal, u64_of-decimal, IsState-printed}
+use Rattle.cas_change_text.proofs.Printed.{IsWord, has_no_blank, IsWord-decimal, u64_of-decimal, IsState-printed}
 use Rattle.cas_quorum.specs.declared.fault.PlanFault.TheVariants as fault
 use Rattle.cas_record.specs.declared.mark.Mark.{Mark}
 use Rattle.cas_record.specs.declared.mark.Mark.TheVariants.{Begun, Proposed, Voted, Acked, Floor, EraEntered, Ended, Harmed, Told}
@@ -16,45 +16,57 @@ use Rattle.cas_record.specs.declared.operator.OpAnswer.{OpAnswer}
 use Rattle.cas_record.specs.declared.operator.OpAnswer.TheVariants as told
 use Rattle.cas_audit.specs.Spelling.Printing.{call_text, numbers_text, full_answer_text, ballots_text, asked_text, told_text, is_told, has_text, mark_text}
 use Rattle.cas_audit.specs.Spelling.Ranges.{AskedFits, ToldFits, FinishFits, MarkFits}
-use Rattle.cas_audit.specs.Spelling.Reading.{named_at, behind_name, numbered_at, marked_version_at, asked_at, asked_of, finished_at, collected_at, not_in, not_at, told_of, told_by, told_at}
+use Rattle.cas_audit.specs.Spelling.Reading.{named_at, behind_name, numbered_at, marked_version_at, asked_at, asked_of, finished_at, resized_at, collected_at, not_in, not_at, told_of, told_by, told_at}
 use Rattle.cas_audit.specs.Spelling.Reading.{begun_at, proposal_at, acknowledgment_at, voted_at, floor_at, entered_at, ended_at, harmed_at, told_mark_at, mark_of, mark_at, line_mark}
 use Rattle.cas_audit.proofs.Spelling.PartsBack.{number_words, call_words, ballot_words, members_words, key_words, acceptor_read, key_read, ballot_read, u8_read, u32_read, call_read, Last}
 use Rattle.cas_audit.proofs.Spelling.PartsBack.{last, named, stop_again, answer_last, quorum_list, quorum_read}
 use Rattle.cas_audit.proofs.Spelling.TextWords.{word_alone, name, behind, after_blank, after_name}
 
 -- ---- operators
--- what was asked, with what follows it
+-- a name, and two sizes
+sizes_words : (word : Word) (need_prep need_acc : ℕ) → 0 < length word → has_no_blank word ≡ true → need_prep < 2 ^ 32 → need_acc < 2 ^ 32
+    → words_of (word ++ 32 ∷ (decimal need_prep ++ codes " " ++ decimal need_acc)) ≡ word ∷ decimal need_prep ∷ decimal need_acc ∷ []
+sizes_words word need_prep need_acc some whole fits also =
+    named word (decimal need_prep ++ codes " " ++ decimal need_acc) (decimal need_prep ∷ decimal need_acc ∷ []) some whole
+    (after_blank (decimal need_prep) (decimal need_acc) (decimal need_prep ∷ []) (decimal need_acc ∷ []) (number_words need_prep (omega (arith, fits))) (number_words need_acc (omega (arith, also))))
+
+-- the words of what was asked, which are read whatever follows them
 record IsAsk (a : Asked) : Type 0 where
-  pub word : Word
-  pub other : Word
-  pub are : words_of (asked_text a) ≡ word ∷ other ∷ []
-  pub reads : (at : ℕ) (rest : List Word) → asked_at (from at (word ∷ other ∷ rest)) ≡ Ok (a, from (at + 1 + 1) rest)
+  pub words : List Word
+  pub are : words_of (asked_text a) ≡ words
+  pub reads : (at : ℕ) (rest : List Word) → (next : ℕ) × (asked_at (from at (words ++ rest)) ≡ Ok (a, from next rest))
 
 ask_again : (a : Asked) → AskedFits a → IsAsk a
 unfolding asked_at asked_of named_at
 ask_again (asked.Join id) fits = record {
-  word = codes "join";
-  other = decimal id;
+  words = codes "join" ∷ decimal id ∷ [];
   are = named (codes "join") (decimal id) (decimal id ∷ []) (omega arith) refl (number_words id (omega (arith, fits)));
-  reads = λ at rest. rw (acceptor_read id fits (at + 1) rest) refl;
+  reads = λ at rest. (at + 1 + 1, rw (acceptor_read id fits (at + 1) rest) refl);
 }
 ask_again (asked.Leave id) fits = record {
-  word = codes "leave";
-  other = decimal id;
+  words = codes "leave" ∷ decimal id ∷ [];
   are = named (codes "leave") (decimal id) (decimal id ∷ []) (omega arith) refl (number_words id (omega (arith, fits)));
-  reads = λ at rest. rw (acceptor_read id fits (at + 1) rest) refl;
+  reads = λ at rest. (at + 1 + 1, rw (acceptor_read id fits (at + 1) rest) refl);
 }
 ask_again (asked.Collect key) fits = record {
-  word = codes "collect";
-  other = key;
+  words = codes "collect" ∷ key ∷ [];
   are = named (codes "collect") key (key ∷ []) (omega arith) refl (key_words key fits);
-  reads = λ at rest. rw (key_read key fits (at + 1) rest) refl;
+  reads = λ at rest. (at + 1 + 1, rw (key_read key fits (at + 1) rest) refl);
 }
 ask_again (asked.Probe key) fits = record {
-  word = codes "probe";
-  other = key;
+  words = codes "probe" ∷ key ∷ [];
   are = named (codes "probe") key (key ∷ []) (omega arith) refl (key_words key fits);
-  reads = λ at rest. rw (key_read key fits (at + 1) rest) refl;
+  reads = λ at rest. (at + 1 + 1, rw (key_read key fits (at + 1) rest) refl);
+}
+ask_again (asked.Resize need_prep need_acc) fits = record {
+  words = codes "resize" ∷ decimal need_prep ∷ decimal need_acc ∷ [];
+  are = sizes_words (codes "resize") need_prep need_acc (omega arith) refl fits.0 fits.1;
+  reads = λ at rest. (at + 1 + 1 + 1, rw (u32_read need_prep fits.0 (at + 1) (decimal need_acc ∷ rest), u32_read need_acc fits.1 (at + 1 + 1) rest) refl);
+}
+ask_again (asked.Read key) fits = record {
+  words = codes "read" ∷ key ∷ [];
+  are = named (codes "read") key (key ∷ []) (omega arith) refl (key_words key fits);
+  reads = λ at rest. (at + 1 + 1, rw (key_read key fits (at + 1) rest) refl);
 }
 
 abbrev finish_list : ℕ → ℕ → ℕ → List Word
@@ -77,7 +89,7 @@ version_word : (version : ℕ) → version < 2 ^ 64 → IsWord (codes "v" ++ dec
 version_word version fits = let digits = IsWord-decimal version fits in record { some = omega arith; whole = digits.whole }
 
 pub told_last : (a : OpAnswer) → is_told a ≡ true → ToldFits a → Last told_at (told_text a) a
-unfolding told_at told_by told_of behind_name numbered_at collected_at not_at not_in marked_version_at
+unfolding told_at told_by told_of behind_name numbered_at collected_at resized_at not_at not_in marked_version_at
 told_last (told.Joined id era rescanned) written fits =
     last told_at (told_text (told.Joined id era rescanned)) (codes "joined" ∷ finish_list id era rescanned) (told.Joined id era rescanned)
     (finish_words (codes "joined") id era rescanned (named (codes "joined") (decimal id) (decimal id ∷ []) (omega arith) refl (number_words id (omega (arith, fits.0)))) fits)
@@ -86,11 +98,25 @@ told_last (told.Left id era rescanned) written fits =
     last told_at (told_text (told.Left id era rescanned)) (codes "left" ∷ finish_list id era rescanned) (told.Left id era rescanned)
     (finish_words (codes "left") id era rescanned (named (codes "left") (decimal id) (decimal id ∷ []) (omega arith) refl (number_words id (omega (arith, fits.0)))) fits)
     (λ at. (at + 1 + 1 + 1 + 1 + 1 + 1, rw (finish_read id era rescanned fits (at + 1)) refl))
+told_last (told.Resized need_prep need_acc era rescanned) written fits =
+    let counts : List Word = codes "era" ∷ decimal era ∷ codes "rescanned" ∷ decimal rescanned ∷ [] in
+    let head : List ℕ = codes "resized " ++ decimal need_prep ++ codes " " ++ decimal need_acc in
+    last told_at (told_text (told.Resized need_prep need_acc era rescanned)) (codes "resized" ∷ decimal need_prep ∷ decimal need_acc ∷ counts) (told.Resized need_prep need_acc era rescanned)
+    (after_name (head ++ codes " era " ++ decimal era) (decimal rescanned) (codes "rescanned") (codes "resized" ∷ decimal need_prep ∷ decimal need_acc ∷ codes "era" ∷ decimal era ∷ []) (decimal rescanned ∷ [])
+    (name (codes "rescanned") (omega arith) refl)
+    (after_name head (decimal era) (codes "era") (codes "resized" ∷ decimal need_prep ∷ decimal need_acc ∷ []) (decimal era ∷ []) (name (codes "era") (omega arith) refl)
+    (sizes_words (codes "resized") need_prep need_acc (omega arith) refl fits.0 fits.1) (number_words era (omega (arith, fits.2)))) (number_words rescanned (omega (arith, fits.3))))
+    (λ at. (
+      at + 1 + 1 + 1 + 1 + 1 + 1 + 1,
+      rw (u32_read need_prep fits.0 (at + 1) (decimal need_acc ∷ counts), u32_read need_acc fits.1 (at + 1 + 1) counts, u32_read era fits.2 (at + 1 + 1 + 1 + 1) (codes "rescanned" ∷ decimal rescanned ∷ []), u32_read rescanned fits.3 (at + 1 + 1 + 1 + 1 + 1 + 1) []) refl,
+    ))
 told_last (told.Refused fault.AlreadyIn) written fits = λ at. (at + 1 + 1, refl)
 told_last (told.Refused fault.NotIn) written fits = λ at. (at + 1 + 1, refl)
 told_last (told.Refused fault.IdUsed) written fits = λ at. (at + 1 + 1, refl)
 told_last (told.Refused fault.TooMany) written fits = λ at. (at + 1 + 1, refl)
 told_last (told.Refused fault.Last) written fits = λ at. (at + 1, refl)
+told_last (told.Refused fault.BadSize) written fits = λ at. (at + 1 + 1, refl)
+told_last (told.Refused fault.NotMajority) written fits = λ at. (at + 1 + 1, refl)
 told_last (told.Busy era) written fits =
     last told_at (told_text (told.Busy era)) (codes "busy" ∷ decimal era ∷ []) (told.Busy era)
     (named (codes "busy") (decimal era) (decimal era ∷ []) (omega arith) refl (number_words era (omega (arith, fits))))
@@ -207,11 +233,12 @@ mark_again (Harmed caller call true) written fits =
 mark_again (Told asked answer) written fits =
     let ask = ask_again asked fits.0 in
     let answers : List Word = words_of (told_text answer) in
-    let words : words_of (mark_text (Told asked answer)) ≡ codes "told" ∷ ask.word ∷ ask.other ∷ codes "->" ∷ answers =
-    after_name (codes "told " ++ asked_text asked) (told_text answer) (codes "->") (codes "told" ∷ ask.word ∷ ask.other ∷ []) answers (name (codes "->") (omega arith) refl)
-    (named (codes "told") (asked_text asked) (ask.word ∷ ask.other ∷ []) (omega arith) refl ask.are) refl in
-    let a = told_last answer written fits.1 4 in
-    ap (λ (ws : List Word). mark_at (from 0 ws)) words ∙ rw (ask.reads 1 (codes "->" ∷ answers), a.1) refl
+    let words : words_of (mark_text (Told asked answer)) ≡ codes "told" ∷ ask.words ++ codes "->" ∷ answers =
+    after_name (codes "told " ++ asked_text asked) (told_text answer) (codes "->") (codes "told" ∷ ask.words) answers (name (codes "->") (omega arith) refl)
+    (named (codes "told") (asked_text asked) ask.words (omega arith) refl ask.are) refl in
+    let r = ask.reads 1 (codes "->" ∷ answers) in
+    let a = told_last answer written fits.1 (r.0 + 1) in
+    ap (λ (ws : List Word). mark_at (from 0 ws)) words ∙ rw (r.1, a.1) refl
 
 -- what is printed for a mark says it
 pub line_again : {A E : Type 0} (items : A → List ℕ) (result : Result A E) (mark : Mark) → has_text mark ≡ true → IfOk result (λ line. items line ≡ mark_text mark) → IfOk result (λ line. MarkFits mark)

@@ -105,6 +105,8 @@ SpellsAsked words (asked.Join id) = IsPair words (codes "join") (IsAcceptor id)
 SpellsAsked words (asked.Leave id) = IsPair words (codes "leave") (IsAcceptor id)
 SpellsAsked words (asked.Collect key) = (words ≡ codes "collect" ∷ key ∷ []) × IsKey key
 SpellsAsked words (asked.Probe key) = (words ≡ codes "probe" ∷ key ∷ []) × IsKey key
+SpellsAsked words (asked.Resize need_prep need_acc) = (first second : Word) × (words ≡ codes "resize" ∷ first ∷ second ∷ []) × IsNumber 32 need_prep first × IsNumber 32 need_acc second
+SpellsAsked words (asked.Read key) = (words ≡ codes "read" ∷ key ∷ []) × IsKey key
 
 -- a plan of this name is finished: for whom, in which era, and how many keys were proposed anew
 abbrev pub IsFinished : List Word → Word → ℕ → ℕ → ℕ → Type 0
@@ -119,11 +121,16 @@ refusal_words fault.NotIn = codes "not" ∷ codes "in" ∷ []
 refusal_words fault.IdUsed = codes "id" ∷ codes "used" ∷ []
 refusal_words fault.TooMany = codes "too" ∷ codes "many" ∷ []
 refusal_words fault.Last = codes "last" ∷ []
+refusal_words fault.BadSize = codes "bad" ∷ codes "size" ∷ []
+refusal_words fault.NotMajority = codes "not" ∷ codes "majority" ∷ []
 
 -- what an operator is answered; no probe's answer has words, and none says that a change is done
 abbrev pub SpellsTold : List Word → OpAnswer → Type 0
 SpellsTold words (told.Joined id era rescanned) = IsFinished words (codes "joined") id era rescanned
 SpellsTold words (told.Left id era rescanned) = IsFinished words (codes "left") id era rescanned
+SpellsTold words (told.Resized need_prep need_acc era rescanned) =
+    (first second number count : Word) × (words ≡ codes "resized" ∷ first ∷ second ∷ codes "era" ∷ number ∷ codes "rescanned" ∷ count ∷ [])
+    × IsNumber 32 need_prep first × IsNumber 32 need_acc second × IsNumber 32 era number × IsNumber 32 rescanned count
 SpellsTold words (told.Refused reason) = words ≡ refusal_words reason
 SpellsTold words (told.Busy era) = IsPair words (codes "busy") (IsNumber 32 era)
 SpellsTold words (told.Collected key ballot removed kept) =

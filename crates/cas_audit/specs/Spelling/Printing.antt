@@ -57,11 +57,15 @@ asked_text (asked.Join id) = codes "join " ++ decimal id
 asked_text (asked.Leave id) = codes "leave " ++ decimal id
 asked_text (asked.Collect key) = codes "collect " ++ key
 asked_text (asked.Probe key) = codes "probe " ++ key
+asked_text (asked.Resize need_prep need_acc) = codes "resize " ++ decimal need_prep ++ codes " " ++ decimal need_acc
+asked_text (asked.Read key) = codes "read " ++ key
 
 -- what an operator is answered; answers to probes are not written
 abbrev pub told_text : OpAnswer → List ℕ
 told_text (told.Joined id era rescanned) = codes "joined " ++ decimal id ++ codes " era " ++ decimal era ++ codes " rescanned " ++ decimal rescanned
 told_text (told.Left id era rescanned) = codes "left " ++ decimal id ++ codes " era " ++ decimal era ++ codes " rescanned " ++ decimal rescanned
+told_text (told.Resized need_prep need_acc era rescanned) =
+    codes "resized " ++ decimal need_prep ++ codes " " ++ decimal need_acc ++ codes " era " ++ decimal era ++ codes " rescanned " ++ decimal rescanned
 told_text (told.Refused fault) = plan_fault_text fault
 told_text (told.Busy era) = codes "busy " ++ decimal era
 told_text (told.Collected key ballot removed kept) = codes "collected " ++ key ++ codes " at " ++ ballot_text ballot ++ codes " removed " ++ decimal removed ++ codes " kept " ++ decimal kept

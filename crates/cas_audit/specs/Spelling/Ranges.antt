@@ -67,6 +67,8 @@ AskedFits (asked.Join id) = id ≤ 63
 AskedFits (asked.Leave id) = id ≤ 63
 AskedFits (asked.Collect key) = IsKey key
 AskedFits (asked.Probe key) = IsKey key
+AskedFits (asked.Resize need_prep need_acc) = (need_prep < 2 ^ 32) × (need_acc < 2 ^ 32)
+AskedFits (asked.Read key) = IsKey key
 
 -- an acceptor, an era, and a count of keys
 abbrev pub FinishFits : ℕ → ℕ → ℕ → Type 0
@@ -76,6 +78,7 @@ FinishFits id era rescanned = (id ≤ 63) × (era < 2 ^ 32) × (rescanned < 2 ^ 
 abbrev pub ToldFits : OpAnswer → Type 0
 ToldFits (told.Joined id era rescanned) = FinishFits id era rescanned
 ToldFits (told.Left id era rescanned) = FinishFits id era rescanned
+ToldFits (told.Resized need_prep need_acc era rescanned) = (need_prep < 2 ^ 32) × (need_acc < 2 ^ 32) × (era < 2 ^ 32) × (rescanned < 2 ^ 32)
 ToldFits (told.Refused fault) = Unit {0}
 ToldFits (told.Busy era) = era < 2 ^ 32
 ToldFits (told.Collected key ballot removed kept) = IsKey key × BallotFits ballot × (removed < 2 ^ 32) × (kept < 2 ^ 32)

@@ -162,20 +162,24 @@ abbrev pub asked_name : Word → Option AskedName
 asked_name word = if bytes_eq word (codes "join") then Some asks.Join
     else (if bytes_eq word (codes "leave") then Some asks.Leave
     else (if bytes_eq word (codes "collect") then Some asks.Collect
-    else (if bytes_eq word (codes "probe") then Some asks.Probe else None)))
+    else (if bytes_eq word (codes "probe") then Some asks.Probe
+    else (if bytes_eq word (codes "resize") then Some asks.Resize
+    else (if bytes_eq word (codes "read") then Some asks.Read else None)))))
 
 abbrev pub told_name : Word → Option ToldName
 told_name word = if bytes_eq word (codes "joined") then Some tells.Joined
     else (if bytes_eq word (codes "left") then Some tells.Left
+    else (if bytes_eq word (codes "resized") then Some tells.Resized
     else (if bytes_eq word (codes "already") then Some tells.Already
     else (if bytes_eq word (codes "not") then Some tells.Not
     else (if bytes_eq word (codes "id") then Some tells.Id
     else (if bytes_eq word (codes "too") then Some tells.Too
     else (if bytes_eq word (codes "last") then Some tells.Last
+    else (if bytes_eq word (codes "bad") then Some tells.Bad
     else (if bytes_eq word (codes "busy") then Some tells.Busy
     else (if bytes_eq word (codes "collected") then Some tells.Collected
     else (if bytes_eq word (codes "absent") then Some tells.Absent
-    else (if bytes_eq word (codes "proposer") then Some tells.Proposer else None))))))))))
+    else (if bytes_eq word (codes "proposer") then Some tells.Proposer else None))))))))))))
 
 -- whether the acceptor of a harmed frame was down
 abbrev pub harm_name : Word → Option Bool
@@ -258,6 +262,8 @@ asked_of asks.Join left = acceptor_at left >>= λ x. Ok (asked.Join x.0, x.1)
 asked_of asks.Leave left = acceptor_at left >>= λ x. Ok (asked.Leave x.0, x.1)
 asked_of asks.Collect left = key_at left >>= λ x. Ok (asked.Collect x.0, x.1)
 asked_of asks.Probe left = key_at left >>= λ x. Ok (asked.Probe x.0, x.1)
+asked_of asks.Resize left = said_at u32_of left >>= λ x. (said_at u32_of x.1 >>= λ y. Ok (asked.Resize x.0 y.0, y.1))
+asked_of asks.Read left = key_at left >>= λ x. Ok (asked.Read x.0, x.1)
 
 unfoldable pub asked_at : WordsLeft → Read Asked
 asked_at left = do
@@ -272,6 +278,15 @@ finished_at left = do
   rescanned ← numbered_at (codes "rescanned") era.1
   Ok ((id.0, era.0, rescanned.0), rescanned.1)
 
+-- sizes of quorums whose plan is finished, the era and how many keys were proposed anew
+unfoldable pub resized_at : WordsLeft → Read OpAnswer
+resized_at left = do
+  need_prep ← said_at u32_of left
+  need_acc ← said_at u32_of need_prep.1
+  era ← numbered_at (codes "era") need_acc.1
+  rescanned ← numbered_at (codes "rescanned") era.1
+  Ok (told.Resized need_prep.0 need_acc.0 era.0 rescanned.0, rescanned.1)
+
 unfoldable pub collected_at : WordsLeft → Read OpAnswer
 collected_at left = do
   key ← key_at left
@@ -285,7 +300,8 @@ collected_at left = do
 unfoldable pub not_in : ℕ → Word → WordsLeft → Read OpAnswer
 not_in at word behind = if bytes_eq word (codes "in") then Ok (told.Refused fault.NotIn, behind)
     else (if bytes_eq word (codes "empty") then (marked_version_at behind >>= λ x. Ok (told.NotEmpty x.0, x.1))
-    else Err (record { why = why.UnknownWord; word = at }))
+    else (if bytes_eq word (codes "majority") then Ok (told.Refused fault.NotMajority, behind)
+    else Err (record { why = why.UnknownWord; word = at })))
 
 unfoldable pub not_at : WordsLeft → Read OpAnswer
 not_at left = do
@@ -296,11 +312,13 @@ not_at left = do
 unfoldable pub told_of : ToldName → WordsLeft → Read OpAnswer
 told_of tells.Joined left = finished_at left >>= λ x. Ok (told.Joined x.0.0 x.0.1 x.0.2, x.1)
 told_of tells.Left left = finished_at left >>= λ x. Ok (told.Left x.0.0 x.0.1 x.0.2, x.1)
+told_of tells.Resized left = resized_at left
 told_of tells.Already left = behind_name (codes "in") left >>= λ behind. Ok (told.Refused fault.AlreadyIn, behind)
 told_of tells.Not left = not_at left
 told_of tells.Id left = behind_name (codes "used") left >>= λ behind. Ok (told.Refused fault.IdUsed, behind)
 told_of tells.Too left = behind_name (codes "many") left >>= λ behind. Ok (told.Refused fault.TooMany, behind)
 told_of tells.Last left = Ok (told.Refused fault.Last, left)
+told_of tells.Bad left = behind_name (codes "size") left >>= λ behind. Ok (told.Refused fault.BadSize, behind)
 told_of tells.Busy left = said_at u32_of left >>= λ x. Ok (told.Busy x.0, x.1)
 told_of tells.Collected left = collected_at left
 told_of tells.Absent left = acceptor_at left >>= λ x. Ok (told.Absent x.0, x.1)
