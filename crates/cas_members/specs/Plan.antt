@@ -1,11 +1,11 @@
 -- The plans by which acceptors join and leave.
-use Rattle.std.specs.Prelude.{◌≡◌, ⊤, ℕ, ◌+◌, ◌%◌, ◌==◌, nat_le, if◌then◌else◌, List, [], ◌∷◌, ◌++◌, length, All, Option, Result, Ok, Err, option_to_list}
+use Rattle.std.specs.Prelude.{◌≡◌, ⊤, ℕ, suc, ◌+◌, ◌%◌, ◌==◌, ◌&&◌, Bool, nat_le, if◌then◌else◌, List, [], ◌∷◌, ◌++◌, length, All, Option, Result, Ok, Err, option_to_list}
 use Rattle.cas_ballot.specs.Members.{has_member, with_member, without_member}
 use Rattle.cas_quorum.specs.declared.era.Era.{Era}
 use Rattle.cas_quorum.specs.declared.fault.PlanFault.{PlanFault}
-use Rattle.cas_quorum.specs.declared.fault.PlanFault.TheVariants.{AlreadyIn, NotIn, IdUsed, TooMany, Last}
+use Rattle.cas_quorum.specs.declared.fault.PlanFault.TheVariants.{AlreadyIn, NotIn, IdUsed, TooMany, Last, BadSize, NotMajority}
 use Rattle.cas_quorum.specs.Quorum.{majority_of}
-use Rattle.cas_quorum.specs.Era.{era_of_majorities, majority_era, NeighboursMeet}
+use Rattle.cas_quorum.specs.Era.{era_of_majorities, majority_era, sized_era, IsSized, Meet, NeighboursMeet}
 use Rattle.cas_members.specs.declared.plan.TheConstants.{MOST_MEMBERS}
 use Rattle.cas_members.specs.declared.plan.PlanStep.{PlanStep}
 use Rattle.cas_members.specs.declared.plan.PlanStep.TheVariants.{Settle, Enter, Finished}
@@ -30,19 +30,52 @@ leave_steps era id =
     then settle_first era ++ Enter (era_of_majorities (era.number + 1) (without_member era.prep id) era.prep) ∷ Settle ∷ Enter (majority_era (era.number + 2) (without_member era.prep id)) ∷ []
     else (settle_first era ++ Enter (majority_era (era.number + 1) (without_member era.prep id)) ∷ [])
 
+-- each size is the majority of the members
+abbrev pub has_majorities : Era → Bool
+has_majorities era = era.need_prep == majority_of (length era.prep) && era.need_acc == majority_of (length era.prep)
+
 -- a join is refused by the first cause that holds, and is planned by the table otherwise
 abbrev pub join_of : Era → List ℕ → ℕ → Result Progress PlanFault
 join_of era used id =
     if has_member era.prep id then Err AlreadyIn
     else if has_member used id then Err IdUsed
     else if nat_le MOST_MEMBERS (length era.prep) then Err TooMany
-    else Ok (record { era = era; left = join_steps era id })
+    else if has_majorities era then Ok (record { era = era; left = join_steps era id })
+    else Err NotMajority
 
 abbrev pub leave_of : Era → ℕ → Result Progress PlanFault
 leave_of era id =
     if has_member era.prep id
-    then (if nat_le (length era.prep) 1 then Err Last else Ok (record { era = era; left = leave_steps era id }))
+    then (if nat_le (length era.prep) 1 then Err Last
+    else if has_majorities era then Ok (record { era = era; left = leave_steps era id })
+    else Err NotMajority)
     else Err NotIn
+
+-- ---- new sizes
+abbrev pub greater_of : ℕ → ℕ → ℕ
+greater_of a b = if nat_le a b then b else a
+
+-- each size is from 1 to the number of members, and together they are above it
+abbrev pub are_sizes : ℕ → ℕ → ℕ → Bool
+are_sizes members need_prep need_acc =
+    nat_le 1 need_prep && nat_le need_prep members && nat_le 1 need_acc && nat_le need_acc members && nat_le (suc members) (need_prep + need_acc)
+
+-- quorums of these sizes meet those of the era, phase by phase
+abbrev pub meets_sizes : Era → ℕ → ℕ → Bool
+meets_sizes era need_prep need_acc =
+    nat_le (suc (length era.prep)) (need_prep + era.need_acc) && nat_le (suc (length era.prep)) (era.need_prep + need_acc)
+
+-- sizes that meet those of the era come at once, and others behind an era in which each size is the greater of the two
+abbrev pub resize_steps : Era → ℕ → ℕ → List PlanStep
+resize_steps era need_prep need_acc =
+    if meets_sizes era need_prep need_acc
+    then settle_first era ++ Enter (sized_era (era.number + 1) era.prep need_prep need_acc) ∷ []
+    else (settle_first era ++ Enter (sized_era (era.number + 1) era.prep (greater_of era.need_prep need_prep) (greater_of era.need_acc need_acc))
+    ∷ Settle ∷ Enter (sized_era (era.number + 2) era.prep need_prep need_acc) ∷ [])
+
+abbrev pub resize_of : Era → ℕ → ℕ → Result Progress PlanFault
+resize_of era need_prep need_acc =
+    if are_sizes (length era.prep) need_prep need_acc then Ok (record { era = era; left = resize_steps era need_prep need_acc }) else Err BadSize
 
 -- ---- what is next
 abbrev pub next_of : List PlanStep → PlanStep
@@ -55,10 +88,11 @@ IsEnter (Enter era) = ⊤
 IsEnter Finished = ⊥
 
 -- ---- what is true of every plan
--- the sizes are majorities of their sets
-pub record HasMajorities (era : Era) : Type 0 where
-  pub prep : era.need_prep ≡ majority_of (length era.prep)
-  pub acc : era.need_acc ≡ majority_of (length era.acc)
+-- the same members prepare and accept, and their quorums meet
+pub record HasOneSet (era : Era) : Type 0 where
+  pub same : era.acc ≡ era.prep
+  pub sized : IsSized era
+  pub meets : Meet era era
 
 -- in the last era the same members prepare and accept
 abbrev pub EndsWhole : Era → List Era → Type 0
@@ -68,7 +102,7 @@ EndsWhole era (next ∷ later) = EndsWhole next later
 -- from this era on, these eras are entered
 pub record IsLawfulCourse (era : Era) (later : List Era) : Type 0 where
   pub chain : NeighboursMeet (era ∷ later)
-  pub majorities : All HasMajorities later
+  pub sized : All IsSized later
   pub whole : EndsWhole era later
 
 -- the era of the half step, where there is one, and the last
@@ -82,6 +116,7 @@ eras_in (Settle ∷ later) = eras_in later
 eras_in (Enter era ∷ later) = era ∷ eras_in later
 eras_in (Finished ∷ later) = eras_in later
 
--- each era that is left meets itself and the one before it and has majorities, and the last one is whole
+-- each era that is entered meets itself and the one before it, in sizes that its sets have, and in the last one the same members prepare
+-- and accept
 abbrev pub IsLawfulPlan : Progress → Type 0
 IsLawfulPlan plan = IsLawfulCourse plan.era (eras_in plan.left)

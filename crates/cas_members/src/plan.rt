@@ -1,7 +1,7 @@
-ghost use Rattle.std.specs.Prelude.{◌≡◌, ◌≢◌, ◌+◌, ◌<◌, ◌^◌, ◌==◌, ◌∷◌, IfOk, option_to_list};
-ghost use Rattle.cas_quorum.specs.Era.{era_of_majorities, majority_era};
+ghost use Rattle.std.specs.Prelude.{◌≡◌, ◌≢◌, ◌+◌, ◌<◌, ◌^◌, ◌==◌, ◌∷◌, IfOk, length, option_to_list};
+ghost use Rattle.cas_quorum.specs.Era.{era_of_majorities, sized_era};
 ghost use Rattle.cas_members.specs.Steps.{steps_left};
-ghost use Rattle.cas_members.specs.Plan.{IsLawfulCourse, IsLawfulPlan, eras_of, next_of, IsEnter, join_of, leave_of};
+ghost use Rattle.cas_members.specs.Plan.{IsLawfulCourse, IsLawfulPlan, HasOneSet, are_sizes, eras_of, greater_of, has_majorities, meets_sizes, next_of, IsEnter, join_of, leave_of, resize_of};
 
 use cas_ballot::{AcceptorId, Members};
 use cas_quorum::{Era, PlanFault};
@@ -21,10 +21,10 @@ pub enum PlanStep {
     Finished,
 }
 
-/// A change of membership that is under way, seen as the era that was entered last and the steps that are left.
+/// A change of membership or of sizes that is under way, seen as the era that was entered last and the steps that are left.
 ///
-/// In every era that a plan enters, all sizes are majorities of their sets. Each of these eras meets itself and the one
-/// before it, and in the last one the same members prepare and accept.
+/// In every era that a plan enters, each size is from 1 to the number of members of its set. Each of these eras meets itself
+/// and the one before it, and in the last one the same members prepare and accept.
 #[derive(Debug, Drop)]
 pub struct Plan {
     era: Era,
@@ -50,11 +50,14 @@ impl Plan {
     /// With an odd number of members the new one first accepts alone, in an era between, and prepares in the next; with
     /// an even number it does both at once. An era above 0 is settled before it is left.
     ///
-    /// Refused, by the first of these that holds: [`PlanFault::AlreadyIn`] exactly where the acceptor is a member,
-    /// [`PlanFault::IdUsed`] exactly where it is one of `used`, [`PlanFault::TooMany`] exactly where there are
-    /// [`MOST_MEMBERS`].
+    /// Refused, by the first of these that holds:
+    ///
+    /// - [`PlanFault::AlreadyIn`] exactly if the acceptor is a member;
+    /// - [`PlanFault::IdUsed`] exactly if it is one of `used`;
+    /// - [`PlanFault::TooMany`] exactly if there are [`MOST_MEMBERS`];
+    /// - [`PlanFault::NotMajority`] exactly if a size is not the majority of the members.
     pub fn join(era: &Era, used: &Members, id: AcceptorId) -> Result<Plan, PlanFault>
-        requires majorities { era.now ≡ majority_era era.now.number era.now.prep }
+        requires one_set { HasOneSet era.now }
         requires number { era.now.number + 2 < 2 ^ 32 }
         ensures value { result ≡ join_of era.now used.now id }
         ensures lawful { IfOk result IsLawfulPlan }
@@ -68,6 +71,9 @@ impl Plan {
         }
         if members.count() >= MOST_MEMBERS {
             return Err(PlanFault::TooMany);
+        }
+        if !are_majorities(era) {
+            return Err(PlanFault::NotMajority);
         }
         let mut joined = members;
         joined.insert(id);
@@ -85,10 +91,13 @@ impl Plan {
     /// With an even number of members it first accepts alone, in an era between, and then neither; with an odd number it
     /// stops both at once. An era above 0 is settled before it is left.
     ///
-    /// Refused, by the first of these that holds: [`PlanFault::NotIn`] exactly where the acceptor is no member,
-    /// [`PlanFault::Last`] exactly where it is the only one.
+    /// Refused, by the first of these that holds:
+    ///
+    /// - [`PlanFault::NotIn`] exactly if the acceptor is no member;
+    /// - [`PlanFault::Last`] exactly if it is the only one;
+    /// - [`PlanFault::NotMajority`] exactly if a size is not the majority of the members.
     pub fn leave(era: &Era, id: AcceptorId) -> Result<Plan, PlanFault>
-        requires majorities { era.now ≡ majority_era era.now.number era.now.prep }
+        requires one_set { HasOneSet era.now }
         requires number { era.now.number + 2 < 2 ^ 32 }
         ensures value { result ≡ leave_of era.now id }
         ensures lawful { IfOk result IsLawfulPlan }
@@ -100,6 +109,9 @@ impl Plan {
         if members.count() <= 1 {
             return Err(PlanFault::Last);
         }
+        if !are_majorities(era) {
+            return Err(PlanFault::NotMajority);
+        }
         let mut rest = members;
         rest.remove(id);
         if members.count() % 2 == 0 {
@@ -109,6 +121,33 @@ impl Plan {
         } else {
             Ok(Plan::over(era, None, Era::majority(era.number + 1, rest)))
         }
+    }
+
+    /// The plan by which quorums get these sizes (flexible quorums: Howard 2016).
+    ///
+    /// If quorums of these sizes meet those of the era, they come at once. Otherwise an era comes between, in which each
+    /// size is the greater of the old and the new one. An era above 0 is settled before it is left.
+    ///
+    /// Refused: [`PlanFault::BadSize`] exactly if a size is not from 1 to the number of members, or the sizes together are
+    /// not above it.
+    pub fn resize(era: &Era, need_prep: u32, need_acc: u32) -> Result<Plan, PlanFault>
+        requires one_set { HasOneSet era.now }
+        requires number { era.now.number + 2 < 2 ^ 32 }
+        ensures value { result ≡ resize_of era.now need_prep need_acc }
+        ensures lawful { IfOk result IsLawfulPlan }
+    {
+        if !sizes_fit(era.prep.count(), need_prep, need_acc) {
+            return Err(PlanFault::BadSize);
+        }
+        if sizes_meet(era, need_prep, need_acc) {
+            let whole = sized(era.number + 1, era.prep, need_prep, need_acc);
+            return Ok(Plan::over(era, None, whole));
+        }
+        let most_prep = greater(era.need_prep, need_prep);
+        let most_acc = greater(era.need_acc, need_acc);
+        let half = sized(era.number + 1, era.prep, most_prep, most_acc);
+        let whole = sized(era.number + 2, era.prep, need_prep, need_acc);
+        Ok(Plan::over(era, Some(half), whole))
     }
 
     /// The plan from that era over the half step's era, where there is one, to the last.
@@ -187,4 +226,51 @@ fn majorities_of(number: u32, prep: Members, acc: Members) -> Era
         acc,
         need_acc: acc.count() / 2 + 1,
     }
+}
+
+/// The era in which these members prepare and accept, in quorums of these sizes.
+fn sized(number: u32, members: Members, need_prep: u32, need_acc: u32) -> Era
+    ensures { result ≡ sized_era number members need_prep need_acc }
+{
+    Era {
+        number,
+        prep: members,
+        need_prep,
+        acc: members,
+        need_acc,
+    }
+}
+
+/// Whether each size is the majority of the members.
+fn are_majorities(era: &Era) -> bool
+    ensures { result ≡ has_majorities era.now }
+{
+    let majority = era.prep.count() / 2 + 1;
+    era.need_prep == majority && era.need_acc == majority
+}
+
+/// Whether each size is from 1 to the number of members, and together they are above it.
+fn sizes_fit(members: u32, need_prep: u32, need_acc: u32) -> bool
+    ensures { result ≡ are_sizes members need_prep need_acc }
+{
+    1 <= need_prep
+        && need_prep <= members
+        && 1 <= need_acc
+        && need_acc <= members
+        && u64::from(members) < u64::from(need_prep) + u64::from(need_acc)
+}
+
+/// Whether quorums of these sizes meet those of the era.
+fn sizes_meet(era: &Era, need_prep: u32, need_acc: u32) -> bool
+    ensures { result ≡ meets_sizes era.now need_prep need_acc }
+{
+    let members = u64::from(era.prep.count());
+    members < u64::from(need_prep) + u64::from(era.need_acc)
+        && members < u64::from(era.need_prep) + u64::from(need_acc)
+}
+
+fn greater(a: u32, b: u32) -> u32
+    ensures { result ≡ greater_of a b }
+{
+    if a <= b { b } else { a }
 }

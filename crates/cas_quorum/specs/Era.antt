@@ -17,6 +17,16 @@ era_of_majorities number prep acc = record {
 abbrev pub majority_era : ℕ → List ℕ → Era
 majority_era number members = era_of_majorities number members members
 
+-- the era in which these members prepare and accept, in quorums of these sizes
+abbrev pub sized_era : ℕ → List ℕ → ℕ → ℕ → Era
+sized_era number members need_prep need_acc = record {
+  number = number;
+  prep = members;
+  need_prep = need_prep;
+  acc = members;
+  need_acc = need_acc;
+}
+
 -- each size is from 1 to the number of members of its set
 pub record IsSized (era : Era) : Type 0 where
   pub some_prep : 0 < era.need_prep

@@ -105,6 +105,9 @@ fn follow_the_table(rt: HostRuntime) {
                 }
             }
         }
+        if members.count() == 0 {
+            continue;
+        }
         for m in [0, 7] {
             let era = Era::majority(m, members);
             for number in 0..64u8 {
@@ -121,6 +124,61 @@ fn follow_the_table(rt: HostRuntime) {
                     );
                 }
             }
+        }
+    }
+}
+
+/// The era of that number in which these members prepare and accept, in quorums of these sizes.
+fn sized(number: u32, members: Members, (need_prep, need_acc): (u32, u32)) -> Era {
+    Era {
+        number,
+        prep: members,
+        need_prep,
+        acc: members,
+        need_acc,
+    }
+}
+
+#[test]
+fn resize_quorums_of_five(rt: HostRuntime) {
+    let mut members = Members::new();
+    for number in 0..5u8 {
+        if let Some(id) = AcceptorId::new(number) {
+            members.insert(id);
+        }
+    }
+    if members.count() == 0 {
+        return;
+    }
+    // The sizes that are asked for, those of the era between, and whether the plan is there at all.
+    let rows = [
+        ((4, 3), None, true),
+        ((3, 4), None, true),
+        ((3, 3), None, true),
+        ((4, 2), Some((4, 3)), true),
+        ((2, 4), Some((3, 4)), true),
+        ((1, 5), Some((3, 5)), true),
+        ((5, 1), Some((5, 3)), true),
+        ((2, 2), None, false),
+        ((0, 5), None, false),
+        ((5, 0), None, false),
+        ((6, 3), None, false),
+        ((3, 6), None, false),
+        ((2, 3), None, false),
+    ];
+    for m in [0, 7] {
+        let era = Era::majority(m, members);
+        for (sizes, between, there) in rows {
+            let expected = match between {
+                _ if !there => Err(PlanFault::BadSize),
+                Some(most) => {
+                    let half = sized(m + 1, members, most);
+                    Ok(steps_from(m, Some(half), sized(m + 2, members, sizes)))
+                }
+                None => Ok(steps_from(m, None, sized(m + 1, members, sizes))),
+            };
+            let plan = Plan::resize(&era, sizes.0, sizes.1).map(|plan| played(plan));
+            assert!(rt; plan == expected, "{sizes:?} at {m}");
         }
     }
 }
