@@ -47,7 +47,7 @@ use Rattle.cas_model.specs.View.{Meaning, View, CallView, CallerView, IsAt, era_
 use Rattle.cas_model.proofs.Around.{Whole, whole_of, logged, Around, around, around_era, leaves_desk, settles}
 use Rattle.cas_model.proofs.Exchanges.Steps as council
 use Rattle.cas_model.proofs.Eras.CourseSteps.{welcome_course, enters_course}
-use Rattle.cas_model.proofs.Eras.Courses.{AtSettle, course, at_settle, settle_enters, path_settles, course_relisted, course_stepped, follows_sized, leads, era_set, era_kept, stays_on, course_finished, course_entered}
+use Rattle.cas_model.proofs.Eras.Courses.{AtSettle, course, at_settle, settle_enters, path_settles, course_relisted, course_stepped, leads, era_set, era_kept, stays_on, course_finished, course_entered}
 use Rattle.cas_model.proofs.Calls.Draws.{Lasts, lasts}
 use Rattle.cas_model.proofs.Calls.Ends.{IsQuiet, quiet_true}
 use Rattle.cas_protocol.proofs.Events.{keeps as happens}
@@ -234,7 +234,7 @@ restarts_entered {S} {V} m old id plan next now at disks in_base none idle by wi
   logged = logged m at.is.cluster after new whole at.is.logged.agrees.marks;
   course = subst (λ (p : Option PlanView). IsCourseOf at.is.cluster (course old.last_proposer (slice_set old.eras id next) p (entries_in old.marks))) (sym at.is_plan)
       (let on = planned m old id plan next at in
-      record { is_course = stays_on old.last_proposer old.eras plan (entries_in old.marks) id next (λ low. entered at.is_next) (λ low. follows_sized (follows_next m old id plan next at)) on.is_course; later = on.later; none_beyond = on.none_beyond });
+      record { is_course = stays_on old.last_proposer old.eras plan (entries_in old.marks) id next (λ low. entered at.is_next) (λ low. (follows_next m old id plan next at).sized) on.is_course; later = on.later; none_beyond = on.none_beyond });
   in_eras = λ p d at_d. by_place p d at_d (same_or_not p id);
 }
   where
@@ -818,13 +818,13 @@ welcomed {S} {V} m old middle asked shelves disks renewed is by = by_case by
     by_case (plans.starts id acceptor now joins at starts view) = restarted id (step.starts acceptor now at starts view)
     by_case (plans.fails id acceptor now joins at fails view) = restarted id (step.fails acceptor now at fails view)
     by_case (plans.is_up id acceptor joins at up view) = subst (IsFollowed m) (sym view) is
-    by_case (plans.stays id leaves view) = subst (IsFollowed m) (sym view) is
+    by_case (plans.stays joins_none view) = subst (IsFollowed m) (sym view) is
 
 welcome_council : {S V : Type 0} (m : Meaning S V) (old middle : View S V) (asked : Asked) → Welcomes m old asked middle → middle.council ≡ old.council
 welcome_council {S} {V} m old middle asked (plans.starts id acceptor now joins at starts view) = ap (λ (w : View S V). w.council) view
 welcome_council {S} {V} m old middle asked (plans.fails id acceptor now joins at fails view) = ap (λ (w : View S V). w.council) view
 welcome_council {S} {V} m old middle asked (plans.is_up id acceptor joins at up view) = ap (λ (w : View S V). w.council) view
-welcome_council {S} {V} m old middle asked (plans.stays id leaves view) = ap (λ (w : View S V). w.council) view
+welcome_council {S} {V} m old middle asked (plans.stays joins_none view) = ap (λ (w : View S V). w.council) view
 
 opens : {S V : Type 0} (m : Meaning S V) (old : View S V) (new : View S V) → m.shelves.tells → m.disks.tells → AreRenewed m old → IsFollowed m old → StepOpenPlan m old new → IsFollowed m new
 opens {S} {V} m old new shelves disks renewed is by = by_case by.opens

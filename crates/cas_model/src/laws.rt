@@ -2,7 +2,7 @@
 //! the contract of a function that does nothing.
 
 ghost use Rattle.cas_model.specs.View.{meaning};
-ghost use Rattle.cas_model.specs.SafeLaws.{OpeningsAreSafe, OpeningsOnAreSafe, StepsAreSafe, LittleIsReserved, FullForRounds, FullForExchanges, FinishedHaveEntered};
+ghost use Rattle.cas_model.specs.SafeLaws.{OpeningsAreSafe, OpeningsOnAreSafe, StepsAreSafe, LittleIsReserved, FullForRounds, FullForExchanges, FinishedAreAsAsked, FinishedHaveEntered};
 ghost use Rattle.cas_model.specs.Laws.{OpeningsAreRemembered, OpeningsOnAreRemembered, StepsAreRemembered, HistoriesAreLegal, WhatIsDoneIsKept, DonesStand, FloorsArePassed, MembersAreClear};
 ghost use Rattle.cas_model.specs.Collection.Laws.{RequestsAreAged, RemovalsAreDone, CollectedHaveFloors};
 ghost use Rattle.cas_model.specs.Eras.Entering.{ErasAreLawful};
@@ -122,6 +122,11 @@ pub fn full_for_exchanges<S: Shelf, V: Disk>()
 /// Where a change of membership is at its end and the operator is told so, each proposer is marked as having entered the era that is told.
 pub fn finished_changes_are_entered<S: Shelf, V: Disk>()
     ensures { FinishedHaveEntered S V }
+{}
+
+/// And the era in which proposer 0 works is as it was asked for: the acceptor is a member of it, or none, or quorums have the sizes.
+pub fn finished_changes_are_as_asked<S: Shelf, V: Disk>()
+    ensures { FinishedAreAsAsked S V }
 {}
 
 /// There is a history in which a call is Done and the next one is proposed by the promise that rode along. In the one that is shown an

@@ -245,7 +245,7 @@ module _ {S V : Type 0} (m : Meaning S V) (old new : View S V) where
   welcomes asked middle (plans.starts id acceptor now asks_ at by is) = same old middle _ is refl refl (λ u. u)
   welcomes asked middle (plans.fails id acceptor now asks_ at by is) = same old middle _ is refl refl (λ u. u)
   welcomes asked middle (plans.is_up id acceptor asks_ at up is) = same old middle _ is refl refl (λ u. u)
-  welcomes asked middle (plans.stays id asks_ is) = same old middle _ is refl refl (λ u. u)
+  welcomes asked middle (plans.stays joins_none is) = same old middle _ is refl refl (λ u. u)
 
   opens_plan : (asked : Asked) (desk : DeskView V) → plans.OpensPlan m old asked desk new → Adds old new
   opens_plan asked desk (plans.is_down down is) = same old new _ is refl refl (λ u. told_so old.council.order _ tt)

@@ -229,7 +229,7 @@ welcome_renewed : {S V : Type 0} (m : Meaning S V) (old new : View S V) (asked :
 welcome_renewed m old new asked (plans.starts id acceptor now joins at starts is) were = none_moved m old new (collection_of is) (desks_of is) were
 welcome_renewed m old new asked (plans.fails id acceptor now joins at fails is) were = none_moved m old new (collection_of is) (desks_of is) were
 welcome_renewed m old new asked (plans.is_up id acceptor joins at up is) were = none_moved m old new (collection_of is) (desks_of is) were
-welcome_renewed m old new asked (plans.stays id leaves is) were = none_moved m old new (collection_of is) (desks_of is) were
+welcome_renewed m old new asked (plans.stays joins_none is) were = none_moved m old new (collection_of is) (desks_of is) were
 
 plan_renewed : {S V : Type 0} (m : Meaning S V) (old new : View S V) (asked : Asked) (desk : DeskView V) → plans.OpensPlan m old asked desk new → AreRenewed m old → AreRenewed m new
 plan_renewed m old new asked desk (plans.is_down down is) were = none_moved m old new (collection_of is) (desks_of is) were

@@ -395,12 +395,13 @@ welcome_frame : {S V : Type 0} (m : Meaning S V) (old middle : View S V) (of : A
 welcome_frame {S} {V} m old middle of (plans.starts id acceptor now joins at starts view) = ap frame_of view
 welcome_frame {S} {V} m old middle of (plans.fails id acceptor now joins at fails view) = ap frame_of view
 welcome_frame {S} {V} m old middle of (plans.is_up id acceptor joins at up view) = ap frame_of view
-welcome_frame {S} {V} m old middle of (plans.stays id leaves view) = ap frame_of view
+welcome_frame {S} {V} m old middle of (plans.stays joins_none view) = ap frame_of view
 
 -- what a change of membership is planned for is no collection
 planned_apart : (era : Era) (used : List ℕ) (of : Asked) (planned : _) (key : List ℕ) → IsPlanned era used of planned → of ≡ asked.Collect key → ⊥
 planned_apart era used of planned key (plans.joins id is same) other = cc (is, other)
 planned_apart era used of planned key (plans.leaves id is same) other = cc (is, other)
+planned_apart era used of planned key (plans.resizes need_prep need_acc is same) other = cc (is, other)
 
 pub open_collecting : {S V : Type 0} (m : Meaning S V) (old new : View S V) → StepOpenPlan m old new → IsCollectingSafe old → IsCollectingSafe new
 open_collecting {S} {V} m old new by was = in_case by.opens

@@ -377,7 +377,7 @@ ends_collection {S} {V} m old answer new shelves disks is by =
 -- the members of an era in which no change of membership is under way accept in it
 accepts_all : {S V : Type 0} (m : Meaning S V) (view : View S V) (is : IsFollowed m view) → view.council.plan ≡ None → (acceptor : ℕ) → has_member (is.cluster.members (era_at view 0).number) acceptor ≡ true → has_member (era_at view 0).acc acceptor ≡ true
 accepts_all {S} {V} m view is none acceptor member = elim ((is.logged.agrees.eras 0 (omega arith)).only_members acceptor member) [
-  | inl prepares ↦ subst (λ (e : Era). has_member e.acc acceptor ≡ true) (sym settled.whole.majorities) prepares
+  | inl prepares ↦ subst (λ (l : List ℕ). has_member l acceptor ≡ true) (sym settled.whole.one_set.same) prepares
   | inr accepts ↦ accepts
 ]
   where

@@ -103,7 +103,7 @@ pub welcome_course : {S V : Type 0} (m : Meaning S V) (old middle : View S V) (a
 welcome_course m old middle asked (plans.starts id acceptor now joins at starts view) = ap course_of view
 welcome_course m old middle asked (plans.fails id acceptor now joins at fails view) = ap course_of view
 welcome_course m old middle asked (plans.is_up id acceptor joins at up view) = ap course_of view
-welcome_course m old middle asked (plans.stays id leaves view) = ap course_of view
+welcome_course m old middle asked (plans.stays joins_none view) = ap course_of view
 
 open_on : {S V : Type 0} (m : Meaning S V) (old new : View S V) → StepOpenPlan m old new → IsCourse (course_of old) → IsCourse (course_of new)
 open_on {S} {V} m old new by was = by_case by.opens
@@ -116,7 +116,7 @@ open_on {S} {V} m old new by was = by_case by.opens
         let settled = subst (λ (p : Option PlanView). IsCourse (course old.last_proposer old.eras p (entries_in old.marks))) none was in
         let begins = planned_starts (era_at old 0) old.council.used by.order.asked progress settled.under_way.whole planned in
         subst IsCourse (sym (ap course_of view ∙ ap (λ (c : Course). course c.last_proposer c.eras (Some (plans.new_plan by.order.asked progress)) c.entries) (welcome_course m old middle by.order.asked welcomes)))
-        (course_opened old.last_proposer old.eras (entries_in old.marks) by.order.asked progress begins.era begins.start settled)
+        (course_opened old.last_proposer old.eras (entries_in old.marks) by.order.asked progress begins.era begins.start begins.leads settled)
     by_case (plans.no_memory progress middle up none planned welcomes view) = subst IsCourse (sym (ap course_of view ∙ welcome_course m old middle by.order.asked welcomes)) was
 
 -- a proposer enters the next era

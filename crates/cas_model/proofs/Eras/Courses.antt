@@ -8,13 +8,13 @@ use Rattle.cas_members.specs.declared.plan.PlanStep.{PlanStep}
 use Rattle.cas_members.specs.declared.plan.PlanStep.TheVariants.{Settle, Enter, Finished}
 use Rattle.cas_members.specs.Steps.{Progress}
 use Rattle.cas_quorum.specs.declared.era.Era.{Era}
-use Rattle.cas_members.specs.Plan.{HasMajorities, next_of}
+use Rattle.cas_members.specs.Plan.{eras_in, next_of}
 use Rattle.cas_quorum.specs.Era.{IsSized, majority_era}
 use Rattle.cas_record.specs.declared.operator.Asked.{Asked}
 use Rattle.cas_round.proofs.Lists.{has, contains}
 use Rattle.cas_record.proofs.Tests.{nat_same, nat_is}
 use Rattle.cas_model.specs.Council.{ListingView, PlanView, stepped, with_listing}
-use Rattle.cas_model.specs.Eras.Course.{EraEntry, Course, entering, shown_era, era_shown, IsWhole, Follows, IsPath, IsStart, WorksIn, not_yet, entered, IsCourse}
+use Rattle.cas_model.specs.Eras.Course.{EraEntry, Course, IsAskedEra, last_era, entering, shown_era, era_shown, IsWhole, Follows, IsPath, IsStart, WorksIn, not_yet, entered, IsCourse}
 use Rattle.cas_model.specs.Eras.Step.{new_plan, rest_of, plan_after}
 use Rattle.cas_model.specs.View.{era_in}
 use Rattle.cas_model.proofs.Places.{same_or_not, some_is, contains_none, contains_append, contains_front, contains_back}
@@ -56,18 +56,6 @@ leads era next (Settle ∷ left) is start = absurd (cc is)
 leads era next (Finished ∷ left) is start = absurd (cc is)
 
 -- ---- sizes
--- an era with majorities of its members is sized
-majorities_sized : (era : Era) → HasMajorities era → 0 < length era.prep → 0 < length era.acc → IsSized era
-majorities_sized era majorities some_prep some_acc = record {
-  some_prep = omega (arith, majorities.prep);
-  prep = omega (arith, majorities.prep, some_prep);
-  some_acc = omega (arith, majorities.acc);
-  acc = omega (arith, majorities.acc, some_acc);
-}
-
-pub follows_sized : {era next : Era} → Follows era next → IsSized next
-follows_sized {next = next} follows = majorities_sized next follows.majorities follows.some_prep follows.some_acc
-
 -- all eras are sized, also where one is put in a place
 sized_with : (last_proposer : ℕ) (eras : List Era) (id : ℕ) (era : Era) → length eras ≡ 17 → last_proposer ≤ 16 → (id ≤ last_proposer → IsSized era) → ((p : ℕ) → p ≤ last_proposer → IsSized (era_in eras p)) → (p : ℕ) → p ≤ last_proposer → IsSized (era_in (slice_set eras id era) p)
 sized_with last_proposer eras id era places few is were p low = by_place (same_or_not p id)
@@ -81,7 +69,7 @@ pub course_opens : (last_proposer : ℕ) (members : List ℕ) → last_proposer 
 course_opens last_proposer members few whole = record {
   few = few;
   places = refl;
-  sized = λ id low. subst IsSized (sym (first id (omega (arith, low, few)))) (majorities_sized (majority_era 0 members) (record { prep = refl; acc = refl }) whole.some whole.some);
+  sized = λ id low. subst IsSized (sym (first id (omega (arith, low, few)))) whole.one_set.sized;
   under_way = record { same = λ id low. first id (omega (arith, low, few)) ∙ sym (first 0 (omega arith)); whole = subst IsWhole (sym (first 0 (omega arith))) whole };
   entries = record {
     all = λ positive id low. absurd (omega (arith, positive, ap (λ (e : Era). e.number) (first 0 (omega arith))));
@@ -104,6 +92,7 @@ stays_on last_proposer eras plan entries id era works sized was = record {
   sized = sized_with last_proposer eras id era was.places was.few sized was.sized;
   under_way = record {
     start = was.under_way.start;
+    leads = was.under_way.leads;
     some_left = was.under_way.some_left;
     none_entered = was.under_way.none_entered;
     each = λ p low. by_place p low (same_or_not p id);
@@ -134,18 +123,20 @@ course_shown last_proposer eras (Some plan) entries id number was = stays_on las
     sized_next low (Some next) is = by_number (next.number == number)
       where
         by_number : (b : Bool) → IsSized (if b then next else era_in eras id)
-        by_number true = follows_sized (leads plan.progress.era next plan.progress.left is was.under_way.start).follows
+        by_number true = (leads plan.progress.era next plan.progress.left is was.under_way.start).follows.sized
         by_number false = was.sized id low
 
 -- ---- a change of membership
 pub course_opened : (last_proposer : ℕ) (eras : List Era) (entries : List EraEntry) (asked : Asked) (progress : Progress) → progress.era ≡ era_in eras 0 → IsStart progress.era progress.left
+    → IsAskedEra asked (last_era progress.era (eras_in progress.left))
     → IsCourse (course last_proposer eras None entries) → IsCourse (course last_proposer eras (Some (new_plan asked progress)) entries)
-course_opened last_proposer eras entries asked progress from start was = record {
+course_opened last_proposer eras entries asked progress from start ends was = record {
   few = was.few;
   places = was.places;
   sized = was.sized;
   under_way = record {
     start = start;
+    leads = ends;
     some_left = omega arith;
     none_entered = λ none. refl;
     each = λ id low. not_yet (omega arith) (was.under_way.same id low ∙ sym from);
@@ -209,9 +200,10 @@ one_entered : (last_proposer : ℕ) (eras : List Era) (plan : PlanView) (entries
 one_entered last_proposer eras plan entries next is_next more was = record {
   few = was.few;
   places = length-set eras plan.entered next ∙ was.places;
-  sized = sized_with last_proposer eras plan.entered next was.places was.few (λ low. follows_sized leading.follows) was.sized;
+  sized = sized_with last_proposer eras plan.entered next was.places was.few (λ low. leading.follows.sized) was.sized;
   under_way = record {
     start = was.under_way.start;
+    leads = was.under_way.leads;
     some_left = low;
     none_entered = λ none. absurd (cc (none, is_next));
     each = λ p at. by_place p (same_or_not p plan.entered) (λ other. was.under_way.each p at);
@@ -248,6 +240,13 @@ one_entered last_proposer eras plan entries next is_next more was = record {
     by_number id (inl same) under = contains_back entries _ (the_entry (ap (λ (n : ℕ). record { proposer = n; era = suc plan.progress.era.number }) same ∙ ap (λ (n : ℕ). record { proposer = plan.entered; era = n }) (sym leading.follows.number)))
     by_number id (inr other) under = contains_front entries _ (was.entries.led id (omega (arith, under, other)))
 
+-- the change ends where it was to end
+last_behind : (era next : Era) (left : List PlanStep) → entering left ≡ Some next → last_era era (eras_in left) ≡ last_era next (eras_in (rest_of left))
+last_behind era next [] is = absurd (cc is)
+last_behind era next (Enter e ∷ left) is = ap (λ (from : Era). last_era from (eras_in left)) (some_is is)
+last_behind era next (Settle ∷ left) is = absurd (cc is)
+last_behind era next (Finished ∷ left) is = absurd (cc is)
+
 -- where it is the last one, the era is the one that all entered last
 last_entered : (last_proposer : ℕ) (eras : List Era) (plan : PlanView) (entries : List EraEntry) (next : Era) → entering plan.progress.left ≡ Some next → plan.entered ≡ last_proposer
     → IsCourse (course last_proposer eras (Some plan) entries)
@@ -255,9 +254,10 @@ last_entered : (last_proposer : ℕ) (eras : List Era) (plan : PlanView) (entrie
 last_entered last_proposer eras plan entries next is_next last was = record {
   few = was.few;
   places = length-set eras plan.entered next ∙ was.places;
-  sized = sized_with last_proposer eras plan.entered next was.places was.few (λ low. follows_sized leading.follows) was.sized;
+  sized = sized_with last_proposer eras plan.entered next was.places was.few (λ low. leading.follows.sized) was.sized;
   under_way = record {
     start = path_starts next (rest_of plan.progress.left) (omega (arith, leading.follows.number)) leading.path;
+    leads = subst (IsAskedEra plan.asked) (last_behind plan.progress.era next plan.progress.left is_next) was.under_way.leads;
     some_left = omega arith;
     none_entered = λ none. refl;
     each = λ p at. not_yet (omega arith) (by_place p at (same_or_not p plan.entered));
@@ -318,6 +318,13 @@ settle_enters (Settle ∷ left) is = refl
 settle_enters (Enter era ∷ left) is = absurd (cc is)
 settle_enters (Finished ∷ left) is = refl
 
+-- and the change ends where it was to end
+last_settled : (era : Era) (left : List PlanStep) → next_of left ≡ Settle → last_era era (eras_in left) ≡ last_era era (eras_in (drop 1 left))
+last_settled era [] is = absurd (cc is)
+last_settled era (Settle ∷ left) is = refl
+last_settled era (Enter next ∷ left) is = absurd (cc is)
+last_settled era (Finished ∷ left) is = absurd (cc is)
+
 settled_start : (era : Era) (left : List PlanStep) → next_of left ≡ Settle → IsStart era left → (0 < era.number) × IsStart era (drop 1 left)
 settled_start era [] is start = absurd (cc is)
 settled_start era (Settle ∷ []) is start = absurd start
@@ -355,6 +362,7 @@ course_relisted last_proposer eras plan entries count listing was = record {
   sized = was.sized;
   under_way = record {
     start = was.under_way.start;
+    leads = was.under_way.leads;
     some_left = was.under_way.some_left;
     none_entered = was.under_way.none_entered;
     each = λ id low. elim (was.under_way.each id low) [
@@ -376,6 +384,7 @@ course_stepped last_proposer eras plan entries is was =
       sized = was.sized;
       under_way = record {
         start = at.start;
+        leads = subst (IsAskedEra plan.asked) (last_settled plan.progress.era plan.progress.left is) was.under_way.leads;
         some_left = was.under_way.some_left;
         none_entered = λ none. at.none_entered;
         each = λ id low. not_yet (omega (arith, at.none_entered)) (at.in_base id low);

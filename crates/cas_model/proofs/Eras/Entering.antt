@@ -1,7 +1,6 @@
 -- Why proposers may be in the eras that they are in.
-use Rattle.std.proofs.Common.{◌≡◌, ◌<◌, ◌≤◌, ℕ, zero, suc, true, List, ◌++◌, Option, refl, sym, ap, subst, ◌∙◌, inl, inr, arith}
+use Rattle.std.proofs.Common.{◌≡◌, ◌<◌, ◌≤◌, ℕ, zero, suc, true, List, refl, sym, subst, ◌∙◌, inl, inr, arith}
 use Rattle.std.specs.Prelude.{◌⊎◌, reverse}
-use Rattle.cas_ballot.specs.Ballot.{BallotAtMost}
 use Rattle.cas_flow.specs.Flow.{queue_at}
 use Rattle.cas_proposer.specs.Desk.{DeskView}
 use Rattle.cas_quorum.specs.Era.{holds_prep, holds_acc}
@@ -10,11 +9,11 @@ use Rattle.cas_record.specs.declared.mark.Mark.{Mark}
 use Rattle.cas_record.specs.declared.mark.Mark.TheVariants.{EraEntered, Proposed}
 use Rattle.cas_record.specs.declared.mark.Proposal.{Proposal}
 use Rattle.cas_record.specs.Logs.Happening.{Happening, Marked, Entered, marks_of}
-use Rattle.cas_record.specs.Logs.Lawful.{Cluster, Lawful, AllEntered, IsIn, IsCollected, IsRescanned, MayEnter, MayMarkEra}
+use Rattle.cas_record.specs.Logs.Lawful.{Cluster, Lawful, AllEntered, IsIn, MayEnter, MayMarkEra}
 use Rattle.cas_record.specs.Places.{At, Stands}
 use Rattle.cas_record.proofs.Logs.Eras.{before_all_entered, enter_law}
 use Rattle.cas_record.proofs.Logs.Lemmas.{law, mark_at, part_of, stands_in_log}
-use Rattle.cas_record.proofs.PlaceLemmas.{at_part, deeper, stands_deeper, stands_part}
+use Rattle.cas_record.proofs.PlaceLemmas.{at_part, deeper, stands_part}
 use Rattle.cas_protocol.proofs.Proposes.{all_in_low}
 use Rattle.cas_model.specs.History.{IsRemembered}
 use Rattle.cas_model.specs.Parties.{IsDeskTrue}
@@ -24,7 +23,8 @@ use Rattle.cas_model.specs.Step.{Event, Step}
 use Rattle.cas_model.proofs.Collection.Steps.{keeps}
 use Rattle.cas_model.proofs.Safety.Parts.{at_low}
 use Rattle.cas_model.proofs.Safety.Steps.{steps_are_safe}
-use Rattle.cas_model.specs.Eras.Entering.{HaveAllEntered, WasRescannedIn, WasLeftLawfully, AreErasLawful, ErasAreLawful}
+use Rattle.cas_model.specs.SafeLaws.{HaveAllEntered}
+use Rattle.cas_model.specs.Eras.Entering.{WasLeftLawfully, AreErasLawful, ErasAreLawful}
 
 -- all in an era at some time are in it later
 all_later : (cluster : Cluster) (last_proposer era : ℕ) (part marks : List Mark) → cluster.last_proposer ≡ last_proposer

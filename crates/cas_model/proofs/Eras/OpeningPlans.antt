@@ -59,7 +59,7 @@ plan_opened {S} {V} m old asked progress next same_exchange is_plan is_used none
     subst (IsCollectingTrue wider is.logged.global.log) (sym none_collected) tt,
   );
   course = subst (λ (plan : Option PlanView). IsCourseOf wider (course old.last_proposer old.eras plan (entries_in old.marks))) (sym is_plan) (record {
-    is_course = course_opened old.last_proposer old.eras (entries_in old.marks) asked progress begins.era begins.start on.is_course;
+    is_course = course_opened old.last_proposer old.eras (entries_in old.marks) asked progress begins.era begins.start begins.leads on.is_course;
     later = more.has;
     none_beyond = more.none_beyond;
   });
@@ -75,7 +75,7 @@ plan_opened {S} {V} m old asked progress next same_exchange is_plan is_used none
     settled : IsSettled (course old.last_proposer old.eras None (entries_in old.marks))
     settled = on.is_course.under_way
 
-    begins : Begins (era_at old 0) progress
+    begins : Begins asked (era_at old 0) progress
     begins = planned_starts (era_at old 0) used asked progress settled.whole planned
 
     later : List Era

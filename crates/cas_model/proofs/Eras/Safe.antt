@@ -40,7 +40,7 @@ welcome_safe : {S V : Type 0} (m : Meaning S V) (old middle : View S V) (asked :
 welcome_safe m old middle asked was (plans.starts id acceptor now joins at starts view) = restarts_acceptor_safe m old id middle was (step.starts acceptor now at starts view)
 welcome_safe m old middle asked was (plans.fails id acceptor now joins at fails view) = restarts_acceptor_safe m old id middle was (step.fails acceptor now at fails view)
 welcome_safe m old middle asked was (plans.is_up id acceptor joins at up view) = subst IsSound (sym view) was
-welcome_safe m old middle asked was (plans.stays id leaves view) = subst IsSound (sym view) was
+welcome_safe m old middle asked was (plans.stays joins_none view) = subst IsSound (sym view) was
 
 pub open_safe : {S V : Type 0} (m : Meaning S V) (old new : View S V) → IsSound old → StepOpenPlan m old new → IsSound new
 open_safe {S} {V} m old new was by = by_case by.opens

@@ -5,8 +5,8 @@ use Rattle.cas_base.proofs.Bools.{if_true, if_false, or_left, or_right, or_cases
 use Rattle.cas_ballot.specs.Members.{has_member, union_of}
 use Rattle.cas_ballot.proofs.MemberLemmas.{members_where_tells, has-members_where}
 use Rattle.cas_quorum.specs.declared.era.Era.{Era}
-use Rattle.cas_quorum.specs.Era.{holds_prep, holds_acc, IsSized, Meet, NeighboursMeet}
-use Rattle.cas_quorum.specs.Quorum.{majority_of, Shared}
+use Rattle.cas_quorum.specs.Era.{holds_prep, holds_acc, Meet, NeighboursMeet}
+use Rattle.cas_quorum.specs.Quorum.{Shared}
 use Rattle.cas_quorum.proofs.Counting.{quorums_share}
 use Rattle.cas_record.specs.Logs.Lawful.{Cluster, ClusterMeets, IsWidened}
 use Rattle.cas_record.proofs.Tests.{nat_same, nat_is}
@@ -73,17 +73,6 @@ keeps_none cluster next number other none = record {
 }
 
 -- and the era is one of it
-half_fits : (n : ℕ) → 0 < n → majority_of n ≤ n
-half_fits n some = omega (arith, some)
-
-sized_by : (base next : Era) → Follows base next → IsSized next
-sized_by base next follows = record {
-  some_prep = omega (arith, follows.majorities.prep);
-  prep = subst (λ (n : ℕ). n ≤ length next.prep) (sym follows.majorities.prep) (half_fits (length next.prep) follows.some_prep);
-  some_acc = omega (arith, follows.majorities.acc);
-  acc = subst (λ (n : ℕ). n ≤ length next.acc) (sym follows.majorities.acc) (half_fits (length next.acc) follows.some_acc);
-}
-
 has_era : (cluster : Cluster) (base next : Era) → Follows base next → IsEraOf (with_era cluster next) next
 has_era cluster base next follows = record {
   prep_members = λ acceptor member. in_union acceptor (member_low next.prep acceptor follows.prep_set member) (or_left (has_member next.prep acceptor) (has_member next.acc acceptor) member);
@@ -94,7 +83,7 @@ has_era cluster base next follows = record {
   accepts = λ by. own_accepts cluster next next.number by refl;
   prep_set = follows.prep_set;
   acc_set = follows.acc_set;
-  sized = sized_by base next follows;
+  sized = follows.sized;
 }
   where
     in_union : (acceptor : ℕ) → acceptor < 64 → (has_member next.prep acceptor || has_member next.acc acceptor) ≡ true → has_member ((with_era cluster next).members next.number) acceptor ≡ true

@@ -69,6 +69,7 @@ told_few : (asked : Asked) (answer : OpAnswer) → length (told_marks asked answ
 told_few asked (told.Probed key found) = omega arith
 told_few asked (told.Joined id era rescanned) = omega arith
 told_few asked (told.Left id era rescanned) = omega arith
+told_few asked (told.Resized need_prep need_acc era rescanned) = omega arith
 told_few asked (told.Refused fault) = omega arith
 told_few asked (told.Busy era) = omega arith
 told_few asked (told.Collected key ballot removed kept) = omega arith

@@ -181,6 +181,7 @@ told_to {S} {V} m cluster global view asked answer whole = by_case answer
     by_case (told.Probed key found) = record { after = global; whole = whole; marks_are = refl }
     by_case (told.Joined id era rescanned) = marks (told.Joined id era rescanned)
     by_case (told.Left id era rescanned) = marks (told.Left id era rescanned)
+    by_case (told.Resized need_prep need_acc era rescanned) = marks (told.Resized need_prep need_acc era rescanned)
     by_case (told.Refused fault) = marks (told.Refused fault)
     by_case (told.Busy era) = marks (told.Busy era)
     by_case (told.Collected key ballot removed kept) = marks (told.Collected key ballot removed kept)

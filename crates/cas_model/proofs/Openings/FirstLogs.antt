@@ -1,5 +1,5 @@
 -- The log with which a cluster begins: each floor with which a history opens is marked, and each member of the first era takes it.
-use Rattle.std.proofs.Common.{◌≡◌, ℕ, suc, true, false, List, [], ◌∷◌, ◌++◌, refl, sym, ap, subst, ◌∙◌, inl, inr}
+use Rattle.std.proofs.Common.{◌≡◌, ℕ, true, false, List, [], ◌∷◌, ◌++◌, refl, sym, ap, subst, ◌∙◌, inl, inr}
 use Rattle.std.specs.Prelude.{◌⊎◌, ◌==◌, ◌&&◌, not, map, Contains}
 use Rattle.cas_base.proofs.Bools.{if_true, if_false, true_or_false, and_left, both_true, or_left, or_right, or_cases, not_both, not_of_false}
 use Rattle.cas_ballot.specs.declared.ballot.Ballot.{Ballot}
@@ -8,8 +8,7 @@ use Rattle.cas_ballot.specs.Members.{has_member}
 use Rattle.cas_ballot.proofs.BallotLemmas.{at_most_refl, zero_at_most}
 use Rattle.cas_change.specs.declared.state.State.{State}
 use Rattle.cas_change.specs.declared.program.Clause.{Clause}
-use Rattle.cas_round.proofs.Lists.{Has, has, contains}
-use Rattle.cas_slot.specs.Contents.{nothing}
+use Rattle.cas_round.proofs.Lists.{Has, contains}
 use Rattle.cas_record.specs.declared.mark.Mark.{Mark}
 use Rattle.cas_record.specs.declared.mark.Mark.TheVariants.{Floor, Begun}
 use Rattle.cas_record.specs.Histories.Chain.{is_key, is_ballot, has_calls, opens_at, has_opening}

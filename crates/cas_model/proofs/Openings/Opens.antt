@@ -15,6 +15,7 @@ use Rattle.cas_flow.specs.Queue.{QueueView, empty_queue}
 use Rattle.cas_flow.specs.declared.message.Message.{Message}
 use Rattle.cas_proposer.specs.declared.round.Round.{Round}
 use Rattle.cas_quorum.specs.declared.era.Era.{Era}
+use Rattle.cas_members.proofs.PlanLemmas.{majority_one_set}
 use Rattle.cas_quorum.specs.Era.{majority_era, holds_prep, holds_acc}
 use Rattle.cas_quorum.specs.Quorum.{count_in, has_quorum, majority_of}
 use Rattle.cas_quorum.proofs.Counting.{majorities_meet, IsNear-same, quorums_share}
@@ -386,14 +387,14 @@ opening_on_course m members used floors view is = ap (λ (l : List Era). course 
     ∙ ap (course view.last_proposer (replicate 17 (majority_era 0 members)) None) (no_entries floors)
 
 pub is_on_course : {S V : Type 0} (m : Meaning S V) (members used : List ℕ) (floors : List Opening) (view : View S V) → IsOpeningOn m members used floors view → IsCourse (course_of view)
-is_on_course m members used floors view is = subst IsCourse (sym (opening_on_course m members used floors view is)) (course_opens view.last_proposer members is.few (record { majorities = refl; member_set = is.member_set; some = is.some; few = omega (arith, is.few_members, ap (λ (l : List ℕ). length l) (union_within members members is.member_set (IsWithin-same members))) }))
+is_on_course m members used floors view is = subst IsCourse (sym (opening_on_course m members used floors view is)) (course_opens view.last_proposer members is.few (record { one_set = majority_one_set 0 members is.member_set is.some; member_set = is.member_set; some = is.some; few = omega (arith, is.few_members, ap (λ (l : List ℕ). length l) (union_within members members is.member_set (IsWithin-same members))) }))
 
 followed_on : {S V : Type 0} (m : Meaning S V) → m.shelves.tells → m.disks.tells → (members used : List ℕ) (floors : List Opening) (view : View S V) → IsOpeningOn m members used floors view → IsFollowed m view
 followed_on m shelves disks members used floors view is = record {
   cluster = first_cluster view.last_proposer members;
   logged = opening_on_logged m shelves disks members used floors view is;
   course = subst (IsCourseOf (first_cluster view.last_proposer members)) (sym (opening_on_course m members used floors view is)) (record {
-    is_course = course_opens view.last_proposer members is.few (record { majorities = refl; member_set = is.member_set; some = is.some; few = omega (arith, is.few_members, ap (λ (l : List ℕ). length l) (union_within members members is.member_set (IsWithin-same members))) });
+    is_course = course_opens view.last_proposer members is.few (record { one_set = majority_one_set 0 members is.member_set is.some; member_set = is.member_set; some = is.some; few = omega (arith, is.few_members, ap (λ (l : List ℕ). length l) (union_within members members is.member_set (IsWithin-same members))) });
     later = λ era none. absurd (contains_none none);
     none_beyond = λ number beyond. first_alone view.last_proposer members number (omega (arith, beyond));
   });

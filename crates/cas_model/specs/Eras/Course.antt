@@ -1,14 +1,16 @@
 -- The course of a cluster through its eras: which era each proposer works in, the change of membership that is under way, and who was
 -- marked as having entered which era.
-use Rattle.std.specs.Prelude.{◌≡◌, ◌⊎◌, false, ℕ, suc, ◌+◌, ◌<◌, ◌≤◌, ◌==◌, if◌then◌else◌, List, [], ◌∷◌, length, Option, None, Some, Contains}
-use Rattle.cas_ballot.specs.Members.{union_of, IsMemberSet}
+use Rattle.std.specs.Prelude.{◌≡◌, ◌⊎◌, true, false, ℕ, suc, ◌+◌, ◌<◌, ◌≤◌, ◌==◌, if◌then◌else◌, List, [], ◌∷◌, length, Option, None, Some, Contains}
+use Rattle.cas_ballot.specs.Members.{has_member, union_of, IsMemberSet}
 use Rattle.cas_members.specs.declared.plan.PlanStep.{PlanStep}
 use Rattle.cas_members.specs.declared.plan.PlanStep.TheVariants.{Settle, Enter}
-use Rattle.cas_members.specs.Plan.{HasMajorities, eras_in}
+use Rattle.cas_members.specs.Plan.{HasOneSet, eras_in}
 use Rattle.cas_quorum.specs.declared.era.Era.{Era}
-use Rattle.cas_quorum.specs.Era.{IsSized, majority_era}
+use Rattle.cas_quorum.specs.Era.{IsSized}
 use Rattle.cas_record.specs.declared.mark.Mark.{Mark}
 use Rattle.cas_record.specs.declared.mark.Mark.TheVariants.{EraEntered}
+use Rattle.cas_record.specs.declared.operator.Asked.{Asked}
+use Rattle.cas_record.specs.declared.operator.Asked.TheVariants.{Join, Leave, Resize}
 use Rattle.cas_record.specs.Logs.Lawful.{Cluster}
 use Rattle.cas_model.specs.Council.{PlanView}
 use Rattle.cas_model.specs.Parties.{IsEraOf}
@@ -77,21 +79,21 @@ era_shown plan era number = shown_era (next_era plan) era number
 abbrev pub HasFewMembers : Era → Type 0
 HasFewMembers era = length (union_of era.prep era.acc) ≤ 9
 
--- the same members prepare and accept, by majorities
+-- the same members prepare and accept, and their quorums meet
 pub record IsWhole (era : Era) : Type 0 where
-  pub majorities : era ≡ majority_era era.number era.prep
+  pub one_set : HasOneSet era
   pub member_set : IsMemberSet era.prep
   pub some : 0 < length era.prep
   pub few : HasFewMembers era
 
--- it has the next number, and members that prepare and that accept, by majorities
+-- it has the next number, and members that prepare and that accept, in quorums of sizes that they have
 pub record Follows (era next : Era) : Type 0 where
   pub number : next.number ≡ suc era.number
   pub prep_set : IsMemberSet next.prep
   pub acc_set : IsMemberSet next.acc
   pub some_prep : 0 < length next.prep
   pub some_acc : 0 < length next.acc
-  pub majorities : HasMajorities next
+  pub sized : IsSized next
   pub few : HasFewMembers next
 
 -- the steps settle an era, which is not the first, before they enter the one that follows it, and end in one that is whole
@@ -106,6 +108,19 @@ IsStart era [] = (0 < era.number) × IsWhole era
 IsStart era (Enter next ∷ later) = Follows era next × IsPath next later
 IsStart era left = IsPath era left
 
+-- ---- where a change of membership or of sizes ends
+-- the last of the eras that are to be entered, or the one that was
+abbrev pub last_era : Era → List Era → Era
+last_era era [] = era
+last_era era (next ∷ later) = last_era next later
+
+-- it is what was asked for: the acceptor is one of those who prepare, or none of them, or quorums have these sizes
+abbrev pub IsAskedEra : Asked → Era → Type 0
+IsAskedEra (Join id) era = id < 64 → has_member era.prep id ≡ true
+IsAskedEra (Leave id) era = has_member era.prep id ≡ false
+IsAskedEra (Resize need_prep need_acc) era = (era.need_prep ≡ need_prep) × (era.need_acc ≡ need_acc)
+IsAskedEra other era = ⊥
+
 -- ---- what is true of it
 -- with no change under way all proposers work in one era, which is whole
 pub record IsSettled (course : Course) : Type 0 where
@@ -117,9 +132,11 @@ pub data WorksIn (plan : PlanView) (id : ℕ) (era : Era) : Type 0 where
   not_yet : plan.entered ≤ id → era ≡ plan.progress.era → WorksIn plan id era
   entered : entering plan.progress.left ≡ Some era → WorksIn plan id era
 
--- With one, its steps are a path from the era that all entered last. Some proposers may work in the next one, but not all are marked so.
+-- With one, its steps are a path from the era that all entered last to one as it was asked for. Some proposers may work in the next one,
+-- but not all are marked so.
 pub record EraIsMoving (course : Course) (plan : PlanView) : Type 0 where
   pub start : IsStart plan.progress.era plan.progress.left
+  pub leads : IsAskedEra plan.asked (last_era plan.progress.era (eras_in plan.progress.left))
   pub some_left : plan.entered ≤ course.last_proposer
   pub none_entered : entering plan.progress.left ≡ None → plan.entered ≡ 0
   pub each : (id : ℕ) → id ≤ course.last_proposer → WorksIn plan id (era_in course.eras id)

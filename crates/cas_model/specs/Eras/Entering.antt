@@ -1,6 +1,5 @@
 -- Why proposers may be in the eras that they are in.
 use Rattle.std.specs.Prelude.{◌≡◌, ◌⊎◌, ℕ, suc, ◌<◌, ◌≤◌, true, List, reverse}
-use Rattle.cas_ballot.specs.declared.ballot.Ballot.{Ballot}
 use Rattle.cas_quorum.specs.Era.{holds_prep, holds_acc}
 use Rattle.cas_quorum.specs.Quorum.{Shared}
 use Rattle.cas_record.specs.declared.mark.Mark.{Mark}
@@ -11,11 +10,8 @@ use Rattle.cas_record.specs.Logs.Lawful.{IsCollected}
 use Rattle.cas_record.specs.Places.{At, Stands}
 use Rattle.cas_model.specs.History.{IsRemembered}
 use Rattle.cas_model.specs.Safe.{IsSafe}
+use Rattle.cas_model.specs.SafeLaws.{HaveAllEntered}
 use Rattle.cas_model.specs.View.{Meaning, View, era_at}
-
--- all proposers are marked as in the era
-abbrev pub HaveAllEntered : ℕ → ℕ → List Mark → Type 0
-HaveAllEntered last_proposer era marks = (proposer : ℕ) → proposer ≤ last_proposer → Stands (EraEntered proposer era) marks
 
 -- the key was proposed anew in the era, once all proposers had entered it, and that was acknowledged
 pub record WasRescannedIn (last_proposer era : ℕ) (key : List ℕ) (marks : List Mark) : Type 0 where

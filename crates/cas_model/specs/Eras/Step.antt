@@ -1,5 +1,5 @@
 -- How a change of membership begins, and how each proposer enters an era that it leads to.
-use Rattle.std.specs.Prelude.{◌≡◌, ℕ, suc, ◌+◌, ◌<◌, ◌==◌, true, false, if◌then◌else◌, List, [], ◌∷◌, length, Option, None, Some, Result, Ok, Err, slice_set}
+use Rattle.std.specs.Prelude.{◌≡◌, ℕ, suc, Bool, ◌+◌, ◌<◌, ◌==◌, true, false, if◌then◌else◌, List, [], ◌∷◌, length, Option, None, Some, Result, Ok, Err, slice_set}
 use Rattle.cas_base.specs.Faults.{Rose}
 use Rattle.cas_ballot.specs.Members.{with_member}
 use Rattle.cas_acceptor.specs.Acceptor.{AcceptorView}
@@ -7,13 +7,13 @@ use Rattle.cas_proposer.specs.Desk.{DeskView}
 use Rattle.cas_quorum.specs.declared.era.Era.{Era}
 use Rattle.cas_quorum.specs.declared.fault.PlanFault.{PlanFault}
 use Rattle.cas_members.specs.declared.plan.PlanStep.{PlanStep}
-use Rattle.cas_members.specs.Plan.{join_of, leave_of}
+use Rattle.cas_members.specs.Plan.{join_of, leave_of, resize_of}
 use Rattle.cas_members.specs.Steps.{Progress}
 use Rattle.cas_record.specs.declared.answer.Answer.TheVariants as answer
 use Rattle.cas_record.specs.declared.answer.Cause.TheVariants as cause
 use Rattle.cas_record.specs.declared.mark.Mark.TheVariants.{EraEntered}
 use Rattle.cas_record.specs.declared.operator.Asked.{Asked}
-use Rattle.cas_record.specs.declared.operator.Asked.TheVariants.{Join, Leave}
+use Rattle.cas_record.specs.declared.operator.Asked.TheVariants.{Join, Leave, Resize}
 use Rattle.cas_record.specs.declared.operator.OpAnswer.TheVariants as told
 use Rattle.cas_model.specs.Council.{OrderView, PlanView, hushed}
 use Rattle.cas_model.specs.Eras.Course.{next_era}
@@ -29,6 +29,7 @@ use Rattle.cas_model.specs.View.{Meaning, View, CallerView, IsAt, era_at, reserv
 pub data IsPlanned (era : Era) (used : List ℕ) (asked : Asked) (planned : Result Progress PlanFault) : Type 0 where
   joins : (id : ℕ) → asked ≡ Join id → planned ≡ join_of era used id → IsPlanned era used asked planned
   leaves : (id : ℕ) → asked ≡ Leave id → planned ≡ leave_of era id → IsPlanned era used asked planned
+  resizes : (need_prep need_acc : ℕ) → asked ≡ Resize need_prep need_acc → planned ≡ resize_of era need_prep need_acc → IsPlanned era used asked planned
 
 abbrev pub new_plan : Asked → Progress → PlanView
 new_plan asked progress = record { asked = asked; progress = progress; entered = 0; rescanned = 0; listing = None }
@@ -45,12 +46,16 @@ with_plan view plan = with_council view (record (hushed view.council) { plan = p
 abbrev pub opened_plan : {S V : Type 0} → View S V → Asked → Progress → View S V
 opened_plan view asked progress = with_council view (record (hushed view.council) { plan = Some (new_plan asked progress); used = used_with asked view.council.used })
 
--- the shelf of an acceptor that joins is started, or stays down, or was up; one that leaves goes on as it is
+abbrev pub is_join : Asked → Bool
+is_join (Join id) = true
+is_join other = false
+
+-- the shelf of an acceptor that joins is started, or stays down, or was up; with any other change all go on as they are
 pub data Welcomes {S V : Type 0} (m : Meaning S V) (old : View S V) (asked : Asked) (new : View S V) : Type 0 where
   starts : (id : ℕ) (acceptor now : AcceptorView S) → asked ≡ Join id → IsAt old.acceptors id acceptor → StartsShelf m.shelves acceptor now → new ≡ with_acceptor old id now → Welcomes m old asked new
   fails : (id : ℕ) (acceptor now : AcceptorView S) → asked ≡ Join id → IsAt old.acceptors id acceptor → FailsToStart m.shelves acceptor now → new ≡ with_acceptor old id now → Welcomes m old asked new
   is_up : (id : ℕ) (acceptor : AcceptorView S) → asked ≡ Join id → IsAt old.acceptors id acceptor → acceptor.down ≡ false → new ≡ old → Welcomes m old asked new
-  stays : (id : ℕ) → asked ≡ Leave id → new ≡ old → Welcomes m old asked new
+  stays : is_join asked ≡ false → new ≡ old → Welcomes m old asked new
 
 -- The change that the open call asks for begins, or the call is told why not.
 pub data OpensPlan {S V : Type 0} (m : Meaning S V) (old : View S V) (asked : Asked) (desk : DeskView V) (new : View S V) : Type 0 where

@@ -74,6 +74,7 @@ SaysTheSame said answer = said ≡ answer
 abbrev pub finished : Asked → ℕ → ℕ → OpAnswer → Type 0
 finished (asked.Join id) era rescanned answer = answer ≡ told.Joined id era rescanned
 finished (asked.Leave id) era rescanned answer = answer ≡ told.Left id era rescanned
+finished (asked.Resize need_prep need_acc) era rescanned answer = answer ≡ told.Resized need_prep need_acc era rescanned
 finished other era rescanned answer = ⊥
 
 pub record IsFinishedBy (council : Council) (order : OrderView) (answer : OpAnswer) : Type 0 where

@@ -221,7 +221,7 @@ welcome_passes : {S V : Type 0} (m : Meaning S V) (old new : View S V) (id : ℕ
 welcome_passes {S} {V} m old new id asked (plans.starts acceptor was now joins at starts is) = passes_same old new id (ap (λ (w : View S V). w.desks) is)
 welcome_passes {S} {V} m old new id asked (plans.fails acceptor was now joins at fails is) = passes_same old new id (ap (λ (w : View S V). w.desks) is)
 welcome_passes {S} {V} m old new id asked (plans.is_up acceptor was joins at up is) = passes_same old new id (ap (λ (w : View S V). w.desks) is)
-welcome_passes {S} {V} m old new id asked (plans.stays acceptor leaves is) = passes_same old new id (ap (λ (w : View S V). w.desks) is)
+welcome_passes {S} {V} m old new id asked (plans.stays joins_none is) = passes_same old new id (ap (λ (w : View S V). w.desks) is)
 
 plan_passes : {S V : Type 0} (m : Meaning S V) (old new : View S V) (id : ℕ) → StepOpenPlan m old new → Something old new id
 plan_passes {S} {V} m old new id by = in_case by.opens

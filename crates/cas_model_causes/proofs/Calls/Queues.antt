@@ -298,7 +298,7 @@ pub welcome_stays : {S V : Type 0} (m : Meaning S V) (old new : View S V) (id : 
 welcome_stays {S} {V} m old new id asked (plans.starts acceptor was now joins at starts is) = stays_same old new id (ap (λ (w : View S V). w.flow) is) (ap (λ (w : View S V). w.callers) is)
 welcome_stays {S} {V} m old new id asked (plans.fails acceptor was now joins at fails is) = stays_same old new id (ap (λ (w : View S V). w.flow) is) (ap (λ (w : View S V). w.callers) is)
 welcome_stays {S} {V} m old new id asked (plans.is_up acceptor was joins at up is) = stays_same old new id (ap (λ (w : View S V). w.flow) is) (ap (λ (w : View S V). w.callers) is)
-welcome_stays {S} {V} m old new id asked (plans.stays acceptor leaves is) = stays_same old new id (ap (λ (w : View S V). w.flow) is) (ap (λ (w : View S V). w.callers) is)
+welcome_stays {S} {V} m old new id asked (plans.stays joins_none is) = stays_same old new id (ap (λ (w : View S V). w.flow) is) (ap (λ (w : View S V). w.callers) is)
 
 pub plan_stays : {S V : Type 0} (m : Meaning S V) (old new : View S V) (id : ℕ) → StepOpenPlan m old new → Stays old new id
 plan_stays {S} {V} m old new id by = in_case by.opens

@@ -54,6 +54,7 @@ module _ (proposers : ℕ) where
   passing_so : (answer : OpAnswer) (marks : List Mark) → IsPassing answer → IsSo proposers answer marks
   passing_so (told.Joined id era rescanned) marks passing = absurd passing
   passing_so (told.Left id era rescanned) marks passing = absurd passing
+  passing_so (told.Resized need_prep need_acc era rescanned) marks passing = absurd passing
   passing_so (told.Refused fault) marks passing = tt
   passing_so (told.Busy era) marks passing = tt
   passing_so (told.Collected key ballot removed kept) marks passing = absurd passing
@@ -69,6 +70,7 @@ same_passing : (said answer : OpAnswer) → SaysTheSame said answer → IsPassin
 same_passing (told.Probed key found) (told.Probed other seen) says passing = tt
 same_passing (told.Probed key found) (told.Joined id era rescanned) says passing = absurd (cc says)
 same_passing (told.Probed key found) (told.Left id era rescanned) says passing = absurd (cc says)
+same_passing (told.Probed key found) (told.Resized need_prep need_acc era rescanned) says passing = absurd (cc says)
 same_passing (told.Probed key found) (told.Refused fault) says passing = tt
 same_passing (told.Probed key found) (told.Busy era) says passing = tt
 same_passing (told.Probed key found) (told.Collected k ballot removed kept) says passing = absurd (cc says)
@@ -78,6 +80,7 @@ same_passing (told.Probed key found) (told.ProposerDown proposer) says passing =
 same_passing (told.Probed key found) (told.Stopped why) says passing = tt
 same_passing (told.Joined id era rescanned) answer says passing = absurd passing
 same_passing (told.Left id era rescanned) answer says passing = absurd passing
+same_passing (told.Resized need_prep need_acc era rescanned) answer says passing = absurd passing
 same_passing (told.Refused fault) answer says passing = subst IsPassing says tt
 same_passing (told.Busy era) answer says passing = subst IsPassing says tt
 same_passing (told.Collected key ballot removed kept) answer says passing = absurd passing
@@ -91,6 +94,7 @@ told_more : (marks : List Mark) (asks : Asked) (answer : OpAnswer) → (told_mar
 told_more marks asks (told.Probed key found) = inl refl
 told_more marks asks (told.Joined id era rescanned) = inr refl
 told_more marks asks (told.Left id era rescanned) = inr refl
+told_more marks asks (told.Resized need_prep need_acc era rescanned) = inr refl
 told_more marks asks (told.Refused fault) = inr refl
 told_more marks asks (told.Busy era) = inr refl
 told_more marks asks (told.Collected key ballot removed kept) = inr refl
@@ -134,8 +138,11 @@ module _ {S V : Type 0} (m : Meaning S V) (old new : View S V) (were : TellingsA
       subst (λ (a : OpAnswer). IsSo P a (reverse old.marks)) (sym is) (all_moved era (subst (λ (a : OpAnswer). HaveEnteredIts old.last_proposer a (reverse old.marks)) is entered))
   finished_so (asked.Leave id) answer era rescanned is entered =
       subst (λ (a : OpAnswer). IsSo P a (reverse old.marks)) (sym is) (all_moved era (subst (λ (a : OpAnswer). HaveEnteredIts old.last_proposer a (reverse old.marks)) is entered))
+  finished_so (asked.Resize need_prep need_acc) answer era rescanned is entered =
+      subst (λ (a : OpAnswer). IsSo P a (reverse old.marks)) (sym is) (all_moved era (subst (λ (a : OpAnswer). HaveEnteredIts old.last_proposer a (reverse old.marks)) is entered))
   finished_so (asked.Collect key) answer era rescanned is entered = absurd is
   finished_so (asked.Probe key) answer era rescanned is entered = absurd is
+  finished_so (asked.Read key) answer era rescanned is entered = absurd is
 
   told_then : (answer : OpAnswer) → IsSafe old → IsRemembered m old → StepTell old answer new → TellingsAreTrue new
   told_then answer safe remembered (council.tells order said is_open was says is) =

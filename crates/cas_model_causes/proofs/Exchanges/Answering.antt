@@ -162,7 +162,7 @@ welcome_same : {S V : Type 0} (m : Meaning S V) (old new : View S V) (asked : As
 welcome_same m old new asked (plans.starts id acceptor now joins at starts is) = alike old _ new is refl refl
 welcome_same m old new asked (plans.fails id acceptor now joins at fails is) = alike old _ new is refl refl
 welcome_same m old new asked (plans.is_up id acceptor joins at up is) = alike old old new is refl refl
-welcome_same m old new asked (plans.stays id leaves is) = alike old old new is refl refl
+welcome_same m old new asked (plans.stays joins_none is) = alike old old new is refl refl
 
 pub open_same : {S V : Type 0} (m : Meaning S V) (old new : View S V) → StepOpenPlan m old new → IsUntouched old new
 open_same {S} {V} m old new by = by_case by.opens

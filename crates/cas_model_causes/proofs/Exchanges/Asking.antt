@@ -157,8 +157,10 @@ asked_none old new plans none was = record {
 -- a probe is no change of membership
 no_change : (of : Asked) (key : List ℕ) → IsProbeOf of key → is_change of ≡ true → ⊥
 no_change (asked.Probe k) key is_for change = cc change
+no_change (asked.Read k) key is_for change = cc change
 no_change (asked.Join id) key is_for change = is_for
 no_change (asked.Leave id) key is_for change = is_for
+no_change (asked.Resize need_prep need_acc) key is_for change = is_for
 no_change (asked.Collect k) key is_for change = is_for
 
 ask_asked : {S V : Type 0} (m : Meaning S V) (old new : View S V) (question : Question) → everyone new ≡ everyone old → council.StepAskAll m old question new → IsAsked old → IsAsked new
@@ -269,12 +271,13 @@ tell_asked {S} {V} old new told by was = by_case by
 planned_change : (era : Era) (used : List ℕ) (of : Asked) {planned : Result Progress PlanFault} → plans.IsPlanned era used of planned → is_change of ≡ true
 planned_change era used of (plans.joins id is planned_is) = ap is_change is
 planned_change era used of (plans.leaves id is planned_is) = ap is_change is
+planned_change era used of (plans.resizes need_prep need_acc is planned_is) = ap is_change is
 
 welcome_council : {S V : Type 0} (m : Meaning S V) (old new : View S V) (of : Asked) → plans.Welcomes m old of new → new.council ≡ old.council
 welcome_council {S} {V} m old new of (plans.starts id acceptor now joins at starts view) = ap (λ (w : View S V). w.council) view
 welcome_council {S} {V} m old new of (plans.fails id acceptor now joins at fails view) = ap (λ (w : View S V). w.council) view
 welcome_council {S} {V} m old new of (plans.is_up id acceptor joins at up view) = ap (λ (w : View S V). w.council) view
-welcome_council {S} {V} m old new of (plans.stays id leaves view) = ap (λ (w : View S V). w.council) view
+welcome_council {S} {V} m old new of (plans.stays joins_none view) = ap (λ (w : View S V). w.council) view
 
 open_asked : {S V : Type 0} (m : Meaning S V) (old new : View S V) → everyone new ≡ everyone old → plans.StepOpenPlan m old new → IsAsked old → IsAsked new
 open_asked {S} {V} m old new same by was = by_case by.opens

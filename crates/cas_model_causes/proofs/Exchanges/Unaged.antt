@@ -387,7 +387,7 @@ module _ {S V : Type 0} (m : Meaning S V) (shelves : m.shelves.tells) (P : ℕ �
   welcome_steps old new (plans.starts id acceptor now joins at starts is) was = to _ new is (record { acceptors = put old id acceptor now at (starts_within P of m.shelves shelves acceptor now starts) was; flows = was.flows })
   welcome_steps old new (plans.fails id acceptor now joins at fails is) was = to _ new is (record { acceptors = put old id acceptor now at (fails_within P of m.shelves shelves acceptor now fails) was; flows = was.flows })
   welcome_steps old new (plans.is_up id acceptor joins at up is) was = to old new is was
-  welcome_steps old new (plans.stays id leaves is) was = to old new is was
+  welcome_steps old new (plans.stays joins_none is) was = to old new is was
 
   open_steps : (old new : View S V) → plans.StepOpenPlan m old new → AreWithin m P old → AreWithin m P new
   open_steps old new by was = in_case by.opens

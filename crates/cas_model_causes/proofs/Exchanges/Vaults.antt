@@ -191,7 +191,7 @@ module _ {S V : Type 0} (m : Meaning S V) (tells : m.disks.tells) where
   welcome_kept old new (plans.starts id acceptor now joins at starts is) = ap (λ (w : View S V). w.desks) is
   welcome_kept old new (plans.fails id acceptor now joins at fails is) = ap (λ (w : View S V). w.desks) is
   welcome_kept old new (plans.is_up id acceptor joins at up is) = ap (λ (w : View S V). w.desks) is
-  welcome_kept old new (plans.stays id leaves is) = ap (λ (w : View S V). w.desks) is
+  welcome_kept old new (plans.stays joins_none is) = ap (λ (w : View S V). w.desks) is
 
   open_kept : (old new : View S V) → plans.StepOpenPlan m old new → Kept old new
   open_kept old new by = in_case by.opens

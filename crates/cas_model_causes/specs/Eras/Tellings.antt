@@ -22,6 +22,7 @@ HaveAllMoved proposers era marks = (proposer : ℕ) → proposer < proposers →
 abbrev pub IsSo : ℕ → OpAnswer → List Mark → Type 0
 IsSo proposers (told.Joined id era rescanned) marks = HaveAllMoved proposers era marks
 IsSo proposers (told.Left id era rescanned) marks = HaveAllMoved proposers era marks
+IsSo proposers (told.Resized need_prep need_acc era rescanned) marks = HaveAllMoved proposers era marks
 IsSo proposers (told.Collected key ballot removed kept) marks = Stands (Floor key ballot Empty) marks
 IsSo proposers other marks = ⊤
 
@@ -34,6 +35,7 @@ pub record AreTellingsSo (proposers : ℕ) (marks : List Mark) : Type 0 where
 abbrev pub IsPassing : OpAnswer → Type 0
 IsPassing (told.Joined id era rescanned) = ⊥
 IsPassing (told.Left id era rescanned) = ⊥
+IsPassing (told.Resized need_prep need_acc era rescanned) = ⊥
 IsPassing (told.Collected key ballot removed kept) = ⊥
 IsPassing other = ⊤
 

@@ -39,6 +39,7 @@ IsUnled course = (plan : PlanView) → course.plan ≡ Some plan → plan.entere
 abbrev pub is_change : Asked → Bool
 is_change (asked.Join id) = true
 is_change (asked.Leave id) = true
+is_change (asked.Resize need_prep need_acc) = true
 is_change other = false
 
 -- the open call asked what is kept of the key
