@@ -215,6 +215,7 @@ pub silent_since : {A : Type 0} (most harms : ℕ) (old new : Sitting A Mark) (t
 silent_since most harms old new (op.Probed key found) more few = omega (arith, few, more)
 silent_since most harms old new (op.Joined id era rescanned) more few = tt
 silent_since most harms old new (op.Left id era rescanned) more few = tt
+silent_since most harms old new (op.Resized need_prep need_acc era rescanned) more few = tt
 silent_since most harms old new (op.Refused fault) more few = tt
 silent_since most harms old new (op.Busy era) more few = tt
 silent_since most harms old new (op.Collected key ballot removed kept) more few = tt
@@ -228,6 +229,7 @@ pub silent_before : {A : Type 0} (harms : ℕ) (first old new : Sitting A Mark) 
 silent_before harms first old new (op.Probed key found) fewer few = omega (arith, few, fewer)
 silent_before harms first old new (op.Joined id era rescanned) fewer few = tt
 silent_before harms first old new (op.Left id era rescanned) fewer few = tt
+silent_before harms first old new (op.Resized need_prep need_acc era rescanned) fewer few = tt
 silent_before harms first old new (op.Refused fault) fewer few = tt
 silent_before harms first old new (op.Busy era) fewer few = tt
 silent_before harms first old new (op.Collected key ballot removed kept) fewer few = tt
@@ -263,6 +265,7 @@ pub true_among : (more fewer all : List Mark) (told : OpAnswer) → ((x : Mark) 
 true_among more fewer all (op.Probed key found) each is = (is.0, λ place one t at tells. among_fewer (reverse all) more fewer key one.acceptor t each (is.1 place one t at tells), is.2)
 true_among more fewer all (op.Joined id era rescanned) each is = tt
 true_among more fewer all (op.Left id era rescanned) each is = tt
+true_among more fewer all (op.Resized need_prep need_acc era rescanned) each is = tt
 true_among more fewer all (op.Refused fault) each is = tt
 true_among more fewer all (op.Busy era) each is = tt
 true_among more fewer all (op.Collected key ballot removed kept) each is = tt

@@ -39,6 +39,8 @@ asked_part (asked.Join id) = 0 ∷ id ∷ []
 asked_part (asked.Leave id) = 1 ∷ id ∷ []
 asked_part (asked.Collect key) = 2 ∷ key
 asked_part (asked.Probe key) = 3 ∷ key
+asked_part (asked.Resize need_prep need_acc) = 4 ∷ need_prep ∷ need_acc ∷ []
+asked_part (asked.Read key) = 5 ∷ key
 
 abbrev pub question_part : Question → List ℕ
 question_part (Probe key) = 0 ∷ key

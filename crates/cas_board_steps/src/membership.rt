@@ -174,24 +174,8 @@ fn finish<S: Shelf, V: Disk>(world: &mut SteadyWorld<S, V>, aim: &Aim) -> OpAnsw
         IsPlanMark 0 world.old world.new result }
     ensures answer { IsMembersAnswer (asked_to aim.now.kind aim.now.id) result }
 {
-    let answer = finished(world, aim);
+    let answer = world.finished_answer(aim.kind, aim.id);
     world.tell(answer)
-}
-
-/// What the operator is told at the end of the change.
-fn finished<S: Shelf, V: Disk>(world: &SteadyWorld<S, V>, aim: &Aim) -> OpAnswer
-    requires under_way { IsUnderWay world.now (asked_to aim.now.kind aim.now.id) }
-    requires end { IsAtEnd world.now }
-    ensures finished { HasFinished world.now result }
-    ensures answer { IsMembersAnswer (asked_to aim.now.kind aim.now.id) result }
-{
-    let id = aim.id;
-    let era = world.era().number;
-    let rescanned = world.rescanned();
-    match aim.kind {
-        PlanKind::Join => OpAnswer::Joined { id, era, rescanned },
-        PlanKind::Leave => OpAnswer::Left { id, era, rescanned },
-    }
 }
 
 /// Begins a call of caller 0 that proposes the key anew, which is due. An `Err` is what the operator was told, and its call is over.

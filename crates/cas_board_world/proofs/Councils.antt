@@ -49,6 +49,7 @@ says_blame said answer same = ap blame_by_op same
 finished_nobody : (of : Asked) (era rescanned : ℕ) (answer : OpAnswer) → finished of era rescanned answer → blame_by_op answer ≡ Nobody
 finished_nobody (asked.Join id) era rescanned answer is = ap blame_by_op is
 finished_nobody (asked.Leave id) era rescanned answer is = ap blame_by_op is
+finished_nobody (asked.Resize need_prep need_acc) era rescanned answer is = ap blame_by_op is
 finished_nobody of era rescanned answer none = absurd none
 
 marks_fair : {S V : Type 0} (m : Meaning S V) (acceptors : List (AcceptorView S)) (desks : List (DeskView V)) (of : Asked) (answer : OpAnswer) → IsFair m acceptors desks (blame_by_op answer) → (mark : Mark) → Contains (told_marks of answer) mark → IsFair m acceptors desks (blame_by mark)

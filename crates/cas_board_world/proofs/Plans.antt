@@ -46,13 +46,13 @@ welcome_blamed {S} {V} m old middle of is (plans.fails id acceptor now joins at 
       | inr unused ↦ inr (ap (λ (a : AcceptorView S). a.started) by.acceptor ∙ unused.0, unused.1)
     ]))
 welcome_blamed {S} {V} m old middle of is (plans.is_up id acceptor joins at up view) = subst (IsBlamed m) (sym view) is
-welcome_blamed {S} {V} m old middle of is (plans.stays id leaves view) = subst (IsBlamed m) (sym view) is
+welcome_blamed {S} {V} m old middle of is (plans.stays joins_none view) = subst (IsBlamed m) (sym view) is
 
 welcome_council : {S V : Type 0} (m : Meaning S V) (old middle : View S V) (of : Asked) → Welcomes m old of middle → middle.council ≡ old.council
 welcome_council {S} {V} m old middle of (plans.starts id acceptor now joins at by view) = ap (λ (v : View S V). v.council) view
 welcome_council {S} {V} m old middle of (plans.fails id acceptor now joins at by view) = ap (λ (v : View S V). v.council) view
 welcome_council {S} {V} m old middle of (plans.is_up id acceptor joins at up view) = ap (λ (v : View S V). v.council) view
-welcome_council {S} {V} m old middle of (plans.stays id leaves view) = ap (λ (v : View S V). v.council) view
+welcome_council {S} {V} m old middle of (plans.stays joins_none view) = ap (λ (v : View S V). v.council) view
 
 abbrev joined_of : Asked → ℕ
 joined_of (asked.Join id) = id
@@ -73,7 +73,7 @@ joined_failed {S} {V} m old middle of id acceptor (plans.is_up other was joins a
     let same : other ≡ id = ap joined_of (sym joins ∙ is_join) in
     let is : was ≡ acceptor = at_one old.acceptors id (subst (λ (n : ℕ). IsAt old.acceptors n was) same at) (subst (λ (v : View S V). IsAt v.acceptors id acceptor) view there) in
     absurd (cc (sym up ∙ ap (λ (a : AcceptorView S). a.down) is ∙ down))
-joined_failed {S} {V} m old middle of id acceptor (plans.stays other leaves view) faulted is_join there fresh down = absurd (cc (sym leaves ∙ is_join))
+joined_failed {S} {V} m old middle of id acceptor (plans.stays joins_none view) faulted is_join there fresh down = absurd (cc (sym joins_none ∙ ap plans.is_join is_join))
 
 -- ---- who was a member then
 used_more : (of : Asked) (used : List ℕ) (acceptor : ℕ) → IsMemberSet used → has_member used acceptor ≡ true → has_member (used_with of used) acceptor ≡ true

@@ -4,6 +4,7 @@ ghost use Rattle.std.specs.Prelude.{◌≡◌, ◌<◌, ◌≤◌, slice_get, op
 ghost use Rattle.cas_world_calls.specs.Council.{due_in};
 ghost use Rattle.cas_model_causes.specs.Eras.Tellings.{AreTellingsSo};
 ghost use Rattle.cas_model.specs.Collection.State.{tomb_of};
+ghost use Rattle.cas_model.specs.Exchanges.Step.{finished};
 ghost use Rattle.cas_model.specs.View.{CallerView, IsAt, era_at};
 ghost use Rattle.cas_flow.specs.Flow.{queue_at};
 ghost use Rattle.cas_flow.specs.Message.{head_of};
@@ -12,7 +13,7 @@ ghost use Rattle.cas_proposer.specs.Round.{is_preparing};
 ghost use Rattle.cas_record.specs.Legal.{IsLegal};
 ghost use Rattle.cas_world.specs.Collection.Collect.{renewal_in};
 ghost use Rattle.cas_world.specs.Exchanges.Exchange.{place_of};
-ghost use Rattle.cas_world.specs.Eras.Plans.{IsFor, IsAtEnd, IsPartial, step_of, rescanned_of, entrant_of};
+ghost use Rattle.cas_world.specs.Eras.Plans.{HasFinished, IsFor, IsAtEnd, IsPartial, IsUnderWay, asked_to, step_of, rescanned_of, entrant_of};
 ghost use Rattle.cas_world.specs.Readers.{next_number, closed_in, IsVerdictIn};
 
 use crate::world::SteadyWorld;
@@ -22,9 +23,10 @@ use cas_disk::Disk;
 use cas_fate::Leg;
 use cas_members::PlanStep;
 use cas_quorum::Era;
-use cas_record::{Answer, Asked, Record};
+use cas_record::{Answer, Asked, OpAnswer, Record};
 use cas_round::RoundVerdict;
 use cas_slot::Shelf;
+use cas_world::PlanKind;
 
 impl<S: Shelf, V: Disk> SteadyWorld<S, V> {
     /// As [`World::record`]. What the operator was told of changes of membership and of collections is so in it.
@@ -117,6 +119,17 @@ impl<S: Shelf, V: Disk> SteadyWorld<S, V> {
         ensures { result ≡ rescanned_of self.now.council.plan }
     {
         self.world.rescanned()
+    }
+
+    /// As [`World::finished_answer`].
+    pub fn finished_answer(&self, kind: PlanKind, id: AcceptorId) -> OpAnswer
+        requires under_way { IsUnderWay self.now (asked_to kind id) }
+        requires end { IsAtEnd self.now }
+        ensures finished { HasFinished self.now result }
+        ensures names { finished (asked_to kind id) (era_at self.now 0).number
+            (rescanned_of self.now.council.plan) result }
+    {
+        self.world.finished_answer(kind, id)
     }
 
     /// As [`World::enter_next`].

@@ -8,14 +8,14 @@ ghost use Rattle.cas_flow.specs.declared.message.Message.TheVariants as message;
 ghost use Rattle.cas_model.specs.Council.{exchange_place};
 ghost use Rattle.cas_model.specs.Step.{Step, Order as Orders, RefuseOrder, Tell, AskAll, TurnExchange, RefuseTurnExchange, Gather};
 ghost use Rattle.cas_model.specs.Frames.Step.{FindsNoRoom};
-ghost use Rattle.cas_model.specs.View.{meaning, reserved_in_all, disk_meaning};
+ghost use Rattle.cas_model.specs.View.{era_at, meaning, reserved_in_all, disk_meaning};
 ghost use Rattle.cas_ballot.specs.Ballot.{FitsBallot};
 ghost use Rattle.cas_model.specs.Calls.Step.{Sends};
 ghost use Rattle.cas_model.specs.Exchanges.Step.{new_exchange, questions_to, told_marks, HasTag};
 ghost use Rattle.cas_world_calls.specs.Council.{exchange_view, question_view, left_to_list};
 ghost use Rattle.cas_world.specs.Exchanges.Exchange.{MayAskMembers, MayAskThis, MayGather, MayGatherMembers, HasGathered, asking_of, gathering_of, WasToldOrder, IsAsked, OpensExchange, FailsToAsk, FailsToTag, question_in, question_from, asked_from, begins_with};
 ghost use Rattle.cas_model.specs.Collection.Laws.{HasItsFloor};
-ghost use Rattle.cas_model.specs.SafeLaws.{HaveEnteredIts};
+ghost use Rattle.cas_model.specs.SafeLaws.{HaveEnteredIts, IsEraTold};
 ghost use Rattle.cas_world.specs.Collection.Collect.{AreRemovalsDone};
 ghost use Rattle.cas_world.specs.Eras.Plans.{HasCollectedAll, HasFinished, MayTell};
 
@@ -84,11 +84,13 @@ impl<S: Shelf, V: Disk> World<S, V> {
     }
 
     /// Ends the operator's call: with the answer that its last step told; or, where that told nothing and the change of membership that
-    /// was asked for is at its end, with [`OpAnswer::Joined`] or [`OpAnswer::Left`], and the change is no longer under way then; or, where the
+    /// was asked for is at its end, with [`OpAnswer::Joined`], [`OpAnswer::Left`] or [`OpAnswer::Resized`], and the change is no longer under
+    /// way then; or, where the
     /// collection that was asked for is at its end, with [`OpAnswer::Collected`]. It is marked, but for what a probe found, and handed back.
     /// An exchange that is open is over, and its frames join the late ones; so is a collection, and a listing that is not complete is
     /// dropped. It takes no memory. A key that is told to be collected has its tombstone as a floor, with the empty state; and each proposer
-    /// has entered the era that is told of a join or a leave.
+    /// has entered the era that is told of a join, a leave or a resize. That is the era in which proposer 0 works: the acceptor is one of
+    /// those who prepare in it, or none of them, or its quorums have the sizes that are told.
     pub fn tell(&mut self, answer: OpAnswer) -> OpAnswer
         requires { MayTell self.old answer }
         ensures same { result ≡ answer }
@@ -97,6 +99,7 @@ impl<S: Shelf, V: Disk> World<S, V> {
             → HasCollectedAll self.old answer → HasItsFloor answer (reverse self.old.marks) }
         ensures entered { HasFinished self.old answer
             → HaveEnteredIts self.old.last_proposer answer (reverse self.old.marks) }
+        ensures as_asked { HasFinished self.old answer → IsEraTold answer (era_at self.new 0) }
     {
         self.flow.abandon(EXCHANGE_PLACE);
         let EndedOrder {

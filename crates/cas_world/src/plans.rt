@@ -2,21 +2,21 @@
 
 ghost use Rattle.std.specs.Prelude.{◌≡◌, ◌⊎◌, ◌↔◌, ◌+◌, ◌^◌, ◌<◌, ◌≤◌, true, false, Some, option_copied, IsTrue, is_some, IsSome, IsSomeAnd, IfSome, IsErrOf, IfErr, IfNone, IfOk, OnErr, OnOk};
 ghost use Rattle.cas_flow.specs.Flow.{abandoned};
-ghost use Rattle.cas_quorum.specs.Era.{majority_era};
+ghost use Rattle.cas_members.specs.Plan.{HasOneSet};
 ghost use Rattle.cas_model.specs.Council.{OrderView};
 ghost use Rattle.cas_model.specs.Eras.Course.{entering};
 ghost use Rattle.cas_model.specs.Eras.Entering.{AreErasLawful};
 ghost use Rattle.cas_model.specs.Step.{Step, RefuseKey, OpenPlan as OpensPlan, EnterEra as EntersNext};
 ghost use Rattle.cas_model.specs.Calls.Desks.{EntersEra, FailsToEnter};
-ghost use Rattle.cas_model.specs.Exchanges.Step.{told_view};
+ghost use Rattle.cas_model.specs.Exchanges.Step.{finished, told_view};
 ghost use Rattle.cas_model.specs.Eras.Step.{FailsByFaults, Welcomes, used_with};
-ghost use Rattle.cas_model.specs.View.{meaning, disk_meaning};
+ghost use Rattle.cas_model.specs.View.{era_at, meaning, disk_meaning};
 ghost use Rattle.cas_world_calls.specs.Answers.{is_plain, crash_answer, moved_answer};
 ghost use Rattle.cas_world_calls.specs.Call.{over};
 ghost use Rattle.cas_world_calls.specs.Council.{council_view, due_in};
 ghost use Rattle.cas_world.specs.Exchanges.Exchange.{WasToldOrder};
 ghost use Rattle.cas_world.specs.Eras.Moving.{LeavesDesk, Stays, MarksMove, closed_with};
-ghost use Rattle.cas_world.specs.Eras.Plans.{asked_to, planned_by, IsFor, IsUnderWay, IsAtEnd, IsPartial, MayOpenPlan, MayEnterNext, step_of, rescanned_of, entrant_of};
+ghost use Rattle.cas_world.specs.Eras.Plans.{asked_of, asked_to, planned_of, HasFinished, IsFor, IsUnderWay, IsAtEnd, IsPartial, MayOpenPlan, MayEnterNext, step_of, rescanned_of, entrant_of};
 
 use crate::world::World;
 use cas_ballot::{AcceptorId, Members};
@@ -55,15 +55,59 @@ impl PlanKind {
         }
     }
 
-    /// The plan by which the acceptor joins or leaves from this era on, or why there is none.
-    fn plan(self, era: &Era, used: &Members, id: AcceptorId) -> Result<Plan, PlanFault>
-        requires majorities { era.now ≡ majority_era era.now.number era.now.prep }
-        requires number { era.now.number + 2 < 2 ^ 32 }
-        ensures { result ≡ planned_by self era.now used.now id }
+    /// Where a plan is to lead by which the acceptor joins or leaves.
+    fn target(self, id: AcceptorId) -> Target
+        ensures { asked_of result ≡ asked_to self id }
     {
         match self {
-            PlanKind::Join => Plan::join(era, used, id),
-            PlanKind::Leave => Plan::leave(era, id),
+            PlanKind::Join => Target::Join(id),
+            PlanKind::Leave => Target::Leave(id),
+        }
+    }
+}
+
+/// Where a plan is to lead.
+#[derive(Clone, Copy)]
+enum Target {
+    /// The acceptor is a member.
+    Join(AcceptorId),
+    /// The acceptor is none.
+    Leave(AcceptorId),
+    /// Quorums have these sizes.
+    Resize { need_prep: u32, need_acc: u32 },
+}
+
+impl Target {
+    /// What an operator asks for who wants to get there.
+    fn asked(&self) -> Asked
+        ensures { result ≡ asked_of self.now }
+    {
+        match self {
+            Target::Join(id) => Asked::Join(*id),
+            Target::Leave(id) => Asked::Leave(*id),
+            Target::Resize {
+                need_prep,
+                need_acc,
+            } => Asked::Resize {
+                need_prep: *need_prep,
+                need_acc: *need_acc,
+            },
+        }
+    }
+
+    /// The plan that leads there from this era on, or why there is none.
+    fn plan(&self, era: &Era, used: &Members) -> Result<Plan, PlanFault>
+        requires one_set { HasOneSet era.now }
+        requires number { era.now.number + 2 < 2 ^ 32 }
+        ensures { result ≡ planned_of self.now era.now used.now }
+    {
+        match self {
+            Target::Join(id) => Plan::join(era, used, *id),
+            Target::Leave(id) => Plan::leave(era, *id),
+            Target::Resize {
+                need_prep,
+                need_acc,
+            } => Plan::resize(era, *need_prep, *need_acc),
         }
     }
 }
@@ -97,6 +141,23 @@ impl<S: Shelf, V: Disk> World<S, V> {
         match &self.council.plan {
             Some(plan) => plan.rescanned,
             None => 0,
+        }
+    }
+
+    /// What the operator is told at the end of the change of membership that is under way: the era that all work in, and how many keys were
+    /// proposed anew.
+    pub fn finished_answer(&self, kind: PlanKind, id: AcceptorId) -> OpAnswer
+        requires under_way { IsUnderWay self.now (asked_to kind id) }
+        requires end { IsAtEnd self.now }
+        ensures finished { HasFinished self.now result }
+        ensures names { finished (asked_to kind id) (era_at self.now 0).number
+            (rescanned_of self.now.council.plan) result }
+    {
+        let era = self.era().number;
+        let rescanned = self.rescanned();
+        match kind {
+            PlanKind::Join => OpAnswer::Joined { id, era, rescanned },
+            PlanKind::Leave => OpAnswer::Left { id, era, rescanned },
         }
     }
 
@@ -156,6 +217,31 @@ impl<S: Shelf, V: Disk> World<S, V> {
         ensures ok { OnOk result (IsUnderWay self.new (asked_to kind id)) }
         ensures err { IfErr result (WasToldOrder self.new) }
     {
+        self.begin_change(&kind.target(id))
+    }
+
+    /// The change of sizes begins for which the operator's call was opened: quorums are to have these sizes. No acceptor joins or leaves.
+    ///
+    /// The refusals are those of [`World::open_plan`], in the same order. After each of them no change has begun.
+    pub fn open_resize(&mut self, need_prep: u32, need_acc: u32) -> Result<(), OpAnswer>
+        requires { MayOpenPlan self.old (Asked.Resize need_prep need_acc) }
+        ensures step { Step (meaning S.Shelf V.Disk) self.old OpensPlan self.new }
+        ensures ok { OnOk result (IsUnderWay self.new (Asked.Resize need_prep need_acc)) }
+        ensures err { IfErr result (WasToldOrder self.new) }
+    {
+        self.begin_change(&Target::Resize {
+            need_prep,
+            need_acc,
+        })
+    }
+
+    /// The change begins that leads there, as [`World::open_plan`] and [`World::open_resize`] say.
+    fn begin_change(&mut self, target: &Target) -> Result<(), OpAnswer>
+        requires { MayOpenPlan self.old (asked_of target.now) }
+        ensures step { Step (meaning S.Shelf V.Disk) self.old OpensPlan self.new }
+        ensures ok { OnOk result (IsUnderWay self.new (asked_of target.now)) }
+        ensures err { IfErr result (WasToldOrder self.new) }
+    {
         if self.desks[0].is_down() {
             return Err(self.refuse(OpAnswer::Stopped(Answer::Down)));
         }
@@ -164,32 +250,33 @@ impl<S: Shelf, V: Disk> World<S, V> {
             return Err(self.refuse(OpAnswer::Busy { era }));
         }
         let members = self.council.used;
-        let plan = match kind.plan(self.era(), &members, id) {
+        let plan = match target.plan(self.era(), &members) {
             Ok(plan) => plan,
             Err(fault) => return Err(self.refuse(OpAnswer::Refused(fault))),
         };
-        let Ok(used) = self.welcome(kind, id) else {
+        let Ok(used) = self.welcome(target) else {
             return Err(self.refuse(no_memory()));
         };
-        let opened = OpenPlan::new(kind.asked(id), plan);
+        let opened = OpenPlan::new(target.asked(), plan);
         self.council.begin_plan(opened, used);
         Ok(())
     }
 
-    /// The shelf of an acceptor that joins is started, or stays down by a fault; one that leaves goes on as it is. Answers who is a member
-    /// then, beside those that were.
-    fn welcome(&mut self, kind: PlanKind, id: AcceptorId) -> Result<Members, AllocError>
-        ensures welcomes { Welcomes (meaning S.Shelf V.Disk) self.old (asked_to kind id) self.new }
+    /// The shelf of an acceptor that joins is started, or stays down by a fault; with any other change all go on as they are. Answers who is
+    /// a member then, beside those that were.
+    fn welcome(&mut self, target: &Target) -> Result<Members, AllocError>
+        ensures welcomes { Welcomes (meaning S.Shelf V.Disk)
+            self.old (asked_of target.now) self.new }
         ensures used { IfOk result
-            (λ used. used ≡ used_with (asked_to kind id) self.old.council.used) }
+            (λ used. used ≡ used_with (asked_of target.now) self.old.council.used) }
         ensures faulted { OnOk result
-            (FailsByFaults (meaning S.Shelf V.Disk) self.old (asked_to kind id) self.new) }
+            (FailsByFaults (meaning S.Shelf V.Disk) self.old (asked_of target.now) self.new) }
     {
         let mut used = self.council.used;
-        match kind {
-            PlanKind::Join => {
-                used.insert(id);
-                match self.restart_acceptor(id) {
+        match target {
+            Target::Join(id) => {
+                used.insert(*id);
+                match self.restart_acceptor(*id) {
                     Ok(()) => Ok(used),
                     Err(fault) => match fault {
                         ShelfFault::NoMemory => Err(AllocError),
@@ -197,7 +284,8 @@ impl<S: Shelf, V: Disk> World<S, V> {
                     },
                 }
             }
-            PlanKind::Leave => Ok(used),
+            Target::Leave(_) => Ok(used),
+            Target::Resize { .. } => Ok(used),
         }
     }
 

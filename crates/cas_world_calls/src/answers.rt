@@ -125,6 +125,17 @@ pub fn copy_of_op(answer: &OpAnswer) -> OpAnswer
             era: *era,
             rescanned: *rescanned,
         },
+        OpAnswer::Resized {
+            need_prep,
+            need_acc,
+            era,
+            rescanned,
+        } => OpAnswer::Resized {
+            need_prep: *need_prep,
+            need_acc: *need_acc,
+            era: *era,
+            rescanned: *rescanned,
+        },
         OpAnswer::Refused(fault) => OpAnswer::Refused(*fault),
         OpAnswer::Busy { era } => OpAnswer::Busy { era: *era },
         OpAnswer::ProposerDown { proposer } => OpAnswer::ProposerDown {

@@ -58,8 +58,10 @@ module _ (tells : Type 0) (all later : List Mark) (begins : Begins all later) (t
   answers_later : (earlier own : List Mark) (asked : Asked) (answered : OpAnswer) → AnswersOrder tells all n earlier own asked answered → AnswersOrder tells later n earlier own asked answered
   answers_later earlier own (ask.Join id) answered is = is
   answers_later earlier own (ask.Leave id) answered is = is
+  answers_later earlier own (ask.Resize need_prep need_acc) answered is = is
   answers_later earlier own (ask.Collect key) answered is = is
   answers_later earlier own (ask.Probe key) answered is = (is.0, found_later is.1)
+  answers_later earlier own (ask.Read key) answered is = absurd is
 
   answered_later : {earlier : List Mark} {asked : Task} {told : Told} {own : List Mark} → TaskIsAnswered tells all tries n earlier asked told own → TaskIsAnswered tells later tries n earlier asked told own
   answered_later (is_change change) = is_change (changed_longer (length all) (length later) tries n _ _ _ _ (length_begins all later begins) change)
@@ -83,6 +85,7 @@ silent_own {V} old new (op.Probed key found) own operator goes few =
     omega (arith, few, made, length-append (mine 0 old.seen) own)
 silent_own old new (op.Joined id era rescanned) own operator goes few = tt
 silent_own old new (op.Left id era rescanned) own operator goes few = tt
+silent_own old new (op.Resized need_prep need_acc era rescanned) own operator goes few = tt
 silent_own old new (op.Refused fault) own operator goes few = tt
 silent_own old new (op.Busy era) own operator goes few = tt
 silent_own old new (op.Collected key ballot removed kept) own operator goes few = tt

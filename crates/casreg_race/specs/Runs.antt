@@ -53,8 +53,10 @@ pub data ChangeIsAnswered (made tries n : ℕ) (key : List ℕ) (program : List 
 abbrev pub IsOrderMark : ℕ → Asked → Mark → Type 0
 IsOrderMark tries (ask.Join id) = IsRescanMark tries
 IsOrderMark tries (ask.Leave id) = IsRescanMark tries
+IsOrderMark tries (ask.Resize need_prep need_acc) = IsRescanMark tries
 IsOrderMark tries (ask.Collect key) = IsCollectingMark key tries
 IsOrderMark tries (ask.Probe key) = IsAskingHarm
+IsOrderMark tries (ask.Read key) = IsAskingHarm
 
 -- In such a record, the operator's marks of one call: such marks, and last the one that bears what was asked and what was answered; what a probe found is not
 -- marked. Or there is none, and the call was refused before it was begun.
@@ -79,8 +81,10 @@ pub record ProbeIsTrue (tells : Type 0) (all : List Mark) (n : ℕ) (earlier own
 abbrev pub AnswersOrder : Type 0 → List Mark → ℕ → List Mark → List Mark → Asked → OpAnswer → Type 0
 AnswersOrder tells all n earlier own (ask.Join id) answered = IsMembersAnswer (ask.Join id) answered
 AnswersOrder tells all n earlier own (ask.Leave id) answered = IsMembersAnswer (ask.Leave id) answered
+AnswersOrder tells all n earlier own (ask.Resize need_prep need_acc) answered = IsMembersAnswer (ask.Resize need_prep need_acc) answered
 AnswersOrder tells all n earlier own (ask.Collect key) answered = IsCollectAnswer key answered
 AnswersOrder tells all n earlier own (ask.Probe key) answered = ((members : List ℕ) × IsMemberSet members × IsProbeAnswer key members answered) × ProbeIsTrue tells all n earlier own answered
+AnswersOrder tells all n earlier own (ask.Read key) answered = ⊥
 
 -- the caller's marks of one task, with what it was answered, in a record with these marks
 pub data TaskIsAnswered (tells : Type 0) (all : List Mark) (tries n : ℕ) (earlier : List Mark) : Task → Told → List Mark → Type 0 where

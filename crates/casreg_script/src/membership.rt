@@ -64,20 +64,6 @@ pub fn change_members<S: Shelf, V: Disk>(
     }
 }
 
-/// What the operator is told at the end of the change: the era that all work in, and how many keys were proposed anew.
-fn finished<S: Shelf, V: Disk>(world: &World<S, V>, kind: PlanKind, id: AcceptorId) -> OpAnswer
-    requires under_way { IsUnderWay world.now (asked_to kind id) }
-    requires end { IsAtEnd world.now }
-    ensures { HasFinished world.now result }
-{
-    let era = world.era().number;
-    let rescanned = world.rescanned();
-    match kind {
-        PlanKind::Join => OpAnswer::Joined { id, era, rescanned },
-        PlanKind::Leave => OpAnswer::Left { id, era, rescanned },
-    }
-}
-
 /// Opens the change unless it is open, and takes its steps up to the end. Gives what the operator is told.
 fn carry_out<S: Shelf, V: Disk>(
     world: &mut World<S, V>,
@@ -104,7 +90,7 @@ fn carry_out<S: Shelf, V: Disk>(
         return told;
     }
     match advance(world, network, halt, tries, program) {
-        Ok(()) => finished(world, kind, id),
+        Ok(()) => world.finished_answer(kind, id),
         Err(told) => told,
     }
 }

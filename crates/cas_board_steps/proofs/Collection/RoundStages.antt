@@ -50,6 +50,7 @@ unstopped (op.ProposerDown proposer) other = refl
 unstopped (op.Probed key found) other = refl
 unstopped (op.Joined id era rescanned) other = refl
 unstopped (op.Left id era rescanned) other = refl
+unstopped (op.Resized need_prep need_acc era rescanned) other = refl
 unstopped (op.Refused fault) other = refl
 
 pub refused_was_told : {S V : Type 0} (view : View S V) (call : ℕ) (refusal : OpAnswer) → IsRefusedBurial view call refusal → leaves_no_call refusal ≡ true → WasToldOrder view refusal

@@ -116,6 +116,7 @@ answers_same key (op.Stopped why) told is same = subst (IsCollectAnswer key) sam
 answers_same key (op.Probed other found) told is same = absurd is
 answers_same key (op.Joined id era rescanned) told is same = absurd is
 answers_same key (op.Left id era rescanned) told is same = absurd is
+answers_same key (op.Resized need_prep need_acc era rescanned) told is same = absurd is
 answers_same key (op.Refused fault) told is same = absurd is
 
 -- a call on the world leaves all callers' calls, and the operator is told such an answer

@@ -85,6 +85,7 @@ told_undone : (asks : Asked) (told : OpAnswer) → done_calls (told_marks asks t
 told_undone asks (op.Probed key found) = refl
 told_undone asks (op.Joined id era rescanned) = refl
 told_undone asks (op.Left id era rescanned) = refl
+told_undone asks (op.Resized need_prep need_acc era rescanned) = refl
 told_undone asks (op.Refused fault) = refl
 told_undone asks (op.Busy era) = refl
 told_undone asks (op.Collected key ballot removed kept) = refl
@@ -158,8 +159,10 @@ rescans_count old new key told due (calls.is_none not is) = absurd (not due)
 unfinished : (asks : Asked) (era rescanned : ℕ) (told : OpAnswer) → council.finished asks era rescanned told → IsPassing told → ⊥
 unfinished (asked.Join id) era rescanned told is passing = subst IsPassing is passing
 unfinished (asked.Leave id) era rescanned told is passing = subst IsPassing is passing
+unfinished (asked.Resize need_prep need_acc) era rescanned told is passing = subst IsPassing is passing
 unfinished (asked.Collect key) era rescanned told is passing = is
 unfinished (asked.Probe key) era rescanned told is passing = is
+unfinished (asked.Read key) era rescanned told is passing = is
 
 told_plan : {S V : Type 0} (mid new : View S V) (told : OpAnswer) → StepTell mid told new → IsPassing told → rescanned_of new.council.plan ≡ rescanned_of mid.council.plan
 told_plan {S} {V} mid new told (council.tells order said is_open was says is) passing = ap (λ (w : View S V). rescanned_of w.council.plan) is ∙ rested_same mid.council.plan
@@ -169,6 +172,7 @@ told_plan {S} {V} mid new told (council.collects order is_open by is) passing = 
 passing_counts : {S V : Type 0} (old new : View S V) (told : OpAnswer) → IsPassing told → CountsTo (rescanned_of new.council.plan) old new → TellsCount told old new
 passing_counts old new (op.Joined id era rescanned) passing counts = absurd passing
 passing_counts old new (op.Left id era rescanned) passing counts = absurd passing
+passing_counts old new (op.Resized need_prep need_acc era rescanned) passing counts = absurd passing
 passing_counts old new (op.Collected key ballot removed kept) passing counts = absurd passing
 passing_counts old new (op.Refused fault) passing counts = (counts, tt)
 passing_counts old new (op.Busy era) passing counts = (counts, tt)
@@ -206,8 +210,10 @@ module _ {S V : Type 0} (asks : Asked) (told : OpAnswer) (order : OrderView) (mi
       by_asked : (a : Asked) → council.finished a by.plan.progress.era.number by.plan.rescanned told → TellsCount told mid new
       by_asked (asked.Join id) is = subst (λ (t : OpAnswer). TellsCount t mid new) (sym is) (none_left by.plan.rescanned refl, ended ends (λ other collected. cc (sym is ∙ collected.tells)))
       by_asked (asked.Leave id) is = subst (λ (t : OpAnswer). TellsCount t mid new) (sym is) (none_left by.plan.rescanned refl, ended ends (λ other collected. cc (sym is ∙ collected.tells)))
+      by_asked (asked.Resize need_prep need_acc) is = subst (λ (t : OpAnswer). TellsCount t mid new) (sym is) (none_left by.plan.rescanned refl, ended ends (λ other collected. cc (sym is ∙ collected.tells)))
       by_asked (asked.Collect key) is = absurd is
       by_asked (asked.Probe key) is = absurd is
+      by_asked (asked.Read key) is = absurd is
 
 -- what is told of no change of membership leaves what one has counted
 pub lasts_told : {S V : Type 0} (mid new : View S V) (asks : Asked) (told : OpAnswer) (order : OrderView) → mid.council.order ≡ Some order → order.asked ≡ asks → ((era rescanned : ℕ) → council.finished asks era rescanned told → ⊥) → StepTell mid told new → rescanned_of new.council.plan ≡ rescanned_of mid.council.plan

@@ -16,6 +16,7 @@ use Rattle.cas_record.specs.declared.answer.Cause.TheVariants as cause
 use Rattle.cas_record.specs.declared.mark.Mark.{Mark}
 use Rattle.cas_record.specs.declared.mark.Mark.TheVariants.{Begun, Proposed, Voted, Acked, Floor, EraEntered, Ended, Harmed, Told}
 use Rattle.cas_record.specs.declared.operator.Asked.{Asked}
+use Rattle.cas_record.specs.declared.operator.Asked.TheVariants as asked
 use Rattle.cas_record.specs.declared.operator.OpAnswer.{OpAnswer}
 use Rattle.cas_record.specs.declared.operator.OpAnswer.TheVariants as op
 use Rattle.cas_world_calls.specs.declared.council.Gathered.{Gathered}
@@ -25,7 +26,7 @@ use Rattle.cas_model.specs.Safe.{is_of_collection}
 use Rattle.cas_model.specs.Step as step
 use Rattle.cas_model.specs.Step.{Step}
 use Rattle.cas_model.specs.Exchanges.Step as council
-use Rattle.cas_model.specs.Exchanges.Step.{IsFinishedBy, StepTell, StepAskAll, AsksAll, StepTurnExchange, StepRefuseTurnExchange, StepGather, Gathers, StepRefuseKey, SaysTheSame, everyone, listing_begun, told_marks}
+use Rattle.cas_model.specs.Exchanges.Step.{finished, IsFinishedBy, StepTell, StepAskAll, AsksAll, StepTurnExchange, StepRefuseTurnExchange, StepGather, Gathers, StepRefuseKey, SaysTheSame, everyone, listing_begun, told_marks}
 use Rattle.cas_model.specs.Calls.Desks.{EntersEra, FailsToEnter}
 use Rattle.cas_model.specs.Eras.Step as plans
 use Rattle.cas_model.specs.Eras.Step.{StepOpenPlan, OpensPlan, Welcomes, StepEnterEra, EntersNext}
@@ -40,7 +41,9 @@ use Rattle.cas_board_steps.proofs.Calls.Events.{only_one, desks_set}
 use Rattle.cas_model.proofs.Places.{some_is, at_one, at_set}
 use Rattle.cas_world.specs.Exchanges.Exchange as world
 use Rattle.cas_world.specs.Exchanges.Exchange.{MayAskMembers, MayGather, HasGathered, WasToldOrder, asks_as, place_of, turn_of, refusal_of, gathering_by, gathering_of, question_in}
-use Rattle.cas_world.specs.Eras.Plans.{HasFinished, IsFor, IsUnderWay, IsPartial, MayEnterNext, MayOpenPlan, entrant_of, rescanned_of, step_of}
+use Rattle.cas_world.specs.declared.plans.PlanKind.{PlanKind}
+use Rattle.cas_world.specs.declared.plans.PlanKind.TheVariants.{Join, Leave}
+use Rattle.cas_world.specs.Eras.Plans.{asked_to, HasFinished, IsFor, IsUnderWay, IsPartial, MayEnterNext, MayOpenPlan, entrant_of, rescanned_of, step_of}
 use Rattle.cas_model.specs.Eras.Course.{next_era}
 use Rattle.cas_model_causes.specs.Eras.Tellings.{IsPassing}
 use Rattle.cas_board_steps.specs.Calls.Deeds.{harm_by}
@@ -162,7 +165,7 @@ welcomed : {S V : Type 0} (m : Meaning S V) (old middle : View S V) (asked : Ask
 welcomed {S} {V} m old middle asked (plans.starts id acceptor now is_join at starts_ is) = (leaves_desks old _ middle [] is refl refl refl (sym (append-nil old.marks)), ap (λ (w : View S V). w.council) is)
 welcomed {S} {V} m old middle asked (plans.fails id acceptor now is_join at fails_ is) = (leaves_desks old _ middle [] is refl refl refl (sym (append-nil old.marks)), ap (λ (w : View S V). w.council) is)
 welcomed {S} {V} m old middle asked (plans.is_up id acceptor is_join at up is) = (leaves_desks old old middle [] is refl refl refl (sym (append-nil old.marks)), ap (λ (w : View S V). w.council) is)
-welcomed {S} {V} m old middle asked (plans.stays id is_leave is) = (leaves_desks old old middle [] is refl refl refl (sym (append-nil old.marks)), ap (λ (w : View S V). w.council) is)
+welcomed {S} {V} m old middle asked (plans.stays joins_none is) = (leaves_desks old old middle [] is refl refl refl (sym (append-nil old.marks)), ap (λ (w : View S V). w.council) is)
 
 told_then : {S V : Type 0} (old middle new : View S V) (asked : Asked) (said : OpAnswer) → Leaves old middle [] → (middle.council ≡ old.council) → old.council.order ≡ Some (new_order asked) → old.council.exchange ≡ None → new ≡ council.told_view middle said
     → ((told : OpAnswer) → SaysTheSame said told → IsMidway asked told) → OpensOrTells old new asked
@@ -674,3 +677,8 @@ made_none most old new makes planned = record { marks = []; makes = makes; all_s
 
 pub ordered_still : {S V : Type 0} (view : View S V) (asked : Asked) → HasPlan asked (own_part view 0) → IsSome view.council.order
 ordered_still view asked has = subst (λ (o : Option OrderView). IsSome o) (sym (is_changing view asked has).order) refl
+
+-- the answer at its end names what was asked for
+pub names_it : (kind : PlanKind) (id era rescanned : ℕ) (answer : OpAnswer) → finished (asked_to kind id) era rescanned answer → IsMembersAnswer (asked_to kind id) answer
+names_it Join id era rescanned answer is = subst (IsMembersAnswer (asked.Join id)) (sym is) refl
+names_it Leave id era rescanned answer is = subst (IsMembersAnswer (asked.Leave id)) (sym is) refl

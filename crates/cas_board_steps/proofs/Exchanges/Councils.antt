@@ -134,6 +134,26 @@ asked_same (asked.Collect a) (asked.Probe b) e = absurd (let h : 2 ≡ 3 = ap ki
 asked_same (asked.Probe a) (asked.Join b) e = absurd (let h : 3 ≡ 0 = ap kind_of e in omega (arith, h))
 asked_same (asked.Probe a) (asked.Leave b) e = absurd (let h : 3 ≡ 1 = ap kind_of e in omega (arith, h))
 asked_same (asked.Probe a) (asked.Collect b) e = absurd (let h : 3 ≡ 2 = ap kind_of e in omega (arith, h))
+asked_same (asked.Join a) (asked.Resize q b) e = absurd (let h : 0 ≡ 4 = ap kind_of e in omega (arith, h))
+asked_same (asked.Join a) (asked.Read b) e = absurd (let h : 0 ≡ 5 = ap kind_of e in omega (arith, h))
+asked_same (asked.Leave a) (asked.Resize q b) e = absurd (let h : 1 ≡ 4 = ap kind_of e in omega (arith, h))
+asked_same (asked.Leave a) (asked.Read b) e = absurd (let h : 1 ≡ 5 = ap kind_of e in omega (arith, h))
+asked_same (asked.Collect a) (asked.Resize q b) e = absurd (let h : 2 ≡ 4 = ap kind_of e in omega (arith, h))
+asked_same (asked.Collect a) (asked.Read b) e = absurd (let h : 2 ≡ 5 = ap kind_of e in omega (arith, h))
+asked_same (asked.Probe a) (asked.Resize q b) e = absurd (let h : 3 ≡ 4 = ap kind_of e in omega (arith, h))
+asked_same (asked.Probe a) (asked.Read b) e = absurd (let h : 3 ≡ 5 = ap kind_of e in omega (arith, h))
+asked_same (asked.Resize p a) (asked.Join b) e = absurd (let h : 4 ≡ 0 = ap kind_of e in omega (arith, h))
+asked_same (asked.Resize p a) (asked.Leave b) e = absurd (let h : 4 ≡ 1 = ap kind_of e in omega (arith, h))
+asked_same (asked.Resize p a) (asked.Collect b) e = absurd (let h : 4 ≡ 2 = ap kind_of e in omega (arith, h))
+asked_same (asked.Resize p a) (asked.Probe b) e = absurd (let h : 4 ≡ 3 = ap kind_of e in omega (arith, h))
+asked_same (asked.Resize p a) (asked.Resize q b) e = let first : p ≡ q = cc e in let second : a ≡ b = cc e in (λ i. asked.Resize (first i) (second i))
+asked_same (asked.Resize p a) (asked.Read b) e = absurd (let h : 4 ≡ 5 = ap kind_of e in omega (arith, h))
+asked_same (asked.Read a) (asked.Join b) e = absurd (let h : 5 ≡ 0 = ap kind_of e in omega (arith, h))
+asked_same (asked.Read a) (asked.Leave b) e = absurd (let h : 5 ≡ 1 = ap kind_of e in omega (arith, h))
+asked_same (asked.Read a) (asked.Collect b) e = absurd (let h : 5 ≡ 2 = ap kind_of e in omega (arith, h))
+asked_same (asked.Read a) (asked.Probe b) e = absurd (let h : 5 ≡ 3 = ap kind_of e in omega (arith, h))
+asked_same (asked.Read a) (asked.Resize q b) e = absurd (let h : 5 ≡ 4 = ap kind_of e in omega (arith, h))
+asked_same (asked.Read a) (asked.Read b) e = let same : a ≡ b = cc e in ap asked.Read same
 
 told_flag : Option OpAnswer → ℕ
 told_flag t = if is_some t then 1 else 0

@@ -144,6 +144,7 @@ told_some : (asks : Asked) (told : OpAnswer) → (told_marks asks told ≡ []) �
 told_some asks (op.Probed key found) = inl refl
 told_some asks (op.Joined id era rescanned) = inr refl
 told_some asks (op.Left id era rescanned) = inr refl
+told_some asks (op.Resized need_prep need_acc era rescanned) = inr refl
 told_some asks (op.Refused fault) = inr refl
 told_some asks (op.Busy era) = inr refl
 told_some asks (op.Collected key ballot removed kept) = inr refl

@@ -317,6 +317,7 @@ truly_says before marks key found (op.Probed other seen) so current all same = (
 )
 truly_says before marks key found (op.Joined id era rescanned) so current all same = tt
 truly_says before marks key found (op.Left id era rescanned) so current all same = tt
+truly_says before marks key found (op.Resized need_prep need_acc era rescanned) so current all same = tt
 truly_says before marks key found (op.Refused fault) so current all same = tt
 truly_says before marks key found (op.Busy era) so current all same = tt
 truly_says before marks key found (op.Collected other ballot removed kept) so current all same = tt
@@ -335,6 +336,7 @@ truly_then {S} {V} mid new many (op.Probed key found) by is = subst (λ (marks :
     unmarked (council.collects open_order is_open collected is_new) = ap (λ (w : View S V). w.marks) is_new ∙ append-nil mid.marks
 truly_then mid new many (op.Joined id era rescanned) by is = tt
 truly_then mid new many (op.Left id era rescanned) by is = tt
+truly_then mid new many (op.Resized need_prep need_acc era rescanned) by is = tt
 truly_then mid new many (op.Refused fault) by is = tt
 truly_then mid new many (op.Busy era) by is = tt
 truly_then mid new many (op.Collected other ballot removed kept) by is = tt
@@ -348,6 +350,7 @@ silent_says : (most : ℕ) (key : List ℕ) (found : Probes) (told : OpAnswer) �
 silent_says most key found (op.Probed other seen) few same = subst (λ (l : List ProbeOf). silent_in l ≤ most) same.1 few
 silent_says most key found (op.Joined id era rescanned) few same = tt
 silent_says most key found (op.Left id era rescanned) few same = tt
+silent_says most key found (op.Resized need_prep need_acc era rescanned) few same = tt
 silent_says most key found (op.Refused fault) few same = tt
 silent_says most key found (op.Busy era) few same = tt
 silent_says most key found (op.Collected other ballot removed kept) few same = tt
@@ -361,6 +364,7 @@ found_says : (key members : List ℕ) (found : Probes) (told : OpAnswer) → nam
 found_says key members found (op.Probed other seen) names same = (sym same.0, ap (map (λ (p : ProbeOf). p.acceptor)) (sym same.1) ∙ names)
 found_says key members found (op.Joined id era rescanned) names same = absurd (cc same)
 found_says key members found (op.Left id era rescanned) names same = absurd (cc same)
+found_says key members found (op.Resized need_prep need_acc era rescanned) names same = absurd (cc same)
 found_says key members found (op.Refused fault) names same = absurd (cc same)
 found_says key members found (op.Busy era) names same = absurd (cc same)
 found_says key members found (op.Collected other ballot removed kept) names same = absurd (cc same)

@@ -26,12 +26,14 @@ CountsTo count old new = HasRisen (rescanned_of old.council.plan) (done_calls (m
 abbrev pub count_told : OpAnswer → ℕ → ℕ
 count_told (told.Joined id era rescanned) kept = rescanned
 count_told (told.Left id era rescanned) kept = rescanned
+count_told (told.Resized need_prep need_acc era rescanned) kept = rescanned
 count_told other kept = kept
 
 -- at its end none is kept
 abbrev pub LeavesNone : OpAnswer → ℕ → Type 0
 LeavesNone (told.Joined id era rescanned) kept = kept ≡ 0
 LeavesNone (told.Left id era rescanned) kept = kept ≡ 0
+LeavesNone (told.Resized need_prep need_acc era rescanned) kept = kept ≡ 0
 LeavesNone other kept = ⊤
 
 abbrev pub TellsCount : {S V : Type 0} → OpAnswer → View S V → View S V → Type 0

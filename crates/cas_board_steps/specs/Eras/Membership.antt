@@ -91,6 +91,7 @@ IsRescanMark tries other = ⊤
 abbrev pub IsMembersAnswer : Asked → OpAnswer → Type 0
 IsMembersAnswer what (told.Joined id era rescanned) = what ≡ asked.Join id
 IsMembersAnswer what (told.Left id era rescanned) = what ≡ asked.Leave id
+IsMembersAnswer what (told.Resized need_prep need_acc era rescanned) = what ≡ asked.Resize need_prep need_acc
 IsMembersAnswer what (told.Refused fault) = ⊤
 IsMembersAnswer what (told.Busy era) = ⊤
 IsMembersAnswer what (told.ProposerDown proposer) = ⊤

@@ -39,9 +39,9 @@ use Rattle.cas_record.specs.declared.operator.Asked.TheVariants as to_do
 use Rattle.cas_world_calls.specs.Council.{due_key, first_of, first_where}
 use Rattle.cas_world.specs.Exchanges.Exchange.{WasToldOrder}
 use Rattle.cas_world.specs.Stops.Restarting.{TellsOfAcceptor}
-use Rattle.cas_world.specs.Eras.Plans.{IsAtEnd, IsUnderWay, MayEnterNext, MayOpenPlan, asked_to, planned_by, step_of}
-use Rattle.cas_world.specs.declared.plans.PlanKind.{PlanKind}
-use Rattle.cas_world.specs.declared.plans.PlanKind.TheVariants.{Join, Leave}
+use Rattle.cas_world.specs.Eras.Plans.{IsAtEnd, IsUnderWay, MayEnterNext, MayOpenPlan, asked_of, planned_of, step_of}
+use Rattle.cas_world.specs.declared.plans.Target.{Target}
+use Rattle.cas_world.specs.declared.plans.Target.TheVariants as target
 
 -- ---- a listing that is not complete
 some_first : {A : Type 0} (xs : List A) → 0 < length xs → slice_get xs 0 ≡ None → ⊥
@@ -66,6 +66,7 @@ pub says_itself : (answer : OpAnswer) → SaysTheSame answer answer
 says_itself (op.Probed key found) = (refl, refl)
 says_itself (op.Joined id era rescanned) = refl
 says_itself (op.Left id era rescanned) = refl
+says_itself (op.Resized need_prep need_acc era rescanned) = refl
 says_itself (op.Refused fault) = refl
 says_itself (op.Busy era) = refl
 says_itself (op.Collected key ballot removed kept) = refl
@@ -85,9 +86,10 @@ told_last {S} {V} old new order answer said is_open is same = record {
 }
 
 -- ---- a change begins
-pub planned : (kind : PlanKind) (era : Era) (used : List ℕ) (id : ℕ) → IsPlanned era used (asked_to kind id) (planned_by kind era used id)
-planned Join era used id = plans.joins id refl refl
-planned Leave era used id = plans.leaves id refl refl
+pub planned : (to : Target) (era : Era) (used : List ℕ) → IsPlanned era used (asked_of to) (planned_of to era used)
+planned (target.Join id) era used = plans.joins id refl refl
+planned (target.Leave id) era used = plans.leaves id refl refl
+planned (target.Resize need_prep need_acc) era used = plans.resizes need_prep need_acc refl refl
 
 pub welcomed : {S V : Type 0} (m : Meaning S V) (old middle : View S V) (id : ℕ) → Step m old (step.RestartAcceptor id) middle → Welcomes m old (to_do.Join id) middle
 welcomed m old middle id (step.was_up acceptor at up same) = plans.is_up id acceptor refl at up same
@@ -95,25 +97,26 @@ welcomed m old middle id (step.starts acceptor now at by is) = plans.starts id a
 welcomed m old middle id (step.fails acceptor now at by is) = plans.fails id acceptor now refl at by is
 
 -- beside a call for that no collection is under way
-pub none_collected : {S V : Type 0} (view : View S V) (kind : PlanKind) (id : ℕ) → IsSafe view → MayOpenPlan view (asked_to kind id) → view.council.collection ≡ None
-none_collected {S} {V} view kind id safe may = by_option view.council.collection refl
+pub none_collected : {S V : Type 0} (view : View S V) (to : Target) → IsSafe view → MayOpenPlan view (asked_of to) → view.council.collection ≡ None
+none_collected {S} {V} view to safe may = by_option view.council.collection refl
   where
-    other : (kind : PlanKind) (key : List ℕ) → to_do.Collect key ≡ asked_to kind id → ⊥
-    other Join key is = cc is
-    other Leave key is = cc is
+    other : (to : Target) (key : List ℕ) → to_do.Collect key ≡ asked_of to → ⊥
+    other (target.Join id) key is = cc is
+    other (target.Leave id) key is = cc is
+    other (target.Resize need_prep need_acc) key is = cc is
 
     by_option : (o : Option CollectionView) → view.council.collection ≡ o → view.council.collection ≡ None
     by_option None is = is
     by_option (Some c) is =
         let of = safe.collection.each c is in
-        absurd (other kind c.course.key (sym of.is_for ∙ ap (λ (o : OrderView). o.asked) (some_is (sym of.is_open ∙ may.is_open)) ∙ may.is_for))
+        absurd (other to c.course.key (sym of.is_for ∙ ap (λ (o : OrderView). o.asked) (some_is (sym of.is_open ∙ may.is_open)) ∙ may.is_for))
 
-pub opens_plan : {S V : Type 0} (m : Meaning S V) (old new : View S V) (kind : PlanKind) (id : ℕ) (desk : DeskView V) → IsSafe old → MayOpenPlan old (asked_to kind id) → IsAt old.desks 0 desk → OpensPlan m old (asked_to kind id) desk new
-    → ((plan : PlanView) → old.council.plan ≡ None → new.council.plan ≡ Some plan → FailsByFaults m old (asked_to kind id) new) → StepOpenPlan m old new
-opens_plan m old new kind id desk safe may at by faulted = record {
+pub opens_plan : {S V : Type 0} (m : Meaning S V) (old new : View S V) (to : Target) (desk : DeskView V) → IsSafe old → MayOpenPlan old (asked_of to) → IsAt old.desks 0 desk → OpensPlan m old (asked_of to) desk new
+    → ((plan : PlanView) → old.council.plan ≡ None → new.council.plan ≡ Some plan → FailsByFaults m old (asked_of to) new) → StepOpenPlan m old new
+opens_plan m old new to desk safe may at by faulted = record {
   order = may.order;
   is_open = may.is_open;
-  none_collected = none_collected old kind id safe may;
+  none_collected = none_collected old to safe may;
   desk = desk;
   at_desk = at;
   opens = subst (λ (a : Asked). OpensPlan m old a desk new) (sym may.is_for) by;
@@ -165,7 +168,7 @@ pub welcome_council : {S V : Type 0} (m : Meaning S V) (old middle : View S V) (
 welcome_council {S} {V} m old middle asked (plans.starts id acceptor now joins at by is) = ap (λ (v : View S V). v.council) is
 welcome_council {S} {V} m old middle asked (plans.fails id acceptor now joins at by is) = ap (λ (v : View S V). v.council) is
 welcome_council {S} {V} m old middle asked (plans.is_up id acceptor joins at up is) = ap (λ (v : View S V). v.council) is
-welcome_council {S} {V} m old middle asked (plans.stays id leaves is) = ap (λ (v : View S V). v.council) is
+welcome_council {S} {V} m old middle asked (plans.stays joins_none is) = ap (λ (v : View S V). v.council) is
 
 -- with no change under way the era is whole, and its number is small
 pub settled_era : {S V : Type 0} (view : View S V) → IsSafe view → view.council.plan ≡ None → IsWhole (era_at view 0)
@@ -179,8 +182,8 @@ pub none_there : {A : Type 0} (o : Option A) → is_some o ≡ false → o ≡ N
 none_there None is = refl
 none_there (Some x) is = absurd (cc is)
 
-pub planned_from : (kind : PlanKind) (id : ℕ) (era e : Era) (used u : List ℕ) (result : Result Progress PlanFault) → e ≡ era → u ≡ used → planned_by kind e u id ≡ result → IsPlanned era used (asked_to kind id) result
-planned_from kind id era e used u result e_is u_is is = subst (IsPlanned era used (asked_to kind id)) ((λ i. planned_by kind (sym e_is i) (sym u_is i) id) ∙ is) (planned kind era used id)
+pub planned_from : (to : Target) (era e : Era) (used u : List ℕ) (result : Result Progress PlanFault) → e ≡ era → u ≡ used → planned_of to e u ≡ result → IsPlanned era used (asked_of to) result
+planned_from to era e used u result e_is u_is is = subst (IsPlanned era used (asked_of to)) ((λ i. planned_of to (sym e_is i) (sym u_is i)) ∙ is) (planned to era used)
 
 pub is_under_way : {S V : Type 0} (middle new : View S V) (asked : Asked) (progress : Progress) (order : OrderView) → new ≡ opened_plan middle asked progress → middle.council.order ≡ Some order → order.asked ≡ asked → IsUnderWay new asked
 is_under_way {S} {V} middle new asked progress order is is_open is_for = record {

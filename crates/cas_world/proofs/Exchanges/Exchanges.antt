@@ -200,8 +200,10 @@ may_close council answer may = let there = order_there council answer may in sub
 plain_end : (asked : Asked) (era rescanned : ℕ) (answer : OpAnswer) → finished asked era rescanned answer → is_plain answer ≡ true
 plain_end (to_do.Join id) era rescanned answer is = ap is_plain is
 plain_end (to_do.Leave id) era rescanned answer is = ap is_plain is
+plain_end (to_do.Resize need_prep need_acc) era rescanned answer is = ap is_plain is
 plain_end (to_do.Collect key) era rescanned answer is = absurd is
 plain_end (to_do.Probe key) era rescanned answer is = absurd is
+plain_end (to_do.Read key) era rescanned answer is = absurd is
 
 -- where the call was told nothing, its change is at its end, or its collection is
 pub over_there : (council : Council) (answer : OpAnswer) (order : Order) → MayTellIn council answer → council.order ≡ Some order → order.told ≡ None → IsOverIn council answer ⊎ IsCollectedIn council answer
@@ -214,6 +216,7 @@ plain_concludes : (collected : Option (List ℕ)) (answer : OpAnswer) → is_pla
 plain_concludes collected (op.Collected key ballot removed kept) is = absurd (cc is)
 plain_concludes collected (op.Joined id era rescanned) is = is
 plain_concludes collected (op.Left id era rescanned) is = is
+plain_concludes collected (op.Resized need_prep need_acc era rescanned) is = is
 plain_concludes collected (op.Refused fault) is = is
 plain_concludes collected (op.Busy era) is = is
 plain_concludes collected (op.NotEmpty version) is = is
@@ -237,6 +240,7 @@ same_marks : (asked : Asked) (said answer : OpAnswer) → SaysTheSame said answe
 same_marks asked (op.Probed key found) (op.Probed other seen) same = refl
 same_marks asked (op.Probed key found) (op.Joined id era rescanned) same = absurd (cc same)
 same_marks asked (op.Probed key found) (op.Left id era rescanned) same = absurd (cc same)
+same_marks asked (op.Probed key found) (op.Resized need_prep need_acc era rescanned) same = absurd (cc same)
 same_marks asked (op.Probed key found) (op.Refused fault) same = absurd (cc same)
 same_marks asked (op.Probed key found) (op.Busy era) same = absurd (cc same)
 same_marks asked (op.Probed key found) (op.Collected other ballot removed kept) same = absurd (cc same)
@@ -246,6 +250,7 @@ same_marks asked (op.Probed key found) (op.ProposerDown proposer) same = absurd 
 same_marks asked (op.Probed key found) (op.Stopped told) same = absurd (cc same)
 same_marks asked (op.Joined id era rescanned) answer same = ap (told_marks asked) same
 same_marks asked (op.Left id era rescanned) answer same = ap (told_marks asked) same
+same_marks asked (op.Resized need_prep need_acc era rescanned) answer same = ap (told_marks asked) same
 same_marks asked (op.Refused fault) answer same = ap (told_marks asked) same
 same_marks asked (op.Busy era) answer same = ap (told_marks asked) same
 same_marks asked (op.Collected key ballot removed kept) answer same = ap (told_marks asked) same

@@ -1,12 +1,12 @@
 -- Changes of membership, as a world's calls begin them and lead proposers on.
 use Rattle.std.specs.Prelude.{◌≡◌, ℕ, false, List, [], Option, None, Some, Result, option_map}
 use Rattle.cas_members.specs.declared.plan.PlanStep.{PlanStep}
-use Rattle.cas_members.specs.Plan.{next_of, join_of, leave_of}
+use Rattle.cas_members.specs.Plan.{next_of, join_of, leave_of, resize_of}
 use Rattle.cas_members.specs.Steps.{Progress}
 use Rattle.cas_quorum.specs.declared.era.Era.{Era}
 use Rattle.cas_quorum.specs.declared.fault.PlanFault.{PlanFault}
 use Rattle.cas_record.specs.declared.operator.Asked.{Asked}
-use Rattle.cas_record.specs.declared.operator.Asked.TheVariants.{Join as ToJoin, Leave as ToLeave}
+use Rattle.cas_record.specs.declared.operator.Asked.TheVariants.{Join as ToJoin, Leave as ToLeave, Resize as ToResize}
 use Rattle.cas_record.specs.declared.operator.OpAnswer.{OpAnswer}
 use Rattle.cas_model.specs.Council.{ListingView, OrderView, PlanView}
 use Rattle.cas_model.specs.Eras.Course.{next_era}
@@ -14,6 +14,8 @@ use Rattle.cas_model.specs.Exchanges.Step.{IsCollectedBy, IsFinishedBy}
 use Rattle.cas_model.specs.View.{View, era_at}
 use Rattle.cas_world.specs.Exchanges.Exchange.{WasToldOrder}
 use Rattle.cas_world.specs.declared.plans.PlanKind.{PlanKind}
+use Rattle.cas_world.specs.declared.plans.Target.{Target}
+use Rattle.cas_world.specs.declared.plans.Target.TheVariants as target
 use Rattle.cas_world.specs.declared.plans.PlanKind.TheVariants.{Join, Leave}
 
 -- ---- what is asked for
@@ -21,10 +23,16 @@ abbrev pub asked_to : PlanKind → ℕ → Asked
 asked_to Join id = ToJoin id
 asked_to Leave id = ToLeave id
 
--- the plan by which the acceptor joins or leaves
-abbrev pub planned_by : PlanKind → Era → List ℕ → ℕ → Result Progress PlanFault
-planned_by Join era used id = join_of era used id
-planned_by Leave era used id = leave_of era id
+abbrev pub asked_of : Target → Asked
+asked_of (target.Join id) = ToJoin id
+asked_of (target.Leave id) = ToLeave id
+asked_of (target.Resize need_prep need_acc) = ToResize need_prep need_acc
+
+-- the plan that leads there
+abbrev pub planned_of : Target → Era → List ℕ → Result Progress PlanFault
+planned_of (target.Join id) era used = join_of era used id
+planned_of (target.Leave id) era used = leave_of era id
+planned_of (target.Resize need_prep need_acc) era used = resize_of era need_prep need_acc
 
 -- the change that is under way was opened for just that
 pub record IsFor (plan : Option PlanView) (asked : Asked) : Type 0 where

@@ -56,7 +56,7 @@ welcomes_keep : {S V : Type 0} (m : Meaning S V) (old new : View S V) (what : As
 welcomes_keep m old new what (plans.starts id acceptor now joins at starts is) = opens_by old _ new is refl refl refl
 welcomes_keep m old new what (plans.fails id acceptor now joins at fails is) = opens_by old _ new is refl refl refl
 welcomes_keep m old new what (plans.is_up id acceptor joins at up is) = opens_by old old new is refl refl refl
-welcomes_keep m old new what (plans.stays id leaves is) = opens_by old old new is refl refl refl
+welcomes_keep m old new what (plans.stays joins_none is) = opens_by old old new is refl refl refl
 
 then_opens : {S V : Type 0} (old mid new : View S V) → Opens old mid → Opens mid new → Opens old new
 then_opens old mid new before after = record {
