@@ -37,21 +37,30 @@ use std::alloc::{AllocError, Global};
 use std::sync::Wait;
 use std::thread::Threads;
 
-/// Runs the command that the words name. A script runs over the source's lines, and the answer to each line is written before it reads on.
-/// A race reads all lines before it runs any, runs each caller's in a thread of its own, with the fate at the place of its number, and
-/// writes once all have ended: the answers to bad lines in line order, then each caller's answers, callers in rising order, then the
-/// settled history of each key that has one, keys in byte order. A load reads nothing, runs lines that it draws, and writes the summary of
-/// their answers. An audit reads a record and writes one line that says whether it is legal; it leaves all disks alone. With `--marks yes`
-/// a script or a race writes its record behind all else, a line a mark, unless a write or memory failed before. The rack, which has 64
-/// disks of acceptors and 17 of vaults, comes back with the same disks in their places, and so do the fates, which are 17.
+/// Runs the command that the words name.
 ///
-/// The words are read by clap: `audit`, or `script`, `race` or `load`, with the options `--acceptors` (1 to 9, or 3 where it is not given),
-/// `--proposers` (1 to 16, or 1) and `--tries` (1 to 64, or 1), of `load` `--seed` (any `u64`, or 1) and `--lines` (up to 100,000, or
-/// 1,000), and of the others `--marks` (`yes` or `no`, or `no`). Then all disks are asked for their lengths in the order of their numbers,
-/// and each must be empty. Then the members' and the proposers' disks are started in that order. A line of a script asks for a change or
-/// for an event, is a remark, which has no answer, or is answered as bad, with the reason; in a race an event's line is bad. The statuses
-/// say how the run ended: [`Status::NotEmpty`] comes only of a disk that was not empty, where disks tell what they keep, and
-/// [`Status::DiskFault`] only of one whose count of faults rose.
+/// - A script runs over the source's lines. It writes the answer to each line before it reads on.
+/// - A race reads all lines before it runs any. It runs each caller's lines in a thread of its own, with the fate at the place of its
+///   number. It writes once all have ended: the answers to bad lines in line order; then each caller's answers, callers in rising order;
+///   then the settled history of each key that has one, keys in byte order.
+/// - A load reads nothing. It runs lines that it draws, and writes the summary of their answers.
+/// - An audit reads a record, and writes one line that says whether it is legal. It leaves all disks alone.
+///
+/// With `--marks yes` a script or a race writes its record behind all else, a line a mark, unless a write or memory failed before. The rack
+/// has 64 disks of acceptors and 17 of vaults. It comes back with the same disks in their places, and so do the 17 fates.
+///
+/// The words are read by clap: `audit`, or `script`, `race` or `load` with these options.
+///
+/// - `--acceptors`: 1 to 9, or 3 if it is not given; `--proposers`: 1 to 16, or 1; `--tries`: 1 to 64, or 1.
+/// - Of `load`, `--seed`: any `u64`, or 1; `--lines`: up to 100,000, or 1,000.
+/// - Of the others, `--marks`: `yes` or `no`, or `no`.
+///
+/// Then all disks are asked for their lengths in the order of their numbers, and each must be empty. Then the members' and the proposers'
+/// disks are started in that order. A line of a script asks for a change or for an event, or is a remark, which has no answer. Any other
+/// line is answered as bad, with the reason. In a race an event's line is bad. The statuses say how the run ended:
+///
+/// - [`Status::NotEmpty`] comes only of a disk that was not empty, if disks tell what they keep.
+/// - [`Status::DiskFault`] comes only of one whose count of faults rose.
 pub fn cluster<R: Threads + Wait + Sync, S: Source, K: Sink, D: Disk + Send + Drop, F: Fate + Send>(
     rt: &R,
     alloc: Global,
@@ -64,15 +73,17 @@ pub fn cluster<R: Threads + Wait + Sync, S: Source, K: Sink, D: Disk + Send + Dr
     requires acceptors { vec_len rack.acceptors ≡ 64 }
     requires vaults { vec_len rack.vaults ≡ 17 }
     requires fates { vec_len fates.old ≡ 17 }
-    // Of a script, what was written is the transcript of a script run over the lines of the input, in a new world over the rack's disks, whose
-    // members are up; the record of that run is legal, along it each change line that nothing stood against was answered done, or that there
-    // was no memory, where the members and its proposer were up after it, and the rack that comes back holds the disks of its last world.
-    // Where the source failed these are all lines that had ended by then, and no others. Of a load, what was written is the summary of the
-    // answers of the load run over the lines that its seed draws, in a new world over the rack's disks, whose members are up; the record of
-    // that run is legal, and the rack that comes back holds the disks of its last world. Of a race, what was written is the text of a legal
-    // record in which each caller's own marks are those of what its lines ask for, in their order, with the answers that are written, and tell
-    // of no more losses than its fate counted harms. With `--marks yes` the text of the record stands behind that of a script or a race whose
-    // answers were all written. Of an audit, what was written is the line that says what is found in the lines of the input.
+    // What was written, command by command. A script and a load ran in a new world over the rack's disks, whose members are up. What is
+    // said of records and of disks that come back holds if disks tell what they keep.
+    // - Script: the transcript of a script run over the lines of the input. The record of that run is legal. Along it each change line that
+    //   nothing stood against was answered done, or that there was no memory, if the members and its proposer were up after it. The rack
+    //   that comes back holds the disks of its last world. If the source failed, the lines are all that had ended by then, and no others.
+    // - Load: the summary of the answers of the load run over the lines that its seed draws. The record of that run is legal. The rack that
+    //   comes back holds the disks of its last world.
+    // - Race: the text of a legal record. In it each caller's own marks are those of what its lines ask for, in their order, with the
+    //   answers that are written. They tell of no more losses than its fate counted harms. No clause names its world.
+    // - Audit: the line that says what is found in the lines of the input. No disk was touched.
+    // With `--marks yes` the text of the record stands behind that of a script or a race whose answers were all written.
     ensures ran { RanCommand (meaning ⟦<DiskShelf<D> as Shelf>⟧ D.Disk) (rack_meaning D.Disk)
         (map string_bytes words.now) (record {
           input = S.remaining source.old;
