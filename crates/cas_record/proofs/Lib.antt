@@ -1,3 +1,4 @@
+pub mod Agreements
 pub mod Broken
 pub mod Histories
 pub mod Kept

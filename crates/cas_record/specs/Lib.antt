@@ -1,3 +1,4 @@
+pub mod Agreement
 pub mod Answers
 pub mod Book
 pub mod Histories
@@ -6,3 +7,4 @@ pub mod Laws
 pub mod Legal
 pub mod Logs
 pub mod Places
+pub mod Reading

@@ -148,4 +148,11 @@ impl Probes {
     {
         &self.probes
     }
+
+    /// The list of the probes, for its caller to keep.
+    pub fn into_list(self) -> Vec<Probe>
+        ensures { result.items ≡ self.probes.items }
+    {
+        self.probes
+    }
 }

@@ -1,4 +1,5 @@
 -- What is written for a mark, without a newline.
+pub use Rattle.cas_record.specs.Answers.{is_told}
 use Rattle.std.specs.Prelude.{ℕ, Bool, true, false, List, [], ◌∷◌, ◌++◌, codes, decimal}
 use Rattle.std.specs.List.{flat_map}
 use Rattle.cas_ballot.specs.Ballot.{ballot_text}
@@ -74,12 +75,6 @@ told_text (told.Absent acceptor) = codes "absent " ++ decimal acceptor
 told_text (told.ProposerDown proposer) = codes "proposer down " ++ decimal proposer
 told_text (told.Probed key found) = []
 told_text (told.Stopped answer) = answer_text answer
-
--- whether the answer is written in a record: no probe's is, and none stops a step by telling that it is done
-abbrev pub is_told : OpAnswer → Bool
-is_told (told.Probed key found) = false
-is_told (told.Stopped (answer.Done state took ballot)) = false
-is_told other = true
 
 -- ---- marks
 -- whether a record's text can have the mark

@@ -1,0 +1,7 @@
+use Rattle.std.proofs.Common.{◌≡◌, take}
+use Rattle.cas_record.specs.Agreement.{tells_in, acceptors_where}
+use Rattle.cas_record.proofs.agreement.tellers_in.Given as goal
+
+-- those of the probes so far
+abbrev pub invariant-loop-probe : goal.invariant-loop-probe
+invariant-loop-probe l = l.members ≡ acceptors_where (tells_in l.number l.ballot) (take l.probe-index l.found)
