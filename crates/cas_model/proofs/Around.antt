@@ -17,9 +17,9 @@ use Rattle.cas_protocol.specs.Acceptors.{IsElsewhere}
 use Rattle.cas_model.specs.History.{AgreesWith, IsLogged}
 use Rattle.cas_model.specs.Eras.Listed.{IsCouncilTrue}
 use Rattle.cas_model.specs.Parties.{IsAcceptorTrue, AreMessagesTrue, IsEraOf, IsDeskTrue, IsCallerTrue}
-use Rattle.cas_protocol.specs.Protocol.{Made, GlobalState, HasHistory}
+use Rattle.cas_protocol.specs.Protocol.{Made, GlobalState, HasHistory, with_mark}
 use Rattle.cas_model.specs.View.{Meaning, View, CallerView, IsAt, era_at, era_in}
-use Rattle.cas_model.proofs.Others.{IsOfOthers, FloorsNot, AsksFor, no_floor_of, council_still, messages_still, desk_still, caller_still, calls_of_others, acceptor_still, desk_more, caller_more}
+use Rattle.cas_model.proofs.Others.{asks_nothing, IsOfOthers, FloorsNot, AsksFor, no_floor_of, council_still, messages_still, desk_still, caller_still, calls_of_others, acceptor_still, desk_more, caller_more}
 use Rattle.cas_model.proofs.Eras.Courses.{era_set, era_kept}
 use Rattle.cas_model.proofs.Places.{same_or_not, other_set}
 
@@ -36,7 +36,8 @@ pub record Parties {S V : Type 0} (m : Meaning S V) (cluster : Cluster) (log : L
   pub own : (p : ℕ) → AreMessagesTrue log (queue_at view.flow p).messages
   pub late : AreMessagesTrue log view.flow.late
 
-pub parties_of : {S V : Type 0} (m : Meaning S V) (cluster : Cluster) (global : GlobalState) (view : View S V) (These : ℕ → Type 0) → AgreesWith m cluster global view → Parties m cluster global.log global.made view These
+pub parties_of : {S V : Type 0} (m : Meaning S V) (cluster : Cluster) (global : GlobalState) (view : View S V) (These : ℕ → Type 0) → AgreesWith m cluster global view
+    → Parties m cluster global.log global.made view These
 parties_of m cluster global view These is = record {
   last_proposer = is.last_proposer;
   few = is.few;
@@ -49,7 +50,8 @@ parties_of m cluster global view These is = record {
 }
 
 -- they still are once the log goes on with what is of others
-pub parties_more : {S V : Type 0} (m : Meaning S V) (cluster : Cluster) (log : List Happening) (all : List Made) (view : View S V) (These : ℕ → Type 0) (h : Happening) → Lawful cluster (h ∷ log) → Orderly cluster (h ∷ log) → FloorsNot h → AsksFor view.council.collection h → ((p : ℕ) → These p → IsOfOthers p h)
+pub parties_more : {S V : Type 0} (m : Meaning S V) (cluster : Cluster) (log : List Happening) (all : List Made) (view : View S V) (These : ℕ → Type 0) (h : Happening) → Lawful cluster (h ∷ log)
+    → Orderly cluster (h ∷ log) → FloorsNot h → AsksFor view.council h → ((p : ℕ) → These p → IsOfOthers p h)
     → Parties m cluster log all view These → Parties m cluster (h ∷ log) all view These
 parties_more m cluster log all view These h lawful orderly none asks of was = record {
   last_proposer = was.last_proposer;
@@ -113,7 +115,8 @@ whole_of {cluster = cluster} m view is = record {
   parties = parties_of m cluster is.global view Everyone is.agrees;
 }
 
-pub logged : {S V : Type 0} (m : Meaning S V) (cluster : Cluster) (global : GlobalState) (view : View S V) → Whole m cluster global view → marks_of global.log ≡ reverse view.marks → IsLogged m cluster view
+pub logged : {S V : Type 0} (m : Meaning S V) (cluster : Cluster) (global : GlobalState) (view : View S V) → Whole m cluster global view → marks_of global.log ≡ reverse view.marks
+    → IsLogged m cluster view
 logged m cluster global view whole marks = record {
   meets = whole.meets;
   global = global;
@@ -130,6 +133,19 @@ logged m cluster global view whole marks = record {
     own = whole.parties.own;
     late = whole.parties.late;
   };
+}
+
+-- ---- a mark of nobody's
+-- the log goes on with what is no deed of any proposer or acceptor
+pub whole_more : {S V : Type 0} (m : Meaning S V) (cluster : Cluster) (global : GlobalState) (view : View S V) (h : Happening) → ((p : ℕ) → IsOfOthers p h) → ((a : ℕ) → IsElsewhere a h)
+    → HasHistory cluster (with_mark global h)
+    → Whole m cluster global view → Whole m cluster (with_mark global h) view
+whole_more m cluster global view h others elsewhere history whole = record {
+  meets = whole.meets;
+  history = history;
+  acceptors = λ a acceptor at. acceptor_still m cluster h global.log a (global.kept a) history.lawful (elsewhere a) (whole.acceptors a acceptor at);
+  parties =
+      parties_more m cluster global.log global.made view Everyone h history.lawful history.orderly (no_floor_of 0 (others 0)) (asks_nothing view.council h others) (λ p these. others p) whole.parties;
 }
 
 -- ---- one proposer
@@ -165,7 +181,8 @@ floors_not : (id : ℕ) (h : Happening) → IsOf id h → FloorsNot h
 floors_not id h of = no_floor_of (suc id) (of.0 (suc id) (λ same. omega (arith, same)))
 
 -- the log goes on with it
-pub around_more : {S V : Type 0} (m : Meaning S V) (cluster : Cluster) (log : List Happening) (kept : ℕ → Contents) (all : List Made) (view : View S V) (id : ℕ) (h : Happening) → IsOf id h → AsksFor view.council.collection h
+pub around_more : {S V : Type 0} (m : Meaning S V) (cluster : Cluster) (log : List Happening) (kept : ℕ → Contents) (all : List Made) (view : View S V) (id : ℕ) (h : Happening) → IsOf id h
+    → AsksFor view.council h
     → Around m cluster (record { log = log; kept = kept; made = all }) view id → HasHistory cluster (record { log = h ∷ log; kept = kept; made = all })
     → Around m cluster (record { log = h ∷ log; kept = kept; made = all }) view id
 around_more m cluster log kept all view id h of asks was history = record {
@@ -176,7 +193,8 @@ around_more m cluster log kept all view id h of asks was history = record {
 }
 
 -- and something more is made
-pub around_made : {S V : Type 0} (m : Meaning S V) (cluster : Cluster) (log : List Happening) (kept : ℕ → Contents) (all more : List Made) (view : View S V) (id : ℕ) (h : Happening) → IsOf id h → AsksFor view.council.collection h
+pub around_made : {S V : Type 0} (m : Meaning S V) (cluster : Cluster) (log : List Happening) (kept : ℕ → Contents) (all more : List Made) (view : View S V) (id : ℕ) (h : Happening) → IsOf id h
+    → AsksFor view.council h
     → ((x : Made) → Stands x all → Stands x more)
     → Around m cluster (record { log = log; kept = kept; made = all }) view id → HasHistory cluster (record { log = h ∷ log; kept = kept; made = more })
     → Around m cluster (record { log = h ∷ log; kept = kept; made = more }) view id
@@ -184,7 +202,9 @@ around_made m cluster log kept all more view id h of asks grows was history = re
   meets = was.meets;
   history = history;
   acceptors = λ a acceptor at. acceptor_still m cluster h log a (kept a) history.lawful (of.1 a) (was.acceptors a acceptor at);
-  parties = parties_made m cluster (h ∷ log) all more view (λ p. p ≡ id → ⊥) grows (parties_more m cluster log all view (λ p. p ≡ id → ⊥) h history.lawful history.orderly (floors_not id h of) asks of.0 was.parties);
+  parties =
+      parties_made m cluster (h ∷ log) all more view (λ p. p ≡ id → ⊥) grows
+      (parties_more m cluster log all view (λ p. p ≡ id → ⊥) h history.lawful history.orderly (floors_not id h of) asks of.0 was.parties);
 }
 
 -- the proposer works in another era of the cluster
@@ -199,7 +219,8 @@ around_era {S} {V} m cluster global old id era places is was = record {
     few = was.parties.few;
     eras = λ p low. era_there p low (same_or_not p id);
     desks = λ p other desk caller at_desk at_caller.
-        subst (λ (e : Era). IsDeskTrue m cluster global.log global.made e.number p caller (queue_at old.flow p).messages desk) (sym (era_kept old.eras id p era other)) (was.parties.desks p other desk caller at_desk at_caller);
+        subst (λ (e : Era). IsDeskTrue m cluster global.log global.made e.number p caller (queue_at old.flow p).messages desk) (sym (era_kept old.eras id p era other))
+        (was.parties.desks p other desk caller at_desk at_caller);
     callers = was.parties.callers;
     council = was.parties.council;
     own = was.parties.own;
@@ -224,13 +245,15 @@ pub record Leaves {S V : Type 0} (old new : View S V) (id : ℕ) : Type 0 where
 
 -- and what becomes of the proposer
 pub record Becomes {S V : Type 0} (m : Meaning S V) (cluster : Cluster) (global : GlobalState) (view : View S V) (id : ℕ) : Type 0 where
-  pub desk : (desk : DeskView V) (caller : CallerView) → IsAt view.desks id desk → IsAt view.callers id caller → IsDeskTrue m cluster global.log global.made (era_at view id).number id caller (queue_at view.flow id).messages desk
+  pub desk : (desk : DeskView V) (caller : CallerView) → IsAt view.desks id desk → IsAt view.callers id caller
+      → IsDeskTrue m cluster global.log global.made (era_at view id).number id caller (queue_at view.flow id).messages desk
   pub caller : (caller : CallerView) → IsAt view.callers id caller → IsCallerTrue global.log global.made id caller
   pub own : AreMessagesTrue global.log (queue_at view.flow id).messages
   pub late : AreMessagesTrue global.log view.flow.late
 
 -- then all are as the log tells again
-pub settles : {S V : Type 0} (m : Meaning S V) (cluster : Cluster) (global : GlobalState) (old new : View S V) (id : ℕ) → Around m cluster global old id → Leaves old new id → Becomes m cluster global new id → Whole m cluster global new
+pub settles : {S V : Type 0} (m : Meaning S V) (cluster : Cluster) (global : GlobalState) (old new : View S V) (id : ℕ) → Around m cluster global old id → Leaves old new id
+    → Becomes m cluster global new id → Whole m cluster global new
 settles {S} {V} m cluster global old new id rest leaves becomes = record {
   meets = rest.meets;
   history = rest.history;
@@ -266,7 +289,8 @@ settles {S} {V} m cluster global old new id rest leaves becomes = record {
     at_own p (inr other) = subst (AreMessagesTrue global.log) (sym (leaves.own p other)) (rest.parties.own p)
 
 -- ---- what is left alone where the proposer's desk or its caller changes, and its frames
-pub leaves_both : {S V : Type 0} (old : View S V) (id : ℕ) (desk : DeskView V) (caller : CallerView) (flow : FlowView) (marks : List Mark) → ((p : ℕ) → (p ≡ id → ⊥) → (queue_at flow p).messages ≡ (queue_at old.flow p).messages)
+pub leaves_both : {S V : Type 0} (old : View S V) (id : ℕ) (desk : DeskView V) (caller : CallerView) (flow : FlowView) (marks : List Mark)
+    → ((p : ℕ) → (p ≡ id → ⊥) → (queue_at flow p).messages ≡ (queue_at old.flow p).messages)
     → Leaves old (record old { desks = slice_set old.desks id desk; callers = slice_set old.callers id caller; flow = flow; marks = marks }) id
 leaves_both old id desk caller flow marks others = record {
   last_proposer = refl;
@@ -290,7 +314,8 @@ leaves_desk old id desk flow others = record {
   own = others;
 }
 
-pub leaves_caller : {S V : Type 0} (old : View S V) (id : ℕ) (caller : CallerView) (flow : FlowView) (marks : List Mark) → ((p : ℕ) → (p ≡ id → ⊥) → (queue_at flow p).messages ≡ (queue_at old.flow p).messages)
+pub leaves_caller : {S V : Type 0} (old : View S V) (id : ℕ) (caller : CallerView) (flow : FlowView) (marks : List Mark)
+    → ((p : ℕ) → (p ≡ id → ⊥) → (queue_at flow p).messages ≡ (queue_at old.flow p).messages)
     → Leaves old (record old { callers = slice_set old.callers id caller; flow = flow; marks = marks }) id
 leaves_caller old id caller flow marks others = record {
   last_proposer = refl;

@@ -1,2 +1,5 @@
+pub mod ReadLaws
+pub mod Reads
 pub mod Safe
 pub mod Steps
+pub mod Tellings

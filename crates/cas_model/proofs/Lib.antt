@@ -4,6 +4,7 @@ pub mod Collection
 pub mod Eras
 pub mod Exchanges
 pub mod Frames
+pub mod Marks
 pub mod Needed
 pub mod Openings
 pub mod Others

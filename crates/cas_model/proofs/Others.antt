@@ -37,13 +37,14 @@ use Rattle.cas_model.specs.Collection.Logged.{IsTombstoneTrue, IsSoughtTrue, Ask
 use Rattle.cas_model.specs.Collection.State.{Tombstone, Acknowledged, CollectionView}
 use Rattle.cas_model.specs.Council.{Place, GoesOn, Ended, place_in, ListingView, ExchangeView, PlanView, Council}
 use Rattle.cas_model.specs.Eras.Listed.{IsShown, rescanned, listed, absent, AreShown, IsListingTrue, IsPlanTrue, IsAskingTrue, IsCouncilTrue}
-use Rattle.cas_model.specs.Parties.{IsAcceptorTrue, WasMade, IsMessageTrue, AreMessagesTrue, WereMade, IsInHand, IsHeldReady, IsPrepareTrue, IsRideTrue, IsAcceptTrue, IsRoundTrue, IsOpenTrue, IsAged, IsVaultTrue, IsDeskTrue, IsRefusalTrue, IsToldTrue, IsCallTrue, AreEnded, IsCallerTrue}
+use Rattle.cas_model.specs.Parties.{IsAcceptorTrue, WasMade, IsMessageTrue, AreMessagesTrue, WereMade, IsInHand, IsHeldReady, IsPrepareTrue, IsRideTrue, IsAcceptTrue, IsRoundTrue, IsOpenTrue, IsAged, IsVaultTrue, IsDeskTrue, IsReadTrue, IsRefusalTrue, IsToldTrue, IsCallTrue, AreEnded, IsCallerTrue}
 use Rattle.cas_protocol.specs.Proposers.{AllRide}
 use Rattle.cas_protocol.specs.Protocol.{Made, HasMade, IsListed}
 use Rattle.cas_model.specs.View.{Meaning, CallView, CallerView, IsAt}
 use Rattle.cas_protocol.proofs.Events.{mark_now, ended_grows}
 use Rattle.cas_protocol.proofs.Growing.{made_grows}
 use Rattle.cas_protocol.proofs.Staying.{left_still}
+use Rattle.cas_quorum.specs.declared.era.Era.{Era}
 
 -- ---- whose a happening is
 -- It is none of this proposer's or of its caller's: no ballot of it is drawn or proposed, no call of it is marked, and it asks nothing.
@@ -100,7 +101,8 @@ floors_before h log {key} {floor} none has = elim (mark_now h log has.stands) [
 pub above_still : (h : Happening) (log : List Happening) {key : List ℕ} {ballot : Ballot} → FloorsNot h → IsAboveFloors (marks_of log) key ballot → IsAboveFloors (marks_of (h ∷ log)) key ballot
 above_still h log {key} {ballot} none was = record { above = λ {floor} {state} stands. was.above (floors_before h log none (record { state = state; stands = stands })).stands }
 
-pub hand_still : (h : Happening) (log : List Happening) {id era : ℕ} {key : List ℕ} {ballot : Ballot} → ProposesNot h key ballot → FloorsNot h → IsInHand log id era key ballot → IsInHand (h ∷ log) id era key ballot
+pub hand_still : (h : Happening) (log : List Happening) {id era : ℕ} {key : List ℕ} {ballot : Ballot} → ProposesNot h key ballot → FloorsNot h → IsInHand log id era key ballot
+    → IsInHand (h ∷ log) id era key ballot
 hand_still h log {id} {era} {key} {ballot} not none was = record {
   own = was.own;
   drawn = later was.drawn;
@@ -119,7 +121,8 @@ all_still h log asks was = record {
   ];
 }
 
-pub ready_still : (cluster : Cluster) (h : Happening) (log : List Happening) (all : List Made) {id era : ℕ} {key : List ℕ} {ready : Ready} → ProposesNot h key ready.ballot → FloorsNot h → AsksToRide h key ready.read ready.ballot
+pub ready_still : (cluster : Cluster) (h : Happening) (log : List Happening) (all : List Made) {id era : ℕ} {key : List ℕ} {ready : Ready} → ProposesNot h key ready.ballot → FloorsNot h
+    → AsksToRide h key ready.read ready.ballot
     → IsHeldReady cluster log all id era key ready → IsHeldReady cluster (h ∷ log) all id era key ready
 ready_still cluster h log all {id} {era} {key} {ready} not none asks was = record {
   in_hand = hand_still h log not none was.in_hand;
@@ -144,7 +147,8 @@ pub no_floor_of : (id : ℕ) {h : Happening} → IsOfOthers id h → FloorsNot h
 no_floor_of id others key floor state now = let of : IsOfOthers id (Marked (Floor key floor state)) = subst (IsOfOthers id) (sym now) others in of
 
 -- whoever was asked to accept the proposer's ballot was asked by it
-asks_of : (cluster : Cluster) (h : Happening) (log : List Happening) {id : ℕ} {key : List ℕ} {ballot ride : Ballot} → Orderly cluster (h ∷ log) → IsOfOthers id h → ballot.proposer ≡ id → AsksToRide h key ballot ride
+asks_of : (cluster : Cluster) (h : Happening) (log : List Happening) {id : ℕ} {key : List ℕ} {ballot ride : Ballot} → Orderly cluster (h ∷ log) → IsOfOthers id h → ballot.proposer ≡ id
+    → AsksToRide h key ballot ride
 asks_of cluster h log {id} {key} {ballot} orderly others own request era asked state now is = absurd (
     let may : MayAsk cluster log request request.ask = subst (HasReason cluster log) (sym now) orderly.1 in
     let accept : MayAsk cluster log request (ask.Accept key ballot era asked state) = subst (MayAsk cluster log request) is may in
@@ -171,7 +175,8 @@ pub ride_still : (h : Happening) (log : List Happening) {id : ℕ} {round : Roun
     → IsRideTrue log id round ride → IsRideTrue (h ∷ log) id round ride
 ride_still h log not none asks was = record { in_hand = hand_still h log not none was.in_hand; above = was.above; all = all_still h log asks was.all }
 
-accept_of : (cluster : Cluster) (h : Happening) (log : List Happening) (all : List Made) {id number : ℕ} {call : CallView} {waiting : List Message} {round : Round} → Orderly cluster (h ∷ log) → IsOfOthers id h
+accept_of : (cluster : Cluster) (h : Happening) (log : List Happening) (all : List Made) {id number : ℕ} {call : CallView} {waiting : List Message} {round : Round} → Orderly cluster (h ∷ log)
+    → IsOfOthers id h
     → round.ballot.proposer ≡ id → IsAcceptTrue log all id number call waiting round → IsAcceptTrue (h ∷ log) all id number call waiting round
 accept_of cluster h log all {id} orderly others own was = record {
   made = was.made;
@@ -192,7 +197,8 @@ accept_of cluster h log all {id} orderly others own was = record {
   ride = λ ballot is. let rides = was.ride ballot is in ride_still h log (not_of others rides.in_hand.own) (no_floor_of id others) (asks_of cluster h log orderly others own) rides;
 }
 
-round_of : (cluster : Cluster) (h : Happening) (log : List Happening) (all : List Made) {id era : ℕ} {caller : CallerView} {waiting : List Message} {round : Round} → Orderly cluster (h ∷ log) → IsOfOthers id h
+round_of : (cluster : Cluster) (h : Happening) (log : List Happening) (all : List Made) {id era : ℕ} {caller : CallerView} {waiting : List Message} {round : Round} → Orderly cluster (h ∷ log)
+    → IsOfOthers id h
     → IsRoundTrue cluster log all id era caller waiting round → IsRoundTrue cluster (h ∷ log) all id era caller waiting round
 round_of cluster h log all orderly others was = record {
   call = was.call;
@@ -207,7 +213,8 @@ round_of cluster h log all orderly others was = record {
   ];
 }
 
-open_of : (cluster : Cluster) (h : Happening) (log : List Happening) (all : List Made) (id era : ℕ) (caller : CallerView) (waiting : List Message) (round : Option Round) → Orderly cluster (h ∷ log) → IsOfOthers id h
+open_of : (cluster : Cluster) (h : Happening) (log : List Happening) (all : List Made) (id era : ℕ) (caller : CallerView) (waiting : List Message) (round : Option Round)
+    → Orderly cluster (h ∷ log) → IsOfOthers id h
     → IsOpenTrue cluster log all id era caller waiting round → IsOpenTrue cluster (h ∷ log) all id era caller waiting round
 open_of cluster h log all id era caller waiting None orderly others was = was
 open_of cluster h log all id era caller waiting (Some round) orderly others was = round_of cluster h log all orderly others was
@@ -303,11 +310,39 @@ pub acked_later : (h : Happening) (log : List Happening) {key : List ℕ} {ballo
 acked_later h log was = record { acknowledgment = was.acknowledgment; stands = mark_later h log was.stands; same_key = was.same_key; same_ballot = was.same_ballot }
 
 -- ---- the operator
-pub exchange_still : (h : Happening) (log : List Happening) (open_ : Option ExchangeView) → IsAskingTrue log open_ → IsAskingTrue (h ∷ log) open_
-exchange_still h log open_ were exchange is_open = let was = were exchange is_open in record {
+-- with an exchange open no other probe is asked
+abbrev pub IsNoProbeIn : Option ExchangeView → Request → Type 0
+IsNoProbeIn None request = ⊤
+IsNoProbeIn (Some exchange) request = (tag : Ballot) (key : List ℕ) → request.ask ≡ ask.Probe tag key → ⊥
+
+pub no_probe_in : (open_ : Option ExchangeView) (request : Request) → ((tag : Ballot) (key : List ℕ) → request.ask ≡ ask.Probe tag key → ⊥) → IsNoProbeIn open_ request
+no_probe_in None request none = tt
+no_probe_in (Some exchange) request none = none
+
+read_still : (cluster : Cluster) (h : Happening) (log : List Happening) (tag : Ballot) (since : ℕ) (key : List ℕ) (era : Era)
+    → ((request : Request) → Asked request ≡ h → (t : Ballot) (k : List ℕ) → request.ask ≡ ask.Probe t k → ⊥)
+    → IsReadTrue cluster log tag since key era → IsReadTrue cluster (h ∷ log) tag since key era
+read_still cluster h log tag since key era none was = record {
+  older = was.older;
+  drawn = past was.drawn;
+  behind = was.behind;
+  not_beyond = was.not_beyond;
+  floors = was.floors;
+  alone = λ request k stands is. elim (newest_or stands) [
+    | inl now ↦ absurd (none request now tag k is)
+    | inr before ↦ was.alone request k before is
+  ];
+  prepares = was.prepares;
+  accepts = was.accepts;
+}
+
+pub exchange_still : (cluster : Cluster) (h : Happening) (log : List Happening) (open_ : Option ExchangeView) → ((request : Request) → Asked request ≡ h → IsNoProbeIn open_ request)
+    → IsAskingTrue cluster log open_ → IsAskingTrue cluster (h ∷ log) open_
+exchange_still cluster h log open_ none were exchange is_open = let was = were exchange is_open in record {
   own = was.own;
   era = was.era;
   drawn = later was.drawn;
+  read = λ key era asks reads. read_still cluster h log exchange.tag exchange.since key era (λ request now. subst (λ (o : Option ExchangeView). IsNoProbeIn o request) is_open (none request now)) (was.read key era asks reads);
   told = λ place answer told at is. let before = was.told place answer told at is in
       record { reply = before.reply; made = reply_still h log before.made; same_from = before.same_from; same_tell = before.same_tell; to_it = before.to_it };
 }
@@ -334,16 +369,19 @@ absent_later : {cluster : Cluster} (h : Happening) (log : List Happening) {era a
 absent_later h log was = record { then = was.then; part = older_by was.part; entered = was.entered; none = was.none }
 
 -- what was listed stays so
-shown_later : (cluster : Cluster) (h : Happening) (log : List Happening) {era member : ℕ} {keys : List (List ℕ)} {key : List ℕ} → IsShown cluster log era member keys key → IsShown cluster (h ∷ log) era member keys key
+shown_later : (cluster : Cluster) (h : Happening) (log : List Happening) {era member : ℕ} {keys : List (List ℕ)} {key : List ℕ} → IsShown cluster log era member keys key
+    → IsShown cluster (h ∷ log) era member keys key
 shown_later cluster h log (rescanned is) = rescanned (rescan_later h log is)
 shown_later cluster h log (listed is) = listed is
 shown_later cluster h log (absent is) = absent (absent_later h log is)
 
-are_shown_later : (cluster : Cluster) (h : Happening) (log : List Happening) (era member : ℕ) (keys : List (List ℕ)) (place : Place) → AreShown cluster log era member keys place → AreShown cluster (h ∷ log) era member keys place
+are_shown_later : (cluster : Cluster) (h : Happening) (log : List Happening) (era member : ℕ) (keys : List (List ℕ)) (place : Place) → AreShown cluster log era member keys place
+    → AreShown cluster (h ∷ log) era member keys place
 are_shown_later cluster h log era member keys (GoesOn after) were = λ key low. shown_later cluster h log (were key low)
 are_shown_later cluster h log era member keys Ended were = λ key. shown_later cluster h log (were key)
 
-listing_still : (cluster : Cluster) (h : Happening) (log : List Happening) (era : ℕ) (listing : ListingView) → FloorsNot h → IsListingTrue cluster log era listing → IsListingTrue cluster (h ∷ log) era listing
+listing_still : (cluster : Cluster) (h : Happening) (log : List Happening) (era : ℕ) (listing : ListingView) → FloorsNot h → IsListingTrue cluster log era listing
+    → IsListingTrue cluster (h ∷ log) era listing
 listing_still cluster h log era listing none was = record {
   own = was.own;
   drawn = record { older = was.drawn.older; at = past was.drawn.at };
@@ -375,15 +413,19 @@ plan_still cluster h log (Some plan) none was = record {
   listing = λ listing is. listing_still cluster h log plan.progress.era.number listing none (was.listing listing is);
 }
 
--- what is asked is above the tombstone of the collection, where its proposer was renewed for it
-abbrev pub AsksFor : Option CollectionView → Happening → Type 0
-AsksFor collection h = (request : Request) → Asked request ≡ h → AsksAboveFor collection request
+-- what is asked is above the tombstone of the collection, where its proposer was renewed for it, and is no probe beside an open exchange
+abbrev pub IsAskedApart : Council → Request → Type 0
+IsAskedApart council request = AsksAboveFor council.collection request × IsNoProbeIn council.exchange request
+
+abbrev pub AsksFor : Council → Happening → Type 0
+AsksFor council h = (request : Request) → Asked request ≡ h → IsAskedApart council request
 
 -- what is nobody's asks nothing
-pub asks_nothing : (collection : Option CollectionView) (h : Happening) → ((p : ℕ) → IsOfOthers p h) → AsksFor collection h
-asks_nothing collection h others request now = let of : IsOfOthers request.from (Asked request) = subst (IsOfOthers request.from) (sym now) (others request.from) in absurd (of refl)
+pub asks_nothing : (council : Council) (h : Happening) → ((p : ℕ) → IsOfOthers p h) → AsksFor council h
+asks_nothing council h others request now = let of : IsOfOthers request.from (Asked request) = subst (IsOfOthers request.from) (sym now) (others request.from) in absurd (of refl)
 
-pub tomb_still : (cluster : Cluster) (h : Happening) (log : List Happening) {key : List ℕ} {era : ℕ} {tomb : Ballot} {by : List ℕ} → Lawful cluster (h ∷ log) → IsTombstoneTrue log key era tomb by → IsTombstoneTrue (h ∷ log) key era tomb by
+pub tomb_still : (cluster : Cluster) (h : Happening) (log : List Happening) {key : List ℕ} {era : ℕ} {tomb : Ballot} {by : List ℕ} → Lawful cluster (h ∷ log) → IsTombstoneTrue log key era tomb by
+    → IsTombstoneTrue (h ∷ log) key era tomb by
 tomb_still cluster h log lawful was = record {
   own = was.own;
   drawn = later was.drawn;
@@ -396,18 +438,21 @@ tomb_still cluster h log lawful was = record {
   taken = λ acceptor member. let took = was.taken acceptor member in (took.0, later took.1);
 }
 
-pub sought_still : (cluster : Cluster) (h : Happening) (log : List Happening) (key : List ℕ) (era : ℕ) (tombstone : Tombstone) → Lawful cluster (h ∷ log) → IsSoughtTrue log key era tombstone → IsSoughtTrue (h ∷ log) key era tombstone
+pub sought_still : (cluster : Cluster) (h : Happening) (log : List Happening) (key : List ℕ) (era : ℕ) (tombstone : Tombstone) → Lawful cluster (h ∷ log) → IsSoughtTrue log key era tombstone
+    → IsSoughtTrue (h ∷ log) key era tombstone
 sought_still cluster h log key era (Acknowledged tomb by) lawful was = tomb_still cluster h log lawful was
 sought_still cluster h log key era other lawful was = was
 
-pub all_entered_later : (cluster : Cluster) (h : Happening) (log : List Happening) {era : ℕ} → (era ≡ 0) ⊎ AllEntered cluster era (marks_of log) → (era ≡ 0) ⊎ AllEntered cluster era (marks_of (h ∷ log))
+pub all_entered_later : (cluster : Cluster) (h : Happening) (log : List Happening) {era : ℕ} → (era ≡ 0) ⊎ AllEntered cluster era (marks_of log)
+    → (era ≡ 0) ⊎ AllEntered cluster era (marks_of (h ∷ log))
 all_entered_later cluster h log were = elim were [
   | inl first ↦ inl first
   | inr entered ↦ inr (entered_later cluster h log entered)
 ]
 
 -- what is known of a collection stays
-pub collection_still : (cluster : Cluster) (h : Happening) (log : List Happening) (collection : Option CollectionView) → Lawful cluster (h ∷ log) → AsksFor collection h → IsCollectingTrue cluster log collection → IsCollectingTrue cluster (h ∷ log) collection
+pub collection_still : (cluster : Cluster) (h : Happening) (log : List Happening) (collection : Option CollectionView) → Lawful cluster (h ∷ log)
+    → ((request : Request) → Asked request ≡ h → AsksAboveFor collection request) → IsCollectingTrue cluster log collection → IsCollectingTrue cluster (h ∷ log) collection
 collection_still cluster h log None lawful asks was = tt
 collection_still cluster h log (Some collection) lawful asks was = record {
   tombstone = sought_still cluster h log collection.course.key collection.course.era.number collection.tombstone lawful was.tombstone;
@@ -428,8 +473,14 @@ collection_still cluster h log (Some collection) lawful asks was = record {
 }
 
 -- what is known of what the operator has under way stays
-pub council_still : (cluster : Cluster) (h : Happening) (log : List Happening) (council : Council) → Lawful cluster (h ∷ log) → FloorsNot h → AsksFor council.collection h → IsCouncilTrue cluster log council → IsCouncilTrue cluster (h ∷ log) council
-council_still cluster h log council lawful none asks was = (exchange_still h log council.exchange was.0, plan_still cluster h log council.plan none was.1, was.2, collection_still cluster h log council.collection lawful asks was.3)
+pub council_still : (cluster : Cluster) (h : Happening) (log : List Happening) (council : Council) → Lawful cluster (h ∷ log) → FloorsNot h → AsksFor council h → IsCouncilTrue cluster log council
+    → IsCouncilTrue cluster (h ∷ log) council
+council_still cluster h log council lawful none asks was = (
+  exchange_still cluster h log council.exchange (λ request now. (asks request now).1) was.0,
+  plan_still cluster h log council.plan none was.1,
+  was.2,
+  collection_still cluster h log council.collection lawful (λ request now. (asks request now).0) was.3,
+)
 
 -- ---- what callers are told
 refusal_still : (h : Happening) (log : List Happening) {id number : ℕ} {told : Answer} → LeavesCalls h id → IsRefusalTrue log id number told → IsRefusalTrue (h ∷ log) id number told
@@ -452,7 +503,8 @@ told_still h log all id number (answer.Done state took ballot) leaves was = reco
 }
 told_still h log all id number told leaves was = refusal_still h log leaves was
 
-pub call_still : (h : Happening) (log : List Happening) (all : List Made) {id number : ℕ} {call : CallView} → LeavesCalls h id → IsCallTrue log all id number call → IsCallTrue (h ∷ log) all id number call
+pub call_still : (h : Happening) (log : List Happening) (all : List Made) {id number : ℕ} {call : CallView} → LeavesCalls h id → IsCallTrue log all id number call
+    → IsCallTrue (h ∷ log) all id number call
 call_still h log all {id} {number} leaves was = record {
   begun = mark_later h log was.begun;
   open_yet = λ is. elim (mark_now h log is.stands) [
@@ -503,7 +555,8 @@ calls_of_others h id others = record {
 }
 
 -- ---- acceptors
-pub acceptor_still : {S V : Type 0} (m : Meaning S V) (cluster : Cluster) (h : Happening) (log : List Happening) (id : ℕ) (kept : Contents) {acceptor : AcceptorView S} → Lawful cluster (h ∷ log) → IsElsewhere id h
+pub acceptor_still : {S V : Type 0} (m : Meaning S V) (cluster : Cluster) (h : Happening) (log : List Happening) (id : ℕ) (kept : Contents) {acceptor : AcceptorView S} → Lawful cluster (h ∷ log)
+    → IsElsewhere id h
     → IsAcceptorTrue m log id kept acceptor → IsAcceptorTrue m (h ∷ log) id kept acceptor
 acceptor_still m cluster h log id kept lawful elsewhere was = record {
   same_id = was.same_id;
@@ -515,7 +568,8 @@ acceptor_still m cluster h log id kept lawful elsewhere was = record {
 }
 
 -- ---- one more is made
-made_more : {all more : List Made} {key : List ℕ} {ballot : Ballot} {era : ℕ} {state : State} → ((m : Made) → Stands m all → Stands m more) → HasMade all key ballot era state → HasMade more key ballot era state
+made_more : {all more : List Made} {key : List ℕ} {ballot : Ballot} {era : ℕ} {state : State} → ((m : Made) → Stands m all → Stands m more) → HasMade all key ballot era state
+    → HasMade more key ballot era state
 made_more more has = record { made = has.made; stands = more has.made has.stands; same_key = has.same_key; same_ballot = has.same_ballot; same_era = has.same_era; same_state = has.same_state }
 
 pub ready_more : (cluster : Cluster) (log : List Happening) {all more : List Made} {id era : ℕ} {key : List ℕ} {ready : Ready} → ((m : Made) → Stands m all → Stands m more)
@@ -555,7 +609,8 @@ accept_more log more was = record {
   ride = was.ride;
 }
 
-round_more : (cluster : Cluster) (log : List Happening) {all more : List Made} (id era : ℕ) (caller : CallerView) (waiting : List Message) (round : Option Round) → ((m : Made) → Stands m all → Stands m more)
+round_more : (cluster : Cluster) (log : List Happening) {all more : List Made} (id era : ℕ) (caller : CallerView) (waiting : List Message) (round : Option Round)
+    → ((m : Made) → Stands m all → Stands m more)
     → IsOpenTrue cluster log all id era caller waiting round → IsOpenTrue cluster log more id era caller waiting round
 round_more cluster log id era caller waiting None more was = was
 round_more cluster log id era caller waiting (Some round) more was = record {
@@ -571,7 +626,8 @@ round_more cluster log id era caller waiting (Some round) more was = record {
   ];
 }
 
-pub desk_more : {S V : Type 0} (m : Meaning S V) (cluster : Cluster) (log : List Happening) (era : ℕ) {all more : List Made} (id : ℕ) (caller : CallerView) (waiting : List Message) (desk : DeskView V) → ((x : Made) → Stands x all → Stands x more)
+pub desk_more : {S V : Type 0} (m : Meaning S V) (cluster : Cluster) (log : List Happening) (era : ℕ) {all more : List Made} (id : ℕ) (caller : CallerView) (waiting : List Message) (desk : DeskView V)
+    → ((x : Made) → Stands x all → Stands x more)
     → IsDeskTrue m cluster log all era id caller waiting desk → IsDeskTrue m cluster log more era id caller waiting desk
 desk_more m cluster log era id caller waiting desk more was = record {
   same_id = was.same_id;
@@ -583,7 +639,8 @@ desk_more m cluster log era id caller waiting desk more was = record {
   round = round_more cluster log id era caller waiting desk.round more was.round;
 }
 
-told_more : (log : List Happening) {all more : List Made} (id number : ℕ) (told : Answer) → ((m : Made) → Stands m all → Stands m more) → IsToldTrue log all id number told → IsToldTrue log more id number told
+told_more : (log : List Happening) {all more : List Made} (id number : ℕ) (told : Answer) → ((m : Made) → Stands m all → Stands m more) → IsToldTrue log all id number told
+    → IsToldTrue log more id number told
 told_more log id number (answer.Done state took ballot) more was = record {
   made = was.made;
   stands = more was.made was.stands;
@@ -596,7 +653,8 @@ told_more log id number (answer.Done state took ballot) more was = record {
 }
 told_more log id number told more was = was
 
-pub caller_more : (log : List Happening) {all more : List Made} {id : ℕ} (caller : CallerView) → ((m : Made) → Stands m all → Stands m more) → IsCallerTrue log all id caller → IsCallerTrue log more id caller
+pub caller_more : (log : List Happening) {all more : List Made} {id : ℕ} (caller : CallerView) → ((m : Made) → Stands m all → Stands m more) → IsCallerTrue log all id caller
+    → IsCallerTrue log more id caller
 caller_more log {id = id} caller more was = record {
   number = was.number;
   ended = was.ended;

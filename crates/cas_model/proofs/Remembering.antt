@@ -22,6 +22,7 @@ use Rattle.cas_record.specs.declared.mark.Mark.{Mark}
 use Rattle.cas_record.specs.declared.mark.Mark.TheVariants.{EraEntered, Ended}
 use Rattle.cas_record.specs.declared.operator.Asked.{Asked}
 use Rattle.cas_record.specs.declared.operator.OpAnswer.{OpAnswer}
+use Rattle.cas_record.specs.declared.operator.OpAnswer.TheVariants.{Probed}
 use Rattle.cas_record.specs.Logs.Happening.{Happening, Marked, Entered, marks_of}
 use Rattle.cas_record.specs.Logs.Lawful.{Cluster, IsRescanned, MayMarkEra}
 use Rattle.cas_record.specs.Places.{here, Stands}
@@ -44,7 +45,7 @@ use Rattle.cas_model.specs.Eras.Step.{StepOpenPlan, OpensPlan, Welcomes, IsPlann
 use Rattle.cas_model.specs.Stops.Step as stops
 use Rattle.cas_model.specs.Stops.Step.{OpenCallAt, closed_by, closed_by_crash, LeavesRound, GoesDown, CrashesDesk, broken_off_view}
 use Rattle.cas_model.specs.View.{Meaning, View, CallView, CallerView, IsAt, era_at, era_in, with_desk}
-use Rattle.cas_model.proofs.Around.{Whole, whole_of, logged, Around, around, around_era, leaves_desk, settles}
+use Rattle.cas_model.proofs.Around.{Whole, whole_of, logged, Around, around, around_era, leaves_desk, settles, whole_more}
 use Rattle.cas_model.proofs.Exchanges.Steps as council
 use Rattle.cas_model.proofs.Eras.CourseSteps.{welcome_course, enters_course}
 use Rattle.cas_model.proofs.Eras.Courses.{AtSettle, course, at_settle, settle_enters, path_settles, course_relisted, course_stepped, leads, era_set, era_kept, stays_on, course_finished, course_entered}
@@ -56,7 +57,7 @@ use Rattle.cas_model.specs.Collection.Logged.{AreRenewed}
 use Rattle.cas_model.proofs.Eras.InEras.{IsPlain, era_kept as kept_in, crash_kept, left_in, AreIn, end_in, ask_in, gather_in, desks_in, one_put, one_changed, up_kept, down_in}
 use Rattle.cas_model.proofs.Stops.Leaving.{crashed_logged, vault_past, closing_move, left_whole, left_marks, down_logged}
 use Rattle.cas_model.proofs.Eras.OpeningPlans.{plan_opened}
-use Rattle.cas_model.proofs.Eras.OnCourse.{Leads, on_course, left_course, down_course, told_course, end_course}
+use Rattle.cas_model.proofs.Eras.OnCourse.{Leads, on_course, left_course, down_course, told_course, end_course, quiet, read_quietly}
 use Rattle.cas_model.proofs.Others.{LeavesCalls, plan_still, messages_still, caller_still}
 use Rattle.cas_model.proofs.Eras.Listings.{listing_on, listing_rescanned, rescan_of, known_listed}
 use Rattle.cas_model.proofs.Places.{contains_back, same_or_not, own_set, other_set, but_set, at_one, contains_none, some_is}
@@ -67,14 +68,16 @@ use Rattle.cas_model.proofs.Steps.{keeps_log, ends as ends_logged}
 
 -- ---- a vault that shows something else
 -- the desk is the same but for that
-pub revaulted : {S V : Type 0} (m : Meaning S V) (cluster : Cluster) (global : GlobalState) (old : View S V) (id : ℕ) (desk now : DeskView V) → IsAt old.desks id desk → now ≡ record desk { vault = now.vault; down = now.down }
+pub revaulted : {S V : Type 0} (m : Meaning S V) (cluster : Cluster) (global : GlobalState) (old : View S V) (id : ℕ) (desk now : DeskView V) → IsAt old.desks id desk
+    → now ≡ record desk { vault = now.vault; down = now.down }
     → Lasts m.disks desk.vault now.vault → Whole m cluster global old → Whole m cluster global (with_desk old id now)
 revaulted {S} {V} m cluster global old id desk now at is_now still whole =
     settles m cluster global old (with_desk old id now) id (around m cluster global old id whole) (leaves_desk old id now _ (λ p other. refl))
     (record {
       desk = λ d c at_d at_c.
           let of = whole.parties.desks id tt desk c at at_c in
-          subst (λ (x : DeskView V). IsDeskTrue m cluster global.log global.made (era_at old id).number id c (queue_at old.flow id).messages x) (sym (own_set old.desks id now d at_d ∙ is_now)) (record {
+          subst (λ (x : DeskView V). IsDeskTrue m cluster global.log global.made (era_at old id).number id c (queue_at old.flow id).messages x) (sym (own_set old.desks id now d at_d ∙ is_now))
+          (record {
             same_id = of.same_id;
             known = of.known;
             vault = vault_past m global.log id (era_at old id).number still of.vault;
@@ -113,7 +116,8 @@ shown_same of id low is = by_plan of.plan is.under_way
             by_number false same = refl
 
 -- the same eras in another place of the view
-pub same_course : {S V : Type 0} (m : Meaning S V) {cluster : Cluster} (old new : View S V) → course_of new ≡ course_of old → IsLogged m cluster new → IsCourseOf cluster (course_of old) → AreIn m (course_of old) new.desks → IsFollowed m new
+pub same_course : {S V : Type 0} (m : Meaning S V) {cluster : Cluster} (old new : View S V) → course_of new ≡ course_of old → IsLogged m cluster new → IsCourseOf cluster (course_of old)
+    → AreIn m (course_of old) new.desks → IsFollowed m new
 same_course m {cluster} old new same log on desks = record {
   cluster = cluster;
   logged = log;
@@ -141,7 +145,8 @@ record GoesNext {S V : Type 0} (m : Meaning S V) (old : View S V) (id : ℕ) (pl
   at_desk : IsAt old.desks id desk
   at_caller : IsAt old.callers id caller
 
-planned : {S V : Type 0} (m : Meaning S V) (old : View S V) (id : ℕ) (plan : PlanView) (next : Era) → (at : GoesNext m old id plan next) → IsCourseOf at.is.cluster (course old.last_proposer old.eras (Some plan) (entries_in old.marks))
+planned : {S V : Type 0} (m : Meaning S V) (old : View S V) (id : ℕ) (plan : PlanView) (next : Era) → (at : GoesNext m old id plan next)
+    → IsCourseOf at.is.cluster (course old.last_proposer old.eras (Some plan) (entries_in old.marks))
 planned m old id plan next at = subst (λ (p : Option PlanView). IsCourseOf at.is.cluster (course old.last_proposer old.eras p (entries_in old.marks))) at.is_plan at.is.course
 
 follows_next : {S V : Type 0} (m : Meaning S V) (old : View S V) (id : ℕ) (plan : PlanView) (next : Era) → GoesNext m old id plan next → Follows plan.progress.era next
@@ -161,7 +166,8 @@ next_has m old id plan next at = (planned m old id plan next at).later next (by_
     by_left (Finished ∷ left) is_next = absurd (cc is_next)
 
 -- the one whose turn it is has no mark of it
-unmarked : {S V : Type 0} (m : Meaning S V) (old : View S V) (id : ℕ) (plan : PlanView) (next : Era) → (at : GoesNext m old id plan next) → Stands (EraEntered plan.entered next.number) (marks_of at.is.logged.global.log) → ⊥
+unmarked : {S V : Type 0} (m : Meaning S V) (old : View S V) (id : ℕ) (plan : PlanView) (next : Era) → (at : GoesNext m old id plan next)
+    → Stands (EraEntered plan.entered next.number) (marks_of at.is.logged.global.log) → ⊥
 unmarked m old id plan next at stands =
     let number = (follows_next m old id plan next at).number in
     elim ((planned m old id plan next at).is_course.entries.none_beyond (record { proposer = plan.entered; era = next.number })
@@ -171,7 +177,8 @@ unmarked m old id plan next at stands =
     ]
 
 -- it leaves the era that all entered last, and knew nothing of the next
-leaving : {S V : Type 0} (m : Meaning S V) (old : View S V) (id : ℕ) (plan : PlanView) (next : Era) → (at : GoesNext m old id plan next) → era_at old id ≡ plan.progress.era → IsLeaving at.is.cluster at.is.logged.global.log id (era_at old id).number
+leaving : {S V : Type 0} (m : Meaning S V) (old : View S V) (id : ℕ) (plan : PlanView) (next : Era) → (at : GoesNext m old id plan next) → era_at old id ≡ plan.progress.era
+    → IsLeaving at.is.cluster at.is.logged.global.log id (era_at old id).number
 leaving m old id plan next at in_base =
     let of = at.is.logged.agrees.desks id at.desk at.caller at.at_desk at.at_caller in
     record {
@@ -181,7 +188,8 @@ leaving m old id plan next at in_base =
           ((subst (IsPlanTrue at.is.cluster at.is.logged.global.log) at.is_plan at.is.logged.agrees.council.1).settled next at.is_next);
     }
 
-none_beyond_next : {S V : Type 0} (m : Meaning S V) (old : View S V) (id : ℕ) (plan : PlanView) (next : Era) → (at : GoesNext m old id plan next) → Stands (Entered id (suc next.number)) at.is.logged.global.log → ⊥
+none_beyond_next : {S V : Type 0} (m : Meaning S V) (old : View S V) (id : ℕ) (plan : PlanView) (next : Era) → (at : GoesNext m old id plan next)
+    → Stands (Entered id (suc next.number)) at.is.logged.global.log → ⊥
 none_beyond_next m old id plan next at =
     none_after at.is.cluster at.is.logged.global.log id plan.entered next.number at.is.logged.history.lawful (omega (arith, (follows_next m old id plan next at).number))
     (omega (arith, (planned m old id plan next at).is_course.under_way.some_left, at.is.logged.agrees.last_proposer)) (unmarked m old id plan next at)
@@ -207,8 +215,10 @@ entry_around m old id plan next at in_base =
     (entered_around m at.is.cluster at.is.logged.global old id (era_at old id).number (leaving m old id plan next at in_base) (around m at.is.cluster at.is.logged.global old id (whole_of m old at.is.logged))))
 
 -- without promise and round it is in that era
-entry_quiet : {S V : Type 0} (m : Meaning S V) (old : View S V) (id : ℕ) (plan : PlanView) (next : Era) → (at : GoesNext m old id plan next) → era_at old id ≡ plan.progress.era → (now : DeskView V) → now.id ≡ at.desk.id → now.cache ≡ [] → now.round ≡ None
-    → Lasts m.disks at.desk.vault now.vault → IsQuiet m at.is.cluster (after_entry m old id plan next at).log (after_entry m old id plan next at).made id (era_in (slice_set old.eras id next) id).number now
+entry_quiet : {S V : Type 0} (m : Meaning S V) (old : View S V) (id : ℕ) (plan : PlanView) (next : Era) → (at : GoesNext m old id plan next) → era_at old id ≡ plan.progress.era
+    → (now : DeskView V) → now.id ≡ at.desk.id → now.cache ≡ [] → now.round ≡ None
+    → Lasts m.disks at.desk.vault now.vault
+    → IsQuiet m at.is.cluster (after_entry m old id plan next at).log (after_entry m old id plan next at).made id (era_in (slice_set old.eras id next) id).number now
 entry_quiet m old id plan next at in_base now same_id none idle still =
     let of = at.is.logged.agrees.desks id at.desk at.caller at.at_desk at.at_caller in
     let number = (follows_next m old id plan next at).number ∙ sym (ap (λ (e : Era). suc e.number) in_base) in
@@ -220,7 +230,8 @@ entry_quiet m old id plan next at in_base now same_id none idle still =
 
 -- ---- disks in eras
 -- a proposer whose era is the same is in it as before
-still_in : {S V : Type 0} (m : Meaning S V) (of : Course) (eras : List Era) (id : ℕ) (desk : DeskView V) → era_in eras id ≡ era_in of.eras id → IsInEra m of id desk → IsInEra m (record of { eras = eras }) id desk
+still_in : {S V : Type 0} (m : Meaning S V) (of : Course) (eras : List Era) (id : ℕ) (desk : DeskView V) → era_in eras id ≡ era_in of.eras id → IsInEra m of id desk
+    → IsInEra m (record of { eras = eras }) id desk
 still_in {S} {V} m of eras id desk same (inside within) = inside (subst (λ (e : Era). VaultKeepsEra m.disks e.number e.number desk.vault) (sym same) within)
 still_in {S} {V} m of eras id desk same (torn plan next is_plan is_next in_base down none idle within) =
     torn plan next is_plan is_next (same ∙ in_base) down none idle (subst (λ (e : Era). VaultKeepsEra m.disks e.number next.number desk.vault) (sym same) within)
@@ -273,7 +284,8 @@ restarts_entered {S} {V} m old id plan next now at disks in_base none idle by wi
         (was.0, still_in m (course_of old) (slice_set old.eras id next) p d (era_kept old.eras id p next other) was.1)
 
 -- it is up again, in the era that its vault shows
-shown_up : {S V : Type 0} (m : Meaning S V) (old : View S V) (id : ℕ) (desk now : DeskView V) (caller : CallerView) → IsFollowed m old → m.disks.tells → IsAt old.desks id desk → IsAt old.callers id caller → Restarts m.disks desk now → now.down ≡ false
+shown_up : {S V : Type 0} (m : Meaning S V) (old : View S V) (id : ℕ) (desk now : DeskView V) (caller : CallerView) → IsFollowed m old → m.disks.tells → IsAt old.desks id desk
+    → IsAt old.callers id caller → Restarts m.disks desk now → now.down ≡ false
     → IsFollowed m (record (with_desk old id now) { eras = slice_set old.eras id (era_shown old.council.plan (era_at old id) (kept_of now.vault).era) })
 shown_up {S} {V} m old id desk now caller is disks at at_c by up = by_era (is.in_eras id desk at).1
   where
@@ -281,13 +293,15 @@ shown_up {S} {V} m old id desk now caller is disks at at_c by up = by_era (is.in
     low = (is.in_eras id desk at).0
 
     -- it shows its era
-    same : VaultKeepsEra m.disks (era_at old id).number (era_at old id).number now.vault → IsFollowed m (record (with_desk old id now) { eras = slice_set old.eras id (era_shown old.council.plan (era_at old id) (kept_of now.vault).era) })
+    same : VaultKeepsEra m.disks (era_at old id).number (era_at old id).number now.vault
+        → IsFollowed m (record (with_desk old id now) { eras = slice_set old.eras id (era_shown old.council.plan (era_at old id) (kept_of now.vault).era) })
     same within = subst (λ (l : List Era). IsFollowed m (record (with_desk old id now) { eras = l }))
         (sym (ap (λ (n : ℕ). slice_set old.eras id (era_shown old.council.plan (era_at old id) n)) within.kept ∙ ap (λ (e : Era). slice_set old.eras id e) (shown_same (course_of old) id low is.course.is_course) ∙ set-get_or old.eras id (majority_era 0 [])))
         (restarts_inside m old id desk now is disks at by (inside within))
 
     -- or the next one
-    goes : (plan : PlanView) (next : Era) → old.council.plan ≡ Some plan → next_era old.council.plan ≡ Some next → era_at old id ≡ plan.progress.era → desk.cache ≡ [] → desk.round ≡ None → VaultKeepsEra m.disks next.number next.number now.vault
+    goes : (plan : PlanView) (next : Era) → old.council.plan ≡ Some plan → next_era old.council.plan ≡ Some next → era_at old id ≡ plan.progress.era → desk.cache ≡ [] → desk.round ≡ None
+        → VaultKeepsEra m.disks next.number next.number now.vault
         → IsFollowed m (record (with_desk old id now) { eras = slice_set old.eras id (era_shown old.council.plan (era_at old id) (kept_of now.vault).era) })
     goes plan next is_plan is_next in_base none idle within = subst (λ (e : Era). IsFollowed m (record (with_desk old id now) { eras = slice_set old.eras id e }))
         (sym (ap (λ (n : ℕ). era_shown old.council.plan (era_at old id) n) within.kept ∙ ap (λ (o : Option Era). shown_era o (era_at old id) next.number) is_next ∙ if_true (next.number == next.number) next (era_at old id) (nat_is refl)))
@@ -302,7 +316,8 @@ shown_up {S} {V} m old id desk now caller is disks at at_c by up = by_era (is.in
     ]
 
 -- it stays down
-stays_down : {S V : Type 0} (m : Meaning S V) (old : View S V) (id : ℕ) (desk now : DeskView V) → IsFollowed m old → m.disks.tells → IsAt old.desks id desk → Restarts m.disks desk now → now.down ≡ true → IsFollowed m (with_desk old id now)
+stays_down : {S V : Type 0} (m : Meaning S V) (old : View S V) (id : ℕ) (desk now : DeskView V) → IsFollowed m old → m.disks.tells → IsAt old.desks id desk → Restarts m.disks desk now
+    → now.down ≡ true → IsFollowed m (with_desk old id now)
 stays_down {S} {V} m old id desk now is disks at by down = restarts_inside m old id desk now is disks at by (by_era (is.in_eras id desk at).1)
   where
     by_era : IsInEra m (course_of old) id desk → IsInEra m (course_of old) id now
@@ -314,7 +329,8 @@ restarts : {S V : Type 0} (m : Meaning S V) (old : View S V) (id : ℕ) (new : V
 restarts m old id new disks is (step.was_up_already desk at up view) = subst (IsFollowed m) (sym view) is
 restarts {S} {V} m old id new disks is (step.restarts desk now caller at at_c down by view) = subst (IsFollowed m) (sym view) (by_down now.down refl)
   where
-    by_down : (b : Bool) → now.down ≡ b → IsFollowed m (record (with_desk old id now) { eras = if b then old.eras else slice_set old.eras id (era_shown old.council.plan (era_at old id) (kept_of now.vault).era) })
+    by_down : (b : Bool) → now.down ≡ b
+        → IsFollowed m (record (with_desk old id now) { eras = if b then old.eras else slice_set old.eras id (era_shown old.council.plan (era_at old id) (kept_of now.vault).era) })
     by_down true stays = stays_down m old id desk now is disks at by stays
     by_down false up = shown_up m old id desk now caller is disks at at_c by up
 
@@ -333,11 +349,13 @@ record EntersLog {S V : Type 0} (m : Meaning S V) (cluster : Cluster) (old : Vie
   callers : (c : CallerView) → IsAt old.callers id c → IsCallerTrue after.log after.made id c
   own : AreMessagesTrue after.log (queue_at old.flow id).messages
   late : AreMessagesTrue after.log old.flow.late
-  quiet : (now : DeskView V) (desk : DeskView V) → IsAt old.desks id desk → EntersEra m.disks next desk now → IsQuiet m cluster after.log after.made id (era_in (slice_set old.eras id next) id).number now
+  quiet : (now : DeskView V) (desk : DeskView V) → IsAt old.desks id desk → EntersEra m.disks next desk now
+      → IsQuiet m cluster after.log after.made id (era_in (slice_set old.eras id next) id).number now
   entered : Stands (Entered id next.number) after.log
   same_marks : marks_of after.log ≡ marks_of before.log
 
-enters_log : {S V : Type 0} (m : Meaning S V) (old : View S V) (id : ℕ) (plan : PlanView) (next : Era) → (at : GoesNext m old id plan next) → m.disks.tells → WorksIn plan id (era_at old id) → EntersLog m at.is.cluster old id next at.is.logged.global
+enters_log : {S V : Type 0} (m : Meaning S V) (old : View S V) (id : ℕ) (plan : PlanView) (next : Era) → (at : GoesNext m old id plan next) → m.disks.tells → WorksIn plan id (era_at old id)
+    → EntersLog m at.is.cluster old id next at.is.logged.global
 enters_log {S} {V} m old id plan next at disks (not_yet few in_base) = record {
   after = after_entry m old id plan next at;
   rest = entry_around m old id plan next at in_base;
@@ -346,7 +364,8 @@ enters_log {S} {V} m old id plan next at disks (not_yet few in_base) = record {
   late = messages_still (Entered id next.number) at.is.logged.global.log old.flow.late whole.parties.late;
   quiet = λ now desk at_d enters.
       let same = at_one old.desks id at_d at.at_desk in
-      entry_quiet m old id plan next at in_base now (ap (λ (x : DeskView V). x.id) enters.desk ∙ ap (λ (x : DeskView V). x.id) same) (ap (λ (x : DeskView V). x.cache) enters.desk) (ap (λ (x : DeskView V). x.round) enters.desk)
+      entry_quiet m old id plan next at in_base now (ap (λ (x : DeskView V). x.id) enters.desk ∙ ap (λ (x : DeskView V). x.id) same) (ap (λ (x : DeskView V). x.cache) enters.desk)
+      (ap (λ (x : DeskView V). x.round) enters.desk)
       (subst (λ (x : DeskView V). Lasts m.disks x.vault now.vault) same (record { still_past = enters.still_past disks; ages = enters.ages disks }));
   entered = record { older = at.is.logged.global.log; at = here };
   same_marks = refl;
@@ -366,7 +385,9 @@ enters_log {S} {V} m old id plan next at disks (entered there) = record {
         same_id = ap (λ (x : DeskView V). x.id) enters.desk ∙ of.same_id;
         known = of.known;
         vault = vault_past m at.is.logged.global.log id (era_at old id).number (record { still_past = enters.still_past disks; ages = enters.ages disks }) of.vault;
-        cached = subst (ArePromisesHeld at.is.cluster at.is.logged.global.log at.is.logged.global.made id (era_at old id).number) (sym (ap (λ (x : DeskView V). x.cache) enters.desk)) (λ key ready h. absurd (contains_none h));
+        cached =
+            subst (ArePromisesHeld at.is.cluster at.is.logged.global.log at.is.logged.global.made id (era_at old id).number) (sym (ap (λ (x : DeskView V). x.cache) enters.desk))
+            (λ key ready h. absurd (contains_none h));
         one_each = subst HaveOneEach (sym (ap (λ (x : DeskView V). x.cache) enters.desk)) tt;
         none_open = ap (λ (x : DeskView V). x.round) enters.desk;
       });
@@ -396,10 +417,12 @@ plan_entered cluster log plan next false settles known = record { settled = know
 enters_logged : {S V : Type 0} (m : Meaning S V) (old : View S V) (plan : PlanView) (next : Era) (middle : View S V) → (at : GoesNext m old plan.entered plan next) → m.disks.tells
     → LeavesRound (EntersEra m.disks next) (closed_by (answer.Moved next.number) (cause.Moved next.number)) old plan.entered middle → IsLogged m at.is.cluster (entered_view middle plan next)
 enters_logged {S} {V} m old plan next middle at disks leaves =
-    marked m at.is.cluster marked_global (record (with_plan middle (Some (plan_after middle.last_proposer plan next))) { eras = slice_set middle.eras plan.entered next }) (EraEntered plan.entered next.number ∷ []) (marks_of at.is.logged.global.log)
+    marked m at.is.cluster marked_global (record (with_plan middle (Some (plan_after middle.last_proposer plan next))) { eras = slice_set middle.eras plan.entered next })
+    (EraEntered plan.entered next.number ∷ []) (marks_of at.is.logged.global.log)
     (council.counsels m at.is.cluster marked_global (record middle { eras = slice_set middle.eras plan.entered next }) (record (hushed middle.council) { plan = Some (plan_after middle.last_proposer plan next) }) (
       marked_whole.parties.council.0,
-      plan_entered at.is.cluster marked_global.log plan next (plan.entered == middle.last_proposer) (path_settles next (rest_of plan.progress.left) (leads plan.progress.era next plan.progress.left at.is_next (planned m old plan.entered plan next at).is_course.under_way.start).path)
+      plan_entered at.is.cluster marked_global.log plan next (plan.entered == middle.last_proposer)
+          (path_settles next (rest_of plan.progress.left) (leads plan.progress.era next plan.progress.left at.is_next (planned m old plan.entered plan next at).is_course.under_way.start).path)
           (subst (IsPlanTrue at.is.cluster marked_global.log) (ap (λ (c : Course). c.plan) (left_course (EntersEra m.disks next) (closed_by (answer.Moved next.number) (cause.Moved next.number)) old middle plan.entered leaves) ∙ at.is_plan) marked_whole.parties.council.1),
       marked_whole.parties.council.2,
       marked_whole.parties.council.3,
@@ -429,12 +452,14 @@ enters_logged {S} {V} m old plan next middle at disks leaves =
     marked_global = with_mark log.after (Marked (EraEntered id next.number))
 
     marked_whole : Whole m at.is.cluster marked_global (record middle { eras = slice_set middle.eras id next })
-    marked_whole = council.whole_more m at.is.cluster log.after (record middle { eras = slice_set middle.eras id next }) (Marked (EraEntered id next.number)) (λ p. tt) (λ a. tt)
+    marked_whole = whole_more m at.is.cluster log.after (record middle { eras = slice_set middle.eras id next }) (Marked (EraEntered id next.number)) (λ p. tt) (λ a. tt)
         (happens at.is.cluster whole.meets log.after whole.history (MarksEra id next.number may)) whole
 
 -- what is to come is still to come, or was the next
-later_of_next : (cluster : Cluster) (plan : PlanView) (next : Era) (b : Bool) (last_proposer : ℕ) (eras : List Era) (entries : List EraEntry) → entering plan.progress.left ≡ Some next → Follows plan.progress.era next
-    → ((era : Era) → Contains (eras_in plan.progress.left) era → IsEraOf cluster era) → ((number : ℕ) → plan.progress.era.number + length (eras_in plan.progress.left) < number → IsNoEra cluster number)
+later_of_next : (cluster : Cluster) (plan : PlanView) (next : Era) (b : Bool) (last_proposer : ℕ) (eras : List Era) (entries : List EraEntry) → entering plan.progress.left ≡ Some next
+    → Follows plan.progress.era next
+    → ((era : Era) → Contains (eras_in plan.progress.left) era → IsEraOf cluster era)
+    → ((number : ℕ) → plan.progress.era.number + length (eras_in plan.progress.left) < number → IsNoEra cluster number)
     → IsCourse (course last_proposer eras (Some (if b then record plan { progress = record { era = next; left = rest_of plan.progress.left }; entered = 0; listing = None } else record plan { entered = suc plan.entered })) entries)
     → IsCourseOf cluster (course last_proposer eras (Some (if b then record plan { progress = record { era = next; left = rest_of plan.progress.left }; entered = 0; listing = None } else record plan { entered = suc plan.entered })) entries)
 later_of_next cluster plan next false last_proposer eras entries is_next follows have beyond on = record { is_course = on; later = have; none_beyond = beyond }
@@ -457,7 +482,8 @@ later_of_next cluster plan next true last_proposer eras entries is_next follows 
     fewer (Finished ∷ left) is = absurd (cc is)
 
 -- who is torn between two eras still is, since it did not enter the next
-torn_still : {S V : Type 0} (m : Meaning S V) (old : View S V) (plan : PlanView) (next : Era) → (at : GoesNext m old plan.entered plan next) → (p : ℕ) (d : DeskView V) → (p ≡ plan.entered → ⊥) → IsAt old.desks p d
+torn_still : {S V : Type 0} (m : Meaning S V) (old : View S V) (plan : PlanView) (next : Era) → (at : GoesNext m old plan.entered plan next) → (p : ℕ) (d : DeskView V) → (p ≡ plan.entered → ⊥)
+    → IsAt old.desks p d
     → IsInEra m (course old.last_proposer (slice_set old.eras plan.entered next) (Some (plan_after old.last_proposer plan next)) (entries_in old.marks ++ record { proposer = plan.entered; era = next.number } ∷ [])) p d
 torn_still {S} {V} m old plan next at p d other at_d = by_era (at.is.in_eras p d at_d).1
   where
@@ -481,7 +507,9 @@ torn_still {S} {V} m old plan next at p d other at_d = by_era (at.is.in_eras p d
         next_is = ap next_era (sym at.is_plan) ∙ is_next_
 
         by_last : (b : Bool) → (plan.entered == old.last_proposer) ≡ b → IsInEra m (New (if b then record plan { progress = record { era = next; left = rest_of plan.progress.left }; entered = 0; listing = None } else record plan { entered = suc plan.entered })) p d
-        by_last false is = torn (record plan { entered = suc plan.entered }) next_ refl next_is (same ∙ base) down none idle (subst (λ (e : Era). VaultKeepsEra m.disks e.number next_.number d.vault) (sym same) within)
+        by_last false is =
+            torn (record plan { entered = suc plan.entered }) next_ refl next_is (same ∙ base) down none idle
+            (subst (λ (e : Era). VaultKeepsEra m.disks e.number next_.number d.vault) (sym same) within)
         by_last true is = elim ((planned m old plan.entered plan next at).is_course.under_way.each p (at.is.in_eras p d at_d).0) [
           | not_yet few in_era ↦ absurd (omega (arith, few, other, nat_same is, (at.is.in_eras p d at_d).0))
           | entered there ↦ absurd (omega (arith, ap (λ (e : Era). e.number) (some_is (sym there ∙ at.is_next)), ap (λ (e : Era). e.number) base, (follows_next m old plan.entered plan next at).number))
@@ -516,24 +544,30 @@ enters_remembered {S} {V} m old plan next middle at disks leaves = record {
       | inr other ↦ inr other
     ]
 
-    there : LeavesRound (EntersEra m.disks next) (closed_by (answer.Moved next.number) (cause.Moved next.number)) old plan.entered middle → (p : ℕ) (d : DeskView V) → IsAt middle.desks p d → Changed p d
+    there : LeavesRound (EntersEra m.disks next) (closed_by (answer.Moved next.number) (cause.Moved next.number)) old plan.entered middle → (p : ℕ) (d : DeskView V) → IsAt middle.desks p d
+        → Changed p d
     there (stops.idle desk now at_d none enters view) p d at_p = put desk now at_d enters p d (subst (λ (w : View S V). IsAt w.desks p d) view at_p)
     there (stops.closes desk now round of at_d is_round enters view) p d at_p = put desk now at_d enters p d (subst (λ (w : View S V). IsAt w.desks p d) view at_p)
 
-    by_place : (p : ℕ) (d : DeskView V) → Changed p d → (p ≤ old.last_proposer) × IsInEra m (course old.last_proposer (slice_set old.eras plan.entered next) (Some (plan_after old.last_proposer plan next)) entries) p d
-    by_place p d (inl own) = subst (λ (q : ℕ). (q ≤ old.last_proposer) × IsInEra m (course old.last_proposer (slice_set old.eras plan.entered next) (Some (plan_after old.last_proposer plan next)) entries) q d) (sym own.0) (
-      known_in m old plan.entered plan next at,
-      inside (subst (λ (e : Era). VaultKeepsEra m.disks e.number e.number d.vault)
-          (sym (era_set old.eras plan.entered next (omega (arith, known_in m old plan.entered plan next at, at.is.course.is_course.few, at.is.course.is_course.places)))) (own.1.in_era disks)),
-    )
+    by_place : (p : ℕ) (d : DeskView V) → Changed p d
+        → (p ≤ old.last_proposer) × IsInEra m (course old.last_proposer (slice_set old.eras plan.entered next) (Some (plan_after old.last_proposer plan next)) entries) p d
+    by_place p d (inl own) =
+        subst (λ (q : ℕ). (q ≤ old.last_proposer) × IsInEra m (course old.last_proposer (slice_set old.eras plan.entered next) (Some (plan_after old.last_proposer plan next)) entries) q d)
+        (sym own.0) (
+          known_in m old plan.entered plan next at,
+          inside (subst (λ (e : Era). VaultKeepsEra m.disks e.number e.number d.vault)
+              (sym (era_set old.eras plan.entered next (omega (arith, known_in m old plan.entered plan next at, at.is.course.is_course.few, at.is.course.is_course.places)))) (own.1.in_era disks)),
+        )
     by_place p d (inr other) = ((at.is.in_eras p d other.1).0, torn_still m old plan next at p d other.0 other.1)
 
 -- ---- the operator is told something
 pub tells_remembered : {S V : Type 0} (m : Meaning S V) (old : View S V) (answer : OpAnswer) → IsFollowed m old → IsFollowed m (told_view old answer)
-tells_remembered m old answer is = same_course m old (told_view old answer) refl (council.counsels_by m old _ refl is.logged is.logged.agrees.council.1 is.logged.agrees.council.2 is.logged.agrees.council.3) is.course is.in_eras
+tells_remembered m old answer is =
+    same_course m old (told_view old answer) refl (council.counsels_by m old _ refl is.logged is.logged.agrees.council.1 is.logged.agrees.council.2 is.logged.agrees.council.3) is.course is.in_eras
 
 -- its vault failed
-fails_remembered : {S V : Type 0} (m : Meaning S V) (old : View S V) (plan : PlanView) (next : Era) (middle : View S V) → (at : GoesNext m old plan.entered plan next) → m.disks.tells → GoesDown (FailsToEnter m.disks next) old plan.entered middle → IsFollowed m middle
+fails_remembered : {S V : Type 0} (m : Meaning S V) (old : View S V) (plan : PlanView) (next : Era) (middle : View S V) → (at : GoesNext m old plan.entered plan next) → m.disks.tells
+    → GoesDown (FailsToEnter m.disks next) old plan.entered middle → IsFollowed m middle
 fails_remembered {S} {V} m old plan next middle at disks down =
     same_course m old middle (down_course (FailsToEnter m.disks next) old middle plan.entered down)
     (down_logged m old plan.entered (FailsToEnter m.disks next) middle (λ desk now fails. (fails.crashed, record { still_past = fails.still_past disks; ages = fails.ages disks })) at.is.logged down) at.is.course
@@ -547,8 +581,11 @@ fails_remembered {S} {V} m old plan next middle at disks down =
     in_era desk now fails (inside within) = by_era works (fails.torn disks (era_at old plan.entered).number within)
       where
         by_era : WorksIn plan plan.entered (era_at old plan.entered) → VaultKeepsEra m.disks (era_at old plan.entered).number next.number now.vault → IsInEra m (course_of old) plan.entered now
-        by_era (not_yet few in_base) left = torn plan next at.is_plan (ap next_era at.is_plan ∙ at.is_next) in_base (ap (λ (d : DeskView V). d.down) fails.crashed) (ap (λ (d : DeskView V). d.cache) fails.crashed) (ap (λ (d : DeskView V). d.round) fails.crashed) left
-        by_era (entered there) left = inside (subst (λ (n : ℕ). VaultKeepsEra m.disks (era_at old plan.entered).number n now.vault) (ap (λ (e : Era). e.number) (some_is (sym at.is_next ∙ there))) left)
+        by_era (not_yet few in_base) left =
+            torn plan next at.is_plan (ap next_era at.is_plan ∙ at.is_next) in_base (ap (λ (d : DeskView V). d.down) fails.crashed) (ap (λ (d : DeskView V). d.cache) fails.crashed)
+            (ap (λ (d : DeskView V). d.round) fails.crashed) left
+        by_era (entered there) left =
+            inside (subst (λ (n : ℕ). VaultKeepsEra m.disks (era_at old plan.entered).number n now.vault) (ap (λ (e : Era). e.number) (some_is (sym at.is_next ∙ there))) left)
 
 enters : {S V : Type 0} (m : Meaning S V) (old : View S V) (id : ℕ) (new : View S V) → m.disks.tells → IsFollowed m old → StepEnterEra m old id new → IsFollowed m new
 enters {S} {V} m old id new disks is by = by_case by.enters
@@ -598,9 +635,11 @@ finishes {S} {V} m old asked answer plan is is_plan none = record {
 -- with another plan
 record Carries {S V : Type 0} (m : Meaning S V) (cluster : Cluster) (old : View S V) (plan next : PlanView) : Type 0 where
   on_course : IsCourseOf cluster (course old.last_proposer old.eras (Some plan) (entries_in old.marks)) → IsCourseOf cluster (course old.last_proposer old.eras (Some next) (entries_in old.marks))
-  in_era : (id : ℕ) (desk : DeskView V) → IsInEra m (course old.last_proposer old.eras (Some plan) (entries_in old.marks)) id desk → IsInEra m (course old.last_proposer old.eras (Some next) (entries_in old.marks)) id desk
+  in_era : (id : ℕ) (desk : DeskView V) → IsInEra m (course old.last_proposer old.eras (Some plan) (entries_in old.marks)) id desk
+      → IsInEra m (course old.last_proposer old.eras (Some next) (entries_in old.marks)) id desk
 
-carried : {S V : Type 0} (m : Meaning S V) {cluster : Cluster} (old new : View S V) (plan next : PlanView) → old.council.plan ≡ Some plan → course_of new ≡ course old.last_proposer old.eras (Some next) (entries_in old.marks)
+carried : {S V : Type 0} (m : Meaning S V) {cluster : Cluster} (old new : View S V) (plan next : PlanView) → old.council.plan ≡ Some plan
+    → course_of new ≡ course old.last_proposer old.eras (Some next) (entries_in old.marks)
     → Carries m cluster old plan next → IsLogged m cluster new → IsCourseOf cluster (course_of old) → AreIn m (course_of old) new.desks → IsFollowed m new
 carried {S} {V} m {cluster} old new plan next is_plan same by log on desks = record {
   cluster = cluster;
@@ -611,7 +650,8 @@ carried {S} {V} m {cluster} old new plan next is_plan same by log on desks = rec
 }
 
 -- other keys are listed or proposed anew
-relists : {S V : Type 0} (m : Meaning S V) (cluster : Cluster) (old : View S V) (plan : PlanView) (count : ℕ) (listing : Option ListingView) → Carries m cluster old plan (record plan { rescanned = count; listing = listing })
+relists : {S V : Type 0} (m : Meaning S V) (cluster : Cluster) (old : View S V) (plan : PlanView) (count : ℕ) (listing : Option ListingView)
+    → Carries m cluster old plan (record plan { rescanned = count; listing = listing })
 relists {S} {V} m cluster old plan count listing = record {
   on_course = λ on. record { is_course = course_relisted old.last_proposer old.eras plan (entries_in old.marks) count listing on.is_course; later = on.later; none_beyond = on.none_beyond };
   in_era = in_era;
@@ -640,11 +680,13 @@ steps_on {S} {V} m cluster old plan settles = record {
     same_eras (Enter era ∷ left) is = absurd (cc is)
     same_eras (Finished ∷ left) is = absurd (cc is)
 
-    in_era : (id : ℕ) (desk : DeskView V) → IsInEra m (course old.last_proposer old.eras (Some plan) (entries_in old.marks)) id desk → IsInEra m (course old.last_proposer old.eras (Some (stepped plan)) (entries_in old.marks)) id desk
+    in_era : (id : ℕ) (desk : DeskView V) → IsInEra m (course old.last_proposer old.eras (Some plan) (entries_in old.marks)) id desk
+        → IsInEra m (course old.last_proposer old.eras (Some (stepped plan)) (entries_in old.marks)) id desk
     in_era id desk (inside within) = inside within
     in_era id desk (torn other next is_plan is_next in_base down none idle within) = absurd (cc (is_next, settle_enters plan.progress.left settles))
 
-lists_on : {S V : Type 0} (m : Meaning S V) (cluster : Cluster) (old : View S V) (plan : PlanView) (listing : ListingView) → next_of plan.progress.left ≡ Settle → Carries m cluster old plan (with_listing plan listing)
+lists_on : {S V : Type 0} (m : Meaning S V) (cluster : Cluster) (old : View S V) (plan : PlanView) (listing : ListingView) → next_of plan.progress.left ≡ Settle
+    → Carries m cluster old plan (with_listing plan listing)
 lists_on {S} {V} m cluster old plan listing settles = by_test (listing.complete && (length listing.keys == 0))
   where
     by_test : (b : Bool) → Carries m cluster old plan (if b then stepped plan else record plan { listing = Some listing })
@@ -659,7 +701,9 @@ over {S} {V} m old asked answer is = by_plan old.council.plan refl
     log = council.ends_told m old asked answer is.logged
 
     by_plan : (plan : Option PlanView) → old.council.plan ≡ plan → IsFollowed m (told_over old asked answer)
-    by_plan None none = same_course m old (told_over old asked answer) (told_course old asked answer ∙ ap (λ (p : Option PlanView). course old.last_proposer old.eras (option_map without_partial p) (entries_in old.marks)) none
+    by_plan None none =
+        same_course m old (told_over old asked answer)
+        (told_course old asked answer ∙ ap (λ (p : Option PlanView). course old.last_proposer old.eras (option_map without_partial p) (entries_in old.marks)) none
         ∙ sym (ap (λ (p : Option PlanView). course old.last_proposer old.eras p (entries_in old.marks)) none)) log is.course is.in_eras
     by_plan (Some plan) is_plan = carried m old (told_over old asked answer) plan (without_partial plan) is_plan
         (told_course old asked answer ∙ ap (λ (p : Option PlanView). course old.last_proposer old.eras (option_map without_partial p) (entries_in old.marks)) is_plan)
@@ -667,11 +711,15 @@ over {S} {V} m old asked answer is = by_plan old.council.plan refl
 
 -- ---- an era is settled
 -- what is so of the cluster then
-settling : {S V : Type 0} (m : Meaning S V) (old : View S V) (plan : PlanView) → IsFollowed m old → old.council.plan ≡ Some plan → next_of plan.progress.left ≡ Settle → AtSettle old.last_proposer old.eras plan (entries_in old.marks)
-settling m old plan is is_plan settles = at_settle old.last_proposer old.eras plan (entries_in old.marks) settles (subst (λ (p : Option PlanView). IsCourse (course old.last_proposer old.eras p (entries_in old.marks))) is_plan is.course.is_course)
+settling : {S V : Type 0} (m : Meaning S V) (old : View S V) (plan : PlanView) → IsFollowed m old → old.council.plan ≡ Some plan → next_of plan.progress.left ≡ Settle
+    → AtSettle old.last_proposer old.eras plan (entries_in old.marks)
+settling m old plan is is_plan settles =
+    at_settle old.last_proposer old.eras plan (entries_in old.marks) settles
+    (subst (λ (p : Option PlanView). IsCourse (course old.last_proposer old.eras p (entries_in old.marks))) is_plan is.course.is_course)
 
 -- all are asked for their next keys
-asks_keys : {S V : Type 0} (m : Meaning S V) (old : View S V) (places : List MemberPlace) (new : View S V) → m.disks.tells → IsFollowed m old → StepAskAll m old (NextKeys places) new → IsFollowed m new
+asks_keys : {S V : Type 0} (m : Meaning S V) (old : View S V) (places : List MemberPlace) (new : View S V) → m.disks.tells → IsFollowed m old → StepAskAll m old (NextKeys places) new
+    → IsFollowed m new
 asks_keys {S} {V} m old places new disks is by = by_case by.asks
   where
     due : told_by.IsDueToList (told_by.everyone old) old.council by.may.order.asked places
@@ -725,13 +773,18 @@ gathers {S} {V} m old new is by = by_case by.gathers
 
     by_case : told_by.Gathers old by.at.exchange new → IsFollowed m new
     by_case (told_by.crashed down view) = same_course m old new (ap course_of view) log is.course desks
-    by_case (told_by.probed key found up question keeps view) = same_course m old new (ap course_of view) log is.course desks
-    by_case (told_by.lists of listing up enough on view) = carried m old new of.plan (with_listing of.plan listing) of.is_plan (ap course_of view) (lists_on m is.cluster old of.plan listing of.settles) log is.course desks
+    by_case (told_by.probed key found up question plain keeps view) = same_course m old new (ap course_of view) log is.course desks
+    by_case (told_by.read key era found marks up question reads keeps counts view) =
+        same_course m old new
+        (ap course_of view ∙ quiet (told_by.gathered old (Probed key found)) marks (read_quietly era key by.at.exchange.told (reverse old.marks) marks counts)) log is.course desks
+    by_case (told_by.lists of listing up enough on view) =
+        carried m old new of.plan (with_listing of.plan listing) of.is_plan (ap course_of view) (lists_on m is.cluster old of.plan listing of.settles) log is.course desks
     by_case (told_by.is_short of short up missing view) = same_course m old new (ap course_of view) log is.course desks
     by_case (told_by.no_memory up view) = same_course m old new (ap course_of view) log is.course desks
 
 -- a key is proposed anew
-is_done_true : (log : List Happening) (all : List Made) (id number : ℕ) (told : Answer) → is_done told ≡ true → IsToldTrue log all id number told → (state : State) × (took : Took) × (ballot : Ballot) × IsDoneTrue log all id number state took ballot
+is_done_true : (log : List Happening) (all : List Made) (id number : ℕ) (told : Answer) → is_done told ≡ true → IsToldTrue log all id number told
+    → (state : State) × (took : Took) × (ballot : Ballot) × IsDoneTrue log all id number state took ballot
 is_done_true log all id number (answer.Done state took ballot) done is = (state, took, ballot, is)
 is_done_true log all id number told done is = absurd (cc done)
 
@@ -779,7 +832,8 @@ ends {S} {V} m old id told new disks is by = by_case by.ends.rescans
         let listing : ListingView = record of.listing { keys = drop 1 of.listing.keys } in
         let first = relists m is.cluster old of.plan (one_more of.plan.rescanned) of.plan.listing in
         let then_ = lists_on m is.cluster old counted listing of.settles in
-        carried m old new of.plan (rescanned_by of.plan of.listing) of.is_plan (end_course m old new id told by ∙ ap (λ (c : Council). course old.last_proposer old.eras c.plan (entries_in old.marks)) same)
+        carried m old new of.plan (rescanned_by of.plan of.listing) of.is_plan
+        (end_course m old new id told by ∙ ap (λ (c : Council). course old.last_proposer old.eras c.plan (entries_in old.marks)) same)
         (record { on_course = λ on. then_.on_course (first.on_course on); in_era = λ p desk in_it. then_.in_era p desk (first.in_era p desk in_it) })
         (logged_with (Some (rescanned_by of.plan of.listing)) (ap (λ (c : Council). c.plan) same) (ap (λ (c : Council). c.exchange) same)
         (known_listed is.cluster is.logged.global.log counted listing (record { settled = known.settled; listing = known.listing })
@@ -788,10 +842,12 @@ ends {S} {V} m old id told new disks is by = by_case by.ends.rescans
 tells : {S V : Type 0} (m : Meaning S V) (old : View S V) (answer : OpAnswer) (new : View S V) → IsFollowed m old → StepTell old answer new → IsFollowed m new
 tells {S} {V} m old answer new is (told_by.tells order said is_open told same view) = subst (IsFollowed m) (sym view) (over m old order.asked answer is)
 tells {S} {V} m old answer new is (told_by.collects order is_open by view) = subst (IsFollowed m) (sym view) (over m old order.asked answer is)
-tells {S} {V} m old answer new is (told_by.finishes order is_open by view) = subst (IsFollowed m) (sym view) (over m _ order.asked answer (finishes m old order.asked answer by.plan is by.is_plan by.none_left))
+tells {S} {V} m old answer new is (told_by.finishes order is_open by view) =
+    subst (IsFollowed m) (sym view) (over m _ order.asked answer (finishes m old order.asked answer by.plan is by.is_plan by.none_left))
 
 -- ---- calls that do not lead on
-quietly : {S V : Type 0} (m : Meaning S V) (old : View S V) (event : Event) (new : View S V) → m.shelves.tells → m.disks.tells → IsPlain event → AreRenewed m old → IsFollowed m old → Step m old event new → Leads event ⊎ IsFollowed m new
+quietly : {S V : Type 0} (m : Meaning S V) (old : View S V) (event : Event) (new : View S V) → m.shelves.tells → m.disks.tells → IsPlain event → AreRenewed m old → IsFollowed m old
+    → Step m old event new → Leads event ⊎ IsFollowed m new
 quietly m old event new shelves disks plain renewed is by = elim (keeps_log m old event new shelves disks plain renewed is.logged by) [
   | inl leads ↦ inl leads
   | inr log ↦ elim (on_course m old new event by) [
@@ -805,7 +861,8 @@ quietly m old event new shelves disks plain renewed is by = elim (keeps_log m ol
 
 -- ---- a change of membership begins
 -- an acceptor that joins is started, or stays down
-welcomed : {S V : Type 0} (m : Meaning S V) (old middle : View S V) (asked : Asked) → m.shelves.tells → m.disks.tells → AreRenewed m old → IsFollowed m old → Welcomes m old asked middle → IsFollowed m middle
+welcomed : {S V : Type 0} (m : Meaning S V) (old middle : View S V) (asked : Asked) → m.shelves.tells → m.disks.tells → AreRenewed m old → IsFollowed m old → Welcomes m old asked middle
+    → IsFollowed m middle
 welcomed {S} {V} m old middle asked shelves disks renewed is by = by_case by
   where
     restarted : (id : ℕ) → Step m old (step.RestartAcceptor id) middle → IsFollowed m middle
@@ -835,14 +892,17 @@ opens {S} {V} m old new shelves disks renewed is by = by_case by.opens
     by_case (plans.refuses fault up none planned view) = subst (IsFollowed m) (sym view) (tells_remembered m old _ is)
     by_case (plans.opens progress middle up none planned welcomes view) = subst (IsFollowed m) (sym view)
         (plan_opened m middle by.order.asked progress (record (hushed middle.council) { plan = Some (plans.new_plan by.order.asked progress); used = plans.used_with by.order.asked middle.council.used })
-        refl refl refl (ap (λ (c : Council). c.collection) (welcome_council m old middle by.order.asked welcomes) ∙ by.none_collected) (ap (λ (c : Council). c.plan) (welcome_council m old middle by.order.asked welcomes) ∙ none)
+        refl refl refl (ap (λ (c : Council). c.collection) (welcome_council m old middle by.order.asked welcomes) ∙ by.none_collected)
+        (ap (λ (c : Council). c.plan) (welcome_council m old middle by.order.asked welcomes) ∙ none)
         (subst (λ (c : Council). IsPlanned (era_at middle 0) c.used by.order.asked (Ok progress)) (sym (welcome_council m old middle by.order.asked welcomes))
         (subst (λ (c : Course). IsPlanned (era_in c.eras 0) old.council.used by.order.asked (Ok progress)) (sym (welcome_course m old middle by.order.asked welcomes)) planned))
         (welcomed m old middle by.order.asked shelves disks renewed is welcomes))
-    by_case (plans.no_memory progress middle up none planned welcomes view) = subst (IsFollowed m) (sym view) (tells_remembered m middle _ (welcomed m old middle by.order.asked shelves disks renewed is welcomes))
+    by_case (plans.no_memory progress middle up none planned welcomes view) =
+        subst (IsFollowed m) (sym view) (tells_remembered m middle _ (welcomed m old middle by.order.asked shelves disks renewed is welcomes))
 
 -- ---- all of them
-led : {S V : Type 0} (m : Meaning S V) (old : View S V) (event : Event) (new : View S V) → m.shelves.tells → m.disks.tells → IsPlain event → AreRenewed m old → IsFollowed m old → Leads event → Step m old event new → IsFollowed m new
+led : {S V : Type 0} (m : Meaning S V) (old : View S V) (event : Event) (new : View S V) → m.shelves.tells → m.disks.tells → IsPlain event → AreRenewed m old → IsFollowed m old → Leads event
+    → Step m old event new → IsFollowed m new
 led m old (step.RestartProposer id) new shelves disks plain renewed is leads by = restarts m old id new disks is by
 led m old (step.End id told) new shelves disks plain renewed is leads by = ends m old id told new disks is by
 led m old (step.AskAll (NextKeys places)) new shelves disks plain renewed is leads by = asks_keys m old places new disks is by
@@ -854,13 +914,15 @@ led m old (step.EndCollect answer) new shelves disks plain renewed is leads by =
 led m old event new shelves disks plain renewed is none by = absurd none
 
 -- whatever is called but what belongs to a collection
-pub follows : {S V : Type 0} (m : Meaning S V) (old : View S V) (event : Event) (new : View S V) → m.shelves.tells → m.disks.tells → IsPlain event → AreRenewed m old → IsFollowed m old → Step m old event new → IsFollowed m new
+pub follows : {S V : Type 0} (m : Meaning S V) (old : View S V) (event : Event) (new : View S V) → m.shelves.tells → m.disks.tells → IsPlain event → AreRenewed m old → IsFollowed m old
+    → Step m old event new → IsFollowed m new
 follows m old event new shelves disks plain renewed is by = elim (quietly m old event new shelves disks plain renewed is by) [
   | inl leads ↦ led m old event new shelves disks plain renewed is leads by
   | inr done ↦ done
 ]
 
-pub plainly : {S V : Type 0} (m : Meaning S V) (old : View S V) (event : Event) (new : View S V) → m.shelves.tells → m.disks.tells → IsPlain event → IsRemembered m old → Step m old event new → IsRemembered m new
+pub plainly : {S V : Type 0} (m : Meaning S V) (old : View S V) (event : Event) (new : View S V) → m.shelves.tells → m.disks.tells → IsPlain event → IsRemembered m old → Step m old event new
+    → IsRemembered m new
 plainly m old event new shelves disks plain is by = record {
   followed = follows m old event new shelves disks plain is.renewed is.followed by;
   renewed = renews_on m old event new disks plain by is.renewed;

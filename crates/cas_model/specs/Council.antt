@@ -1,8 +1,9 @@
 -- What the operator has under way: its call that is open, the exchange in which proposer 0 asks all members, the change of membership, and
 -- the collection of a deleted key.
 -- The frames of an exchange have a queue of their own.
-use Rattle.std.specs.Prelude.{◌≡◌, ◌+◌, ◌==◌, ◌&&◌, ℕ, Bool, true, false, if◌then◌else◌, List, [], ◌∷◌, length, drop, Option, None, Some, option_map}
+use Rattle.std.specs.Prelude.{◌≡◌, ◌+◌, ◌==◌, ◌&&◌, ℕ, suc, Bool, true, false, if◌then◌else◌, List, [], ◌∷◌, length, drop, Option, None, Some, option_map}
 use Rattle.cas_ballot.specs.declared.ballot.Ballot.{Ballot}
+use Rattle.cas_quorum.specs.declared.era.Era.{Era}
 use Rattle.cas_slot.specs.declared.message.Ask.{Ask}
 use Rattle.cas_slot.specs.declared.message.Ask.TheVariants as ask
 use Rattle.cas_slot.specs.declared.message.Phase.{Phase}
@@ -101,6 +102,8 @@ pub record ExchangeView : Type 0 where
   pub reserved : ℕ
   -- whether proposer 0 crashed within it
   pub crashed : Bool
+  -- the era of proposer 0 when they were asked, if the operator's call is to read the key
+  pub reads : Option Era
 
 -- a call of the operator that has not been told its answer yet
 pub record OrderView : Type 0 where
@@ -169,9 +172,14 @@ abbrev pub reserved_for_order : Option OrderView → ℕ
 reserved_for_order None = 0
 reserved_for_order (Some order) = 1
 
+-- a read may mark a vote of each member, and then an acknowledgment
+abbrev pub marks_of_read : Option Era → List ℕ → ℕ
+marks_of_read None members = 0
+marks_of_read (Some era) members = suc (length members)
+
 abbrev pub reserved_for_exchange : Option ExchangeView → ℕ
 reserved_for_exchange None = 0
-reserved_for_exchange (Some exchange) = exchange.reserved
+reserved_for_exchange (Some exchange) = exchange.reserved + marks_of_read exchange.reads exchange.members
 
 abbrev pub reserved_by : Council → ℕ
 reserved_by council = reserved_for_order council.order + reserved_for_exchange council.exchange + reserved_for_collection council.collection

@@ -1,1 +1,4 @@
+pub mod Read
+pub mod ReadLaws
 pub mod Step
+pub mod Tellings

@@ -38,12 +38,13 @@ use Rattle.cas_record.specs.Logs.Happening.{Happening, Asked, Drew, Entered, Rep
 use Rattle.cas_record.specs.Logs.Lawful.{Cluster, IsIn}
 use Rattle.cas_record.specs.Legal.{HasProposal, HasFloor, IsProposed, IsEnded, IsAcked, calls_of, tells_refused, tells_unsettled, harms_due, harms_of}
 use Rattle.cas_record.specs.Logs.Orderly.{IsAboveFloors}
-use Rattle.cas_record.specs.Places.{Stands}
+use Rattle.cas_record.specs.Places.{At, Stands}
 use Rattle.cas_protocol.specs.Acceptors.{IsLeft}
 use Rattle.cas_record.specs.declared.operator.Probe.{Probe as Answered}
-use Rattle.cas_model.specs.Council.{Question, ExchangeView, IsReplyTo, tag_key}
+use Rattle.cas_model.specs.Council.{Question, Probe, ExchangeView, IsReplyTo, tag_key}
 use Rattle.cas_protocol.specs.Proposers.{AllRide}
 use Rattle.cas_protocol.specs.Protocol.{Made, HasMade}
+use Rattle.cas_protocol.specs.Reads.{AreFloorsKnown}
 use Rattle.cas_model.specs.View.{DiskMeaning, Meaning, CallView, CallerView, IsAt}
 
 -- ---- acceptors
@@ -247,12 +248,25 @@ pub record WasToldBy (log : List Happening) (tag : Ballot) (question : Question)
 abbrev pub WereTold : List Happening → Ballot → Question → List Answered → Type 0
 WereTold log tag question answers = (place : ℕ) (answer : Answered) (told : Tell) → IsAt answers place answer → answer.told ≡ Some told → WasToldBy log tag question answer.acceptor told
 
--- the tag of an exchange was drawn, and what its members told was told in replies that were made
-pub record IsExchangeTrue (log : List Happening) (exchange : ExchangeView) : Type 0 where
+-- The tag of a read was drawn behind so many marks, when proposer 0 was in the era and in none after it, and the floors of the key were
+-- known. Its requests ask for the key alone. The quorums of the era are those of the cluster.
+pub record IsReadTrue (cluster : Cluster) (log : List Happening) (tag : Ballot) (since : ℕ) (key : List ℕ) (era : Era) : Type 0 where
+  pub older : List Happening
+  pub drawn : At (Drew tag [] era.number) older log
+  pub behind : length (marks_of older) ≡ since
+  pub not_beyond : Stands (Entered tag.proposer (suc era.number)) older → ⊥
+  pub floors : AreFloorsKnown cluster older key
+  pub alone : (request : Request) (k : List ℕ) → Stands (Asked request) log → request.ask ≡ ask.Probe tag k → k ≡ key
+  pub prepares : (by : List ℕ) → holds_prep era by ≡ true → cluster.prepares era.number by ≡ true
+  pub accepts : (by : List ℕ) → holds_acc era by ≡ true → cluster.accepts era.number by ≡ true
+
+-- the tag of an exchange was drawn, and what its members told was told in replies that were made; and so it is of a read
+pub record IsExchangeTrue (cluster : Cluster) (log : List Happening) (exchange : ExchangeView) : Type 0 where
   pub own : exchange.tag.proposer ≡ 0
   pub era : ℕ
   pub drawn : Stands (Drew exchange.tag (tag_key exchange.question) era) log
   pub told : WereTold log exchange.tag exchange.question exchange.told
+  pub read : (key : List ℕ) (era : Era) → exchange.question ≡ Probe key → exchange.reads ≡ Some era → IsReadTrue cluster log exchange.tag exchange.since key era
 
 -- ---- callers
 -- what the call made is acknowledged

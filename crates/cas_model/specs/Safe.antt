@@ -20,7 +20,9 @@ use Rattle.cas_proposer.specs.Desk.{DeskView}
 use Rattle.cas_proposer.specs.Round.{is_preparing}
 use Rattle.cas_proposer.specs.declared.round.Round.{Round}
 use Rattle.cas_quorum.specs.declared.era.Era.{Era}
+use Rattle.cas_quorum.specs.Era.{IsSized, Meet}
 use Rattle.cas_record.specs.declared.operator.Asked.TheVariants.{Collect}
+use Rattle.cas_record.specs.declared.operator.Probe.{Probe as Answered}
 use Rattle.cas_round.specs.Replies.{is_prepare}
 use Rattle.cas_slot.specs.Message.{phase_of}
 use Rattle.cas_slot.specs.Slots.{rises}
@@ -33,6 +35,7 @@ use Rattle.cas_model.specs.Eras.Course.{HasFewMembers, IsCourse, course_of}
 use Rattle.cas_model.specs.Parties.{asked_in}
 use Rattle.cas_model.specs.Calls.Step.{most_marks, most_round_marks}
 use Rattle.cas_model.specs.Collection.Step.{IsQuestionOf}
+use Rattle.cas_model.specs.Exchanges.Tellings.{AreTellingsSafe}
 use Rattle.cas_model.specs.View.{View, CallView, CallerView, IsAt, era_at, reserved_in, reserved_in_all}
 
 -- ---- frames that wait
@@ -95,8 +98,14 @@ pub record IsPartySafe {V : Type 0} (era : Era) (marks id : ℕ) (desk : DeskVie
   pub room : requests_in queue.messages ≤ queue.room + handled_once queue
 
 -- ---- exchanges
--- Each frame is to or from one of its members, each request asks its question, and each reply is to one that does. The marks of the harms that may still come are
--- reserved, and there is room for the reply to each request that was not handled yet.
+-- The quorums of the era in which a key is read have sizes that they have, and meet. All its members are asked.
+pub record IsReadSafe (era : Era) (members : List ℕ) : Type 0 where
+  pub sized : IsSized era
+  pub meets : Meet era era
+  pub everyone : members ≡ union_of era.prep era.acc
+
+-- Its members tell. Each frame is to or from one of them, each request asks its question, and each reply is to one that does. The marks of
+-- the harms that may still come are reserved, and there is room for the reply to each request that was not handled yet.
 pub record IsExchangeSafe (exchange : ExchangeView) (queue : QueueView) : Type 0 where
   pub tag : FitsBallot exchange.tag
   pub member_set : IsMemberSet exchange.members
@@ -107,6 +116,9 @@ pub record IsExchangeSafe (exchange : ExchangeView) (queue : QueueView) : Type 0
   pub harmed_within : (acceptor : ℕ) → has_member exchange.harmed acceptor ≡ true → has_member exchange.members acceptor ≡ true
   pub reserved : length exchange.members ≤ exchange.reserved + length exchange.harmed
   pub few : exchange.reserved ≤ 9
+  pub few_members : length exchange.members ≤ 9
+  pub tellers : (place : ℕ) (one : Answered) → IsAt exchange.told place one → has_member exchange.members one.acceptor ≡ true
+  pub read : (era : Era) → exchange.reads ≡ Some era → IsReadSafe era exchange.members
   pub room : requests_in queue.messages ≤ queue.room + handled_once queue
 
 -- where none is open, no frame waits
@@ -212,8 +224,9 @@ pub record IsSound {S V : Type 0} (view : View S V) : Type 0 where
   pub council : IsCouncilSafe view.council
   pub room : length view.marks + reserved_in_all view ≤ most_marks
 
--- and the cluster is on its course through the eras, and so is the collection that is under way
+-- and the cluster is on its course through the eras, and so is the collection that is under way, and what the operator is told
 pub record IsSafe {S V : Type 0} (view : View S V) : Type 0 where
   pub sound : IsSound view
   pub course : IsCourse (course_of view)
   pub collection : IsCollectingSafe view
+  pub tellings : AreTellingsSafe view

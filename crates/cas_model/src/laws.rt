@@ -6,6 +6,7 @@ ghost use Rattle.cas_model.specs.SafeLaws.{OpeningsAreSafe, OpeningsOnAreSafe, S
 ghost use Rattle.cas_model.specs.Laws.{OpeningsAreRemembered, OpeningsOnAreRemembered, StepsAreRemembered, HistoriesAreLegal, WhatIsDoneIsKept, DonesStand, FloorsArePassed, MembersAreClear};
 ghost use Rattle.cas_model.specs.Collection.Laws.{RequestsAreAged, RemovalsAreDone, CollectedHaveFloors};
 ghost use Rattle.cas_model.specs.Eras.Entering.{ErasAreLawful};
+ghost use Rattle.cas_model.specs.Exchanges.ReadLaws.{ReadsAreSo, ReadsOfNothingAreSo};
 ghost use Rattle.cas_model.specs.Witness.{ShownHistory};
 
 use cas_disk::Disk;
@@ -59,6 +60,17 @@ pub fn floors_are_passed<S: Shelf, V: Disk>()
 /// now leaves of its shelf: it has no state of the key, or one at or above the floor.
 pub fn members_are_clear<S: Shelf, V: Disk>()
     ensures { MembersAreClear (meaning S.Shelf V.Disk) }
+{}
+
+/// What members agree on when a read of a key is gathered is so: its state is what the history up to its ballot leaves, which goes on from
+/// all that was settled of the key when the members were asked. Once the read is gathered, that history begins what is settled.
+pub fn reads_are_so<S: Shelf, V: Disk>()
+    ensures { ReadsAreSo (meaning S.Shelf V.Disk) }
+{}
+
+/// If they agree that they accepted nothing of the key, nothing is marked, and its register was empty at some time since they were asked.
+pub fn reads_of_nothing_are_so<S: Shelf, V: Disk>()
+    ensures { ReadsOfNothingAreSo (meaning S.Shelf V.Disk) }
 {}
 
 /// Whoever is marked as in an era above the first was allowed to enter it: all proposers were in the era before it, unless that is the first,

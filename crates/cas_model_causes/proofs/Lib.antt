@@ -2,4 +2,3 @@ pub mod Calls
 pub mod Collection
 pub mod Eras
 pub mod Exchanges
-pub mod Marks

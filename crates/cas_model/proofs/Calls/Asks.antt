@@ -1,6 +1,6 @@
 -- What requests of a proposer's round do to what is known: each may be made, and nothing else changes.
 use Rattle.std.proofs.Common.{◌≡◌, ◌<◌, ◌≤◌, ℕ, arith, true, List, [], ◌∷◌, refl, sym, subst, ◌∙◌, inl, inr}
-use Rattle.std.specs.Prelude.{⊤, map, Option, None, Some, Contains}
+use Rattle.std.specs.Prelude.{⊤, map, Option, None, Some, Contains, ◌⊎◌}
 use Rattle.cas_ballot.specs.declared.ballot.Ballot.{Ballot}
 use Rattle.cas_ballot.specs.Members.{has_member}
 use Rattle.cas_cache.specs.declared.ready.Ready.{Ready}
@@ -13,8 +13,8 @@ use Rattle.cas_vault.specs.declared.vault.Vault.{Vault}
 use Rattle.cas_record.specs.Logs.Happening.{Happening, Asked, Drew, marks_of}
 use Rattle.cas_record.specs.Logs.Lawful.{Cluster}
 use Rattle.cas_record.specs.Logs.Orderly.{MayAsk, IsAboveFloors}
+use Rattle.cas_record.proofs.PlaceLemmas.{newest_or}
 use Rattle.cas_record.specs.Places.{Stands, here}
-use Rattle.cas_model.specs.Collection.Logged.{AsksAboveFor}
 use Rattle.cas_model.specs.Council.{ListingView, Question, Probe, NextKeys, NewAges, Removal, PlanView}
 use Rattle.cas_model.specs.Eras.Listed.{IsPlanTrue}
 use Rattle.cas_model.specs.Exchanges.Step.{question_to, HasTag, WhereDrawn}
@@ -26,7 +26,7 @@ use Rattle.cas_model.specs.View.{DiskMeaning, Meaning, View, CallerView}
 use Rattle.cas_model.proofs.Around.{Around, around_more}
 use Rattle.cas_protocol.proofs.Events.{keeps}
 use Rattle.cas_model.proofs.Frames.Harms.{has_of_map}
-use Rattle.cas_model.proofs.Others.{LeavesCalls, ProposesNot, FloorsNot, AsksToRide, plan_still, above_still, later, hand_still, ready_still, vault_still, messages_still, caller_still}
+use Rattle.cas_model.proofs.Others.{IsAskedApart, LeavesCalls, ProposesNot, FloorsNot, AsksToRide, plan_still, above_still, later, hand_still, ready_still, vault_still, messages_still, caller_still}
 
 -- each of these acceptors is asked
 abbrev pub asked_log : (ℕ → Request) → List ℕ → List Happening → List Happening
@@ -57,6 +57,14 @@ pub asked_messages : (f : ℕ → Request) (tos : List ℕ) (log : List Happenin
 asked_messages f tos log each has_it =
     let of = has_of_map (λ (to : ℕ). message.Request (f to)) each tos (has each (map (λ to. message.Request (f to)) tos) has_it) in
     subst (λ (x : Message). IsMessageTrue (asked_log f tos log) x) of.1.1 (asked_stands f of.0 tos log of.1.0)
+
+-- a request that stands is one of these, or stood before
+pub asked_now : (f : ℕ → Request) (tos : List ℕ) (log : List Happening) {request : Request} → Stands (Asked request) (asked_log f tos log) → ((to : ℕ) × (request ≡ f to)) ⊎ Stands (Asked request) log
+asked_now f [] log stands = inr stands
+asked_now f (to ∷ tos) log {request} stands = elim (newest_or stands) [
+  | inl now ↦ let same : request ≡ f to = cc now in inl (to, same)
+  | inr before ↦ asked_now f tos log before
+]
 
 -- ---- what stays
 asked_not : (request : Request) (k : List ℕ) (b : Ballot) → ProposesNot (Asked request) k b
@@ -96,12 +104,12 @@ asked_ready cluster f tos log all id era cache rides =
 
 -- ---- that they may be made
 pub asked_around : {S V : Type 0} (m : Meaning S V) (cluster : Cluster) (global : GlobalState) (view : View S V) (id : ℕ) (f : ℕ → Request) (tos : List ℕ) → ((to : ℕ) → (f to).from ≡ id)
-    → ((rest : List ℕ) (to : ℕ) → Has to tos → IsAskable cluster (asked_global global f rest) (f to)) → ((to : ℕ) → AsksAboveFor view.council.collection (f to))
+    → ((rest : List ℕ) (to : ℕ) → Has to tos → IsAskable cluster (asked_global global f rest) (f to)) → ((to : ℕ) → IsAskedApart view.council (f to))
     → Around m cluster global view id → Around m cluster (asked_global global f tos) view id
 asked_around m cluster global view id f [] own may above around = around
 asked_around m cluster global view id f (to ∷ tos) own may above around =
     let before = asked_around m cluster global view id f tos own (λ rest x h. may rest x (inr h)) above around in
-    around_more m cluster (asked_log f tos global.log) global.kept global.made view id (Asked (f to)) (λ p other same. other (sym same ∙ own to), λ a. tt) (λ request now. let same : request ≡ f to = cc now in subst (AsksAboveFor view.council.collection) (sym same) (above to)) before
+    around_more m cluster (asked_log f tos global.log) global.kept global.made view id (Asked (f to)) (λ p other same. other (sym same ∙ own to), λ a. tt) (λ request now. let same : request ≡ f to = cc now in subst (IsAskedApart view.council) (sym same) (above to)) before
     (keeps cluster before.meets (asked_global global f tos) before.history (Asks (f to) (may tos to (inl refl))))
 
 -- the tag of an exchange: proposer 0 drew it in the era, above the floors of no key

@@ -28,6 +28,7 @@ use Rattle.cas_protocol.specs.Protocol.{GlobalState}
 use Rattle.cas_model.specs.Calls.Step.{Sends, prepares_to}
 use Rattle.cas_model.specs.Calls.Desks.{BeginsToPrepare, HasDrawn}
 use Rattle.cas_model.specs.View.{Meaning, View, CallView, CallerView, IsAt, with_desk, era_at}
+use Rattle.cas_model.proofs.Others.{no_probe_in}
 use Rattle.cas_model.proofs.Around.{Whole, around, settles, leaves_desk}
 use Rattle.cas_model.proofs.Collection.Renewing.{drawn_above, IsRenewedFor, asks_by}
 use Rattle.cas_model.proofs.Calls.Asks.{asked_log, asked_global, asked_around, asked_messages, asked_vault, asked_caller, asked_still, asked_hand, asked_ready, may_prepare}
@@ -91,7 +92,7 @@ begins_to_prepare {S} {V} m cluster global old id caller call desk now ballot ro
     (λ rest to h. may_prepare cluster (asked_global middle f rest) (f to) id era call.key ballot refl refl
     (era_is.prep_members to (has_member_of to (era_at old id).prep h)) low (member_low (era_at old id).prep to era_is.prep_set (has_member_of to (era_at old id).prep h))
     (asked_hand f rest middle.log id era call.key ballot hand))
-    (λ to. asks_by old.council.collection (f to) (λ tag least is. cc is) (λ c age is at round same. drawn_above m.disks desk.id desk.vault now.vault _ ballot (renewed c age is at).past begins.drawn)) after_draw in
+    (λ to. asks_by old.council (f to) (no_probe_in old.council.exchange (f to) (λ tag k is. cc is)) (λ tag least is. cc is) (λ c age is at round same. drawn_above m.disks desk.id desk.vault now.vault _ ballot (renewed c age is at).past begins.drawn)) after_draw in
     settles m cluster (asked_global middle f (era_at old id).prep) old (record (with_desk old id now) { flow = flow }) id after_asks
     (leaves_desk old id now _ (λ p other. ap (λ (q : QueueView). q.messages) (sends.others p other)))
     (record {

@@ -40,11 +40,10 @@ use Rattle.cas_protocol.specs.Protocol.{Made, GlobalState, HasHistory, IsAskable
 use Rattle.cas_model.specs.Calls.Step.{Sends, accepts_to, proposal_of, proposing, proposed_view}
 use Rattle.cas_model.specs.View.{Meaning, View, CallView, CallerView, IsAt, era_at}
 use Rattle.cas_model.proofs.Around.{Whole, Around, around_made, IsOf, settles, leaves_both}
-use Rattle.cas_model.specs.Collection.Logged.{AsksAboveFor}
 use Rattle.cas_model.proofs.Calls.Asks.{asked_log, asked_global, asked_all, asked_around, asked_later, asked_messages, asked_vault, asked_caller, asked_still, asked_hand, asked_ready}
 use Rattle.cas_model.proofs.Calls.Steps.{no_harm}
 use Rattle.cas_model.proofs.Frames.Harms.{member_low, member_has, has_of_map, has_map_of, has_member_of}
-use Rattle.cas_model.proofs.Others.{ProposesNot, FloorsNot, AsksToRide, ended_later, later, hand_still, all_still, ready_still, ready_more, vault_still, messages_still, above_still}
+use Rattle.cas_model.proofs.Others.{IsAskedApart, ProposesNot, FloorsNot, AsksToRide, ended_later, later, hand_still, all_still, ready_still, ready_more, vault_still, messages_still, above_still}
 use Rattle.cas_model.proofs.Places.{own_set, some_is, contains_none}
 
 -- ---- phases
@@ -139,7 +138,7 @@ pub record IsReadyToPropose {S V : Type 0} (m : Meaning S V) (cluster : Cluster)
   pub accepting : IsAccepting prepared [] round
   pub none_waits : (queue_at old.flow id).messages ≡ []
   pub late : AreMessagesTrue global.log old.flow.late
-  pub above : (to : ℕ) → AsksAboveFor old.council.collection (accept_request id age round.key round.ballot round.era.number round.ride outcome.state to)
+  pub above : (to : ℕ) → IsAskedApart old.council (accept_request id age round.key round.ballot round.era.number round.ride outcome.state to)
   pub sends : Sends old.flow id (accepts_to id age round.key round.ballot round.era.number round.ride outcome.state round.era.acc) flow
 
 abbrev pub accept_requests : ℕ → ℕ → Round → Outcome → ℕ → Request

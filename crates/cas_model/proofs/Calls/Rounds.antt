@@ -33,6 +33,7 @@ use Rattle.cas_protocol.specs.Protocol.{Made, GlobalState, HasHistory, AllReplie
 use Rattle.cas_model.specs.Calls.Step.{Sends, accepts_to, proposal_of, proposed_view}
 use Rattle.cas_model.specs.Calls.Desks.{MayHaveDrawn, BeginsByPromise}
 use Rattle.cas_model.specs.View.{Meaning, View, CallView, CallerView, IsAt, era_at}
+use Rattle.cas_model.proofs.Others.{no_probe_in}
 use Rattle.cas_model.proofs.Around.{Whole, Around, around}
 use Rattle.cas_model.proofs.Calls.Caches.{contains_without, contains_promise, ready_fewer, one_without, none_without}
 use Rattle.cas_model.proofs.Calls.Draws.{drew, drew_vault, drew_ready, drew_caller, drew_messages, drew_around, drew_hand, drew_replies, drew_ride}
@@ -46,12 +47,14 @@ pub all_replied : (log : List Happening) (replies : List Reply) → WereMade log
 all_replied log replies were reply has_it = let was = were reply has_it in (was.request, was.replied)
 
 -- a desk whose round is None has nothing that waits
-pub none_waits : (cluster : Cluster) (log : List Happening) (all : List Made) (id era : ℕ) (caller : CallerView) (waiting : List Message) (round : Option Round) → round ≡ None → IsOpenTrue cluster log all id era caller waiting round → waiting ≡ []
+pub none_waits : (cluster : Cluster) (log : List Happening) (all : List Made) (id era : ℕ) (caller : CallerView) (waiting : List Message) (round : Option Round) → round ≡ None
+    → IsOpenTrue cluster log all id era caller waiting round → waiting ≡ []
 none_waits cluster log all id era caller waiting None e of = of
 none_waits cluster log all id era caller waiting (Some round) e of = absurd (cc e)
 
 -- the round of an open call at a ballot in hand is one that may propose
-open_round : {S V : Type 0} (m : Meaning S V) (log : List Happening) (all : List Made) (id era : ℕ) (caller : CallerView) (call : CallView) (key : List ℕ) (ballot : Ballot) (vault : Vault V) → caller.call ≡ Some call → call.proposed ≡ None → key ≡ call.key
+open_round : {S V : Type 0} (m : Meaning S V) (log : List Happening) (all : List Made) (id era : ℕ) (caller : CallerView) (call : CallView) (key : List ℕ) (ballot : Ballot) (vault : Vault V)
+    → caller.call ≡ Some call → call.proposed ≡ None → key ≡ call.key
     → IsInHand log id era key ballot → IsVaultTrue m log id era vault → IsCallerTrue log all id caller → IsOpenRound log id caller.number key ballot era
 open_round m log all id era caller call key ballot vault is_open unproposed same hand was caller_true =
     let of = caller_true.call call is_open in record {
@@ -64,18 +67,21 @@ open_round m log all id era caller call key ballot vault is_open unproposed same
       open_yet = of.open_yet;
     }
 
-begun_here : (log : List Happening) (all : List Made) (id : ℕ) (caller : CallerView) (call : CallView) (key : List ℕ) → caller.call ≡ Some call → key ≡ call.key → IsCallerTrue log all id caller → Stands (Begun id caller.number key call.program) (marks_of log)
+begun_here : (log : List Happening) (all : List Made) (id : ℕ) (caller : CallerView) (call : CallView) (key : List ℕ) → caller.call ≡ Some call → key ≡ call.key → IsCallerTrue log all id caller
+    → Stands (Begun id caller.number key call.program) (marks_of log)
 begun_here log all id caller call key is_open same caller_true = subst (λ (k : List ℕ). Stands (Begun id caller.number k call.program) (marks_of log)) (sym same) (caller_true.call call is_open).begun
 
 -- ---- by a promise
 pub begins_by_promise : {S V : Type 0} (m : Meaning S V) (cluster : Cluster) (global : GlobalState) (old : View S V) (id : ℕ) (caller : CallerView) (call : CallView) (desk now : DeskView V) (ready : Ready) (ride : Option Ballot) (round : Round)
     (outcome : Outcome) (flow : FlowView) → m.disks.tells → IsAt old.callers id caller → caller.call ≡ Some call → call.proposed ≡ None → IsAt old.desks id desk
     → BeginsByPromise m.disks (era_at old id) call.key desk now ready ride round → outcome ≡ outcome_of call.program ready.state
-    → Sends old.flow id (accepts_to id (kept_of desk.vault).age round.key round.ballot round.era.number ride outcome.state round.era.acc) flow → IsRenewedFor m.disks old.council.collection id desk → Whole m cluster global old
+    → Sends old.flow id (accepts_to id (kept_of desk.vault).age round.key round.ballot round.era.number ride outcome.state round.era.acc) flow → IsRenewedFor m.disks old.council.collection id desk
+    → Whole m cluster global old
     → Whole m cluster (proposed_global (drew global ride call.key (era_at old id).number) id (kept_of desk.vault).age (record round { ride = ride }) (proposal_of id caller.number round ready.read ready.by) outcome)
     (proposed_view old id caller call now flow (proposal_of id caller.number round ready.read ready.by) outcome)
 begins_by_promise {S} {V} m cluster global old id caller call desk now ready ride round outcome flow tells at_caller is_open unproposed at_desk begins is_outcome sends renewed whole =
-    proposes m cluster before old id (kept_of desk.vault).age caller call now (record round { ride = ride }) outcome flow ready.read ready.by ready_to (drew_around m cluster global old id call.key desk.vault now.vault ride of.known drawn of.vault (around m cluster global old id whole)) history
+    proposes m cluster before old id (kept_of desk.vault).age caller call now (record round { ride = ride }) outcome flow ready.read ready.by ready_to
+    (drew_around m cluster global old id call.key desk.vault now.vault ride of.known drawn of.vault (around m cluster global old id whole)) history
   where
     era : ℕ
     era = (era_at old id).number
@@ -169,7 +175,7 @@ begins_by_promise {S} {V} m cluster global old id caller call desk now ready rid
       accepting = record { phase = begins.opened.1.phase; met = begins.opened.1.met };
       none_waits = none_waits cluster global.log global.made id era caller (queue_at old.flow id).messages desk.round begins.none_open of.round;
       late = drew_messages global.log old.flow.late call.key era ride whole.parties.late;
-      above = λ to. asks_by old.council.collection (accept_requests id (kept_of desk.vault).age (record round { ride = ride }) outcome to) (λ tag least is. cc is) (λ c age is at asks_round same.
+      above = λ to. asks_by old.council (accept_requests id (kept_of desk.vault).age (record round { ride = ride }) outcome to) (no_probe_in old.council.exchange _ (λ tag k is. cc is)) (λ tag least is. cc is) (λ c age is at asks_round same.
           subst (BallotLess (tomb_of c.tombstone)) (sym about_ballot) ((renewed c age is at).cached ready
           (subst (λ (k : List ℕ). Contains desk.cache (k, ready)) (sym about_key ∙ same) (contains_promise call.key ready desk.cache begins.promise))).0);
       sends = sends;
@@ -177,16 +183,20 @@ begins_by_promise {S} {V} m cluster global old id caller call desk now ready rid
 
 -- ---- once the prepare phase has a quorum
 -- those that promised, and that they are a prepare quorum of the era
-promised_quorum : (era : Era) (ballot : Ballot) (replies : List Reply) (phase_is : OpenPhase) → IsPrepare era ballot replies phase_is → has_quorum phase_is ≡ true → holds_prep era (promisers_of ballot replies) ≡ true
-promised_quorum era ballot replies (Prepare p) is quorum = ap (λ (e : Era). holds_prep e (promisers_of ballot replies)) (sym is.same_era) ∙ ap (λ (by : List ℕ). holds_prep p.era by) (sym is.tally.confirmed) ∙ quorum
+promised_quorum : (era : Era) (ballot : Ballot) (replies : List Reply) (phase_is : OpenPhase) → IsPrepare era ballot replies phase_is → has_quorum phase_is ≡ true
+    → holds_prep era (promisers_of ballot replies) ≡ true
+promised_quorum era ballot replies (Prepare p) is quorum =
+    ap (λ (e : Era). holds_prep e (promisers_of ballot replies)) (sym is.same_era) ∙ ap (λ (by : List ℕ). holds_prep p.era by) (sym is.tally.confirmed) ∙ quorum
 promised_quorum era ballot replies (Accept p) is quorum = absurd is
 
 pub proposes_round : {S V : Type 0} (m : Meaning S V) (cluster : Cluster) (global : GlobalState) (old : View S V) (id : ℕ) (caller : CallerView) (call : CallView) (desk now : DeskView V) (round : Round) (phase_is : OpenPhase) (read : Option Accepted) (by : List ℕ)
     (ride : Option Ballot) (outcome : Outcome) (flow : FlowView) → m.disks.tells → IsAt old.callers id caller → caller.call ≡ Some call → IsAt old.desks id desk → desk.round ≡ Some round → (queue_at old.flow id).messages ≡ []
     → IsPrepareTrue global.log id call (queue_at old.flow id).messages round → round.key ≡ call.key → round.era.number ≡ (era_at old id).number → IsEraOf cluster round.era
     → has_quorum round.phase ≡ true → IsConfirmersOf round by → IsReadOf round read → ((replies : List Reply) → IsPreparing replies round → IsAccepting replies [] (record round { phase = phase_is }))
-    → MayHaveDrawn m.disks desk.id desk.vault now.vault ride → IsAged m.disks (kept_of desk.vault).age now.vault → now ≡ record desk { vault = now.vault; round = Some (record round { ride = ride; phase = phase_is }) } → outcome ≡ outcome_of call.program (state_read read)
-    → Sends old.flow id (accepts_to id (kept_of desk.vault).age round.key round.ballot round.era.number ride outcome.state round.era.acc) flow → IsRenewedFor m.disks old.council.collection id desk → Whole m cluster global old
+    → MayHaveDrawn m.disks desk.id desk.vault now.vault ride → IsAged m.disks (kept_of desk.vault).age now.vault
+    → now ≡ record desk { vault = now.vault; round = Some (record round { ride = ride; phase = phase_is }) } → outcome ≡ outcome_of call.program (state_read read)
+    → Sends old.flow id (accepts_to id (kept_of desk.vault).age round.key round.ballot round.era.number ride outcome.state round.era.acc) flow → IsRenewedFor m.disks old.council.collection id desk
+    → Whole m cluster global old
     → Whole m cluster (proposed_global (drew global ride round.key (era_at old id).number) id (kept_of desk.vault).age (record round { ride = ride; phase = phase_is }) (proposal_of id caller.number round (accepted_ballot read) by) outcome)
     (proposed_view old id caller call now flow (proposal_of id caller.number round (accepted_ballot read) by) outcome)
 proposes_round {S} {V} m cluster global old id caller call desk now round phase_is read by ride outcome flow tells at_caller is_open at_desk is_round no_frames prepare same_key same_era is_era quorum confirmers is_read accepts may_drawn aged is_now is_outcome sends renewed whole =
@@ -256,7 +266,9 @@ proposes_round {S} {V} m cluster global old id caller call desk now round phase_
       same_id = ap (λ (d : DeskView V). d.id) is_now ∙ of.same_id;
       vault = vault;
       aged = aged;
-      cached = subst (ArePromisesHeld cluster before.log before.made id era) (sym (ap (λ (d : DeskView V). d.cache) is_now)) (drew_ready cluster global.log global.made id era desk.cache round.key ride of.cached);
+      cached =
+          subst (ArePromisesHeld cluster before.log before.made id era) (sym (ap (λ (d : DeskView V). d.cache) is_now))
+          (drew_ready cluster global.log global.made id era desk.cache round.key ride of.cached);
       one_each = subst (λ (d : DeskView V). HaveOneEach d.cache) (sym is_now) of.one_each;
       none_open = subst (λ (d : DeskView V). HasNone (Some final) d.cache) (sym is_now) (subst (λ (r : Option Round). HasNone r desk.cache) is_round of.none_open);
       is_round = ap (λ (d : DeskView V). d.round) is_now;
@@ -271,6 +283,6 @@ proposes_round {S} {V} m cluster global old id caller call desk now round phase_
       accepting = let turned = accepts prepare.replies prepare.preparing in record { phase = turned.phase; met = turned.met };
       none_waits = no_frames;
       late = drew_messages global.log old.flow.late round.key era ride whole.parties.late;
-      above = λ to. asks_by old.council.collection (accept_requests id (kept_of desk.vault).age final outcome to) (λ tag least is. cc is) (λ c age is at asks_round same. (renewed c age is at).ballot round is_round same);
+      above = λ to. asks_by old.council (accept_requests id (kept_of desk.vault).age final outcome to) (no_probe_in old.council.exchange _ (λ tag k is. cc is)) (λ tag least is. cc is) (λ c age is at asks_round same. (renewed c age is at).ballot round is_round same);
       sends = sends;
     }

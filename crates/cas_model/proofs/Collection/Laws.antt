@@ -184,7 +184,7 @@ removals_done {S} {V} m shelves disks old new exchange collection is by is_open 
 
         was_told : (id : ℕ) (said : Tell) → told_by exchange.told id ≡ Some said → WasToldBy log tomb (Removal c.course.key) id said
         was_told id said e =
-            let is_told : IsExchangeTrue log exchange = is.followed.logged.agrees.council.0 exchange is_open in
+            let is_told : IsExchangeTrue is.followed.cluster log exchange = is.followed.logged.agrees.council.0 exchange is_open in
             let found = answer_of exchange.told id said e in
             subst (λ (b : Ballot). WasToldBy log b (Removal c.course.key) id said) (ap (λ (x : ExchangeView). x.tag) (sym same_exchange) ∙ by.tag)
             (subst (λ (q : Question). WasToldBy log exchange.tag q id said) asks

@@ -219,7 +219,8 @@ exchange_renewed m old new v front exchange (council.arrives reply fall front_is
 
 gather_renewed : {S V : Type 0} (m : Meaning S V) (old new : View S V) (exchange : ExchangeView) → council.Gathers old exchange new → AreRenewed m old → AreRenewed m new
 gather_renewed m old new exchange (council.crashed down is) were = none_moved m old new (collection_of is) (desks_of is) were
-gather_renewed m old new exchange (council.probed key found up question keeps is) were = none_moved m old new (collection_of is) (desks_of is) were
+gather_renewed m old new exchange (council.probed key found up question plain keeps is) were = none_moved m old new (collection_of is) (desks_of is) were
+gather_renewed m old new exchange (council.read key era found marks up question reads keeps counts is) were = none_moved m old new (collection_of is) (desks_of is) were
 gather_renewed m old new exchange (council.lists lists_for listing up enough on is) were = none_moved m old new (collection_of is) (desks_of is) were
 gather_renewed m old new exchange (council.is_short lists_for short up missing is) were = none_moved m old new (collection_of is) (desks_of is) were
 gather_renewed m old new exchange (council.no_memory up is) were = none_moved m old new (collection_of is) (desks_of is) were

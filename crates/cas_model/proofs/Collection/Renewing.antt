@@ -25,6 +25,8 @@ use Rattle.cas_model.specs.Parties.{IsAged}
 use Rattle.cas_model.specs.Calls.Step.{offered_by}
 use Rattle.cas_model.specs.Calls.Desks.{VaultGoesOn, HasDrawn, MayHaveDrawn, BeginsToPrepare, BeginsByPromise, TurnsWith, HearsReply, EndsRound}
 use Rattle.cas_model.specs.View.{DiskMeaning, IsAt}
+use Rattle.cas_model.proofs.Others.{IsNoProbeIn, IsAskedApart}
+use Rattle.cas_model.specs.Council.{Council}
 use Rattle.cas_model.proofs.Calls.Caches.{contains_without, contains_promise, IsKeptOr, kept, held, kept_or_held}
 use Rattle.cas_model.proofs.Eras.InEras.{goes_on}
 use Rattle.cas_model.proofs.Places.{some_is}
@@ -58,7 +60,8 @@ renewed_on m key tomb age old new still ages was above = record {
 }
 
 -- with no round open, it holds what it held, or less
-fewer_above : {V : Type 0} (key : List ℕ) (tomb : Ballot) (old new : DeskView V) → new.round ≡ None → ((ready : Ready) → Contains new.cache (key, ready) → Contains old.cache (key, ready)) → HoldsAbove key tomb old → HoldsAbove key tomb new
+fewer_above : {V : Type 0} (key : List ℕ) (tomb : Ballot) (old new : DeskView V) → new.round ≡ None → ((ready : Ready) → Contains new.cache (key, ready) → Contains old.cache (key, ready))
+    → HoldsAbove key tomb old → HoldsAbove key tomb new
 fewer_above key tomb old new none within was = record {
   ballot = λ round is same. absurd (cc (is, none));
   ride = λ round ride is same rides. absurd (cc (is, none));
@@ -74,12 +77,14 @@ pub same_above : {V : Type 0} (m : DiskMeaning V) (old new : DeskView V) → new
 same_above {V} m old new same = record { renewed = λ key tomb age was. subst (λ (d : DeskView V). IsRenewed m key tomb age d) (sym same) was }
 
 -- its round is over, or none was open, and its cache has no more
-pub idle_above : {V : Type 0} (m : DiskMeaning V) (old new : DeskView V) → ((n : ℕ) → IsPast m.may_leave n old.vault → IsPast m.may_leave n new.vault) → ((n : ℕ) → IsAged m n old.vault → IsAged m n new.vault) → new.round ≡ None
+pub idle_above : {V : Type 0} (m : DiskMeaning V) (old new : DeskView V) → ((n : ℕ) → IsPast m.may_leave n old.vault → IsPast m.may_leave n new.vault)
+    → ((n : ℕ) → IsAged m n old.vault → IsAged m n new.vault) → new.round ≡ None
     → ((entry : List ℕ × Ready) → Contains new.cache entry → Contains old.cache entry) → KeepsAbove m old new
 idle_above m old new still ages none within = record { renewed = λ key tomb age was. renewed_on m key tomb age old new still ages was (fewer_above key tomb old new none (λ ready h. within (key, ready) h) (holds was)) }
 
 -- the same round, and the vault goes on
-pub vault_above : {V : Type 0} (m : DiskMeaning V) (old new : DeskView V) → ((n : ℕ) → IsPast m.may_leave n old.vault → IsPast m.may_leave n new.vault) → ((n : ℕ) → IsAged m n old.vault → IsAged m n new.vault) → new.round ≡ old.round
+pub vault_above : {V : Type 0} (m : DiskMeaning V) (old new : DeskView V) → ((n : ℕ) → IsPast m.may_leave n old.vault → IsPast m.may_leave n new.vault)
+    → ((n : ℕ) → IsAged m n old.vault → IsAged m n new.vault) → new.round ≡ old.round
     → new.cache ≡ old.cache → KeepsAbove m old new
 vault_above {V} m old new still ages same_round same_cache = record {
   renewed = λ key tomb age was. renewed_on m key tomb age old new still ages was (record {
@@ -89,7 +94,8 @@ vault_above {V} m old new still ages same_round same_cache = record {
   });
 }
 
-pub prepares_above : {V : Type 0} (m : DiskMeaning V) (era : Era) (k : List ℕ) (old new : DeskView V) (ballot : Ballot) (round : Round) → m.tells → BeginsToPrepare m era k old new ballot round → KeepsAbove m old new
+pub prepares_above : {V : Type 0} (m : DiskMeaning V) (era : Era) (k : List ℕ) (old new : DeskView V) (ballot : Ballot) (round : Round) → m.tells → BeginsToPrepare m era k old new ballot round
+    → KeepsAbove m old new
 prepares_above {V} m era k old new ballot round tells by = record {
   renewed = λ key tomb age was. renewed_on m key tomb age old new (by.drawn.goes_on.still_past tells) (by.drawn.goes_on.ages tells) was (record {
     ballot = λ r is same. subst (BallotLess tomb) (sym (ap (λ (x : Round). x.ballot) (is_round r is) ∙ by.opened.0.at)) (drawn_above m old.id old.vault new.vault tomb ballot was.past by.drawn);
@@ -102,11 +108,13 @@ prepares_above {V} m era k old new ballot round tells by = record {
     is_round r is = some_is (sym is ∙ ap (λ (d : DeskView V). d.round) by.desk)
 
 -- the ballot that rides was drawn, or there is none
-ride_above : {V : Type 0} (m : DiskMeaning V) (id : ℕ) (old new : Vault V) (tomb ride : Ballot) (may : Option Ballot) → IsPast m.may_leave tomb.counter old → MayHaveDrawn m id old new may → may ≡ Some ride → BallotLess tomb ride
+ride_above : {V : Type 0} (m : DiskMeaning V) (id : ℕ) (old new : Vault V) (tomb ride : Ballot) (may : Option Ballot) → IsPast m.may_leave tomb.counter old → MayHaveDrawn m id old new may
+    → may ≡ Some ride → BallotLess tomb ride
 ride_above m id old new tomb ride None past by is = absurd (cc is)
 ride_above m id old new tomb ride (Some ballot) past by is = subst (BallotLess tomb) (some_is is) (drawn_above m id old new tomb ballot past by)
 
-pub promise_above : {V : Type 0} (m : DiskMeaning V) (era : Era) (k : List ℕ) (old new : DeskView V) (ready : Ready) (ride : Option Ballot) (round : Round) → m.tells → BeginsByPromise m era k old new ready ride round → KeepsAbove m old new
+pub promise_above : {V : Type 0} (m : DiskMeaning V) (era : Era) (k : List ℕ) (old new : DeskView V) (ready : Ready) (ride : Option Ballot) (round : Round) → m.tells
+    → BeginsByPromise m era k old new ready ride round → KeepsAbove m old new
 promise_above {V} m era k old new ready ride round tells by = record {
   renewed = λ key tomb age was. renewed_on m key tomb age old new (on.still_past tells) (on.ages tells) was (record {
     ballot = λ r is same. subst (BallotLess tomb) (sym (ap (λ (x : Round). x.ballot) (is_round r is) ∙ by.opened.0.at))
@@ -122,7 +130,8 @@ promise_above {V} m era k old new ready ride round tells by = record {
     is_round : (r : Round) → new.round ≡ Some r → r ≡ record round { ride = ride }
     is_round r is = some_is (sym is ∙ ap (λ (d : DeskView V). d.round) by.desk)
 
-pub turns_above : {V : Type 0} (m : DiskMeaning V) (old new : DeskView V) (round turned : Round) (ride : Option Ballot) → m.tells → old.round ≡ Some round → TurnsWith m old new round turned ride → KeepsAbove m old new
+pub turns_above : {V : Type 0} (m : DiskMeaning V) (old new : DeskView V) (round turned : Round) (ride : Option Ballot) → m.tells → old.round ≡ Some round → TurnsWith m old new round turned ride
+    → KeepsAbove m old new
 turns_above {V} m old new round turned ride tells is_open by = record {
   renewed = λ key tomb age was. renewed_on m key tomb age old new (on.still_past tells) (on.ages tells) was (record {
     ballot = λ r is same. subst (BallotLess tomb) (ap (λ (x : Round). x.ballot) (sym by.turns.same) ∙ ap (λ (x : Round). x.ballot) (sym (is_round r is)))
@@ -144,7 +153,8 @@ hears_above {V} m old new round heard is_open by = record {
       subst (λ (d : DeskView V). IsRenewed m key tomb age d) (sym by.desk) (record {
         past = was.past;
         aged = was.aged;
-        ballot = λ r is same. subst (BallotLess tomb) (ap (λ (x : Round). x.ballot) (sym by.hears.same) ∙ ap (λ (x : Round). x.ballot) (some_is is)) (was.ballot round is_open (same_key (some_is is) same));
+        ballot =
+            λ r is same. subst (BallotLess tomb) (ap (λ (x : Round). x.ballot) (sym by.hears.same) ∙ ap (λ (x : Round). x.ballot) (some_is is)) (was.ballot round is_open (same_key (some_is is) same));
         ride = λ r rode is same rides. was.ride round rode is_open (same_key (some_is is) same) (ap (λ (x : Round). x.ride) (sym by.hears.same) ∙ ap (λ (x : Round). x.ride) (some_is is) ∙ rides);
         cached = was.cached;
       });
@@ -154,7 +164,8 @@ hears_above {V} m old new round heard is_open by = record {
     same_key is same = ap (λ (x : Round). x.key) (sym by.hears.same) ∙ ap (λ (x : Round). x.key) is ∙ same
 
 -- a round that ends keeps the promise that rode along, or none
-pub ends_above : {V : Type 0} (m : DiskMeaning V) (old new : DeskView V) (round : Round) (state : State) (by : List ℕ) → m.tells → old.round ≡ Some round → EndsRound m old new round (offered_by round round.ride state by) → KeepsAbove m old new
+pub ends_above : {V : Type 0} (m : DiskMeaning V) (old new : DeskView V) (round : Round) (state : State) (by : List ℕ) → m.tells → old.round ≡ Some round
+    → EndsRound m old new round (offered_by round round.ride state by) → KeepsAbove m old new
 ends_above {V} m old new round state members tells is_open by = record {
   renewed = λ key tomb age was. renewed_on m key tomb age old new (by.goes_on.still_past tells) (by.goes_on.ages tells) was (record {
     ballot = λ r is same. absurd (cc (is, ap (λ (d : DeskView V). d.round) by.desk));
@@ -168,7 +179,8 @@ ends_above {V} m old new round state members tells is_open by = record {
     by_ride None ready is = absurd (cc is)
     by_ride (Some ride) ready is = (ap (λ (x : Ready). Some x.ballot) (some_is is), ap (λ (x : Ready). x.read) (sym (some_is is)))
 
-    by_entry : (key : List ℕ) (tomb : Ballot) (age : ℕ) → IsRenewed m key tomb age old → (ready : Ready) → IsKeptOr round (offered_by round round.ride state members) old.cache (key, ready) → BallotLess tomb ready.ballot × BallotAtMost tomb ready.read
+    by_entry : (key : List ℕ) (tomb : Ballot) (age : ℕ) → IsRenewed m key tomb age old → (ready : Ready) → IsKeptOr round (offered_by round round.ride state members) old.cache (key, ready)
+        → BallotLess tomb ready.ballot × BallotAtMost tomb ready.read
     by_entry key tomb age was ready (kept offered is_offered may same) =
         let parts = by_ride round.ride offered is_offered in
         let same_key : round.key ≡ key = ap (λ (e : List ℕ × Ready). e.0) same in
@@ -193,7 +205,12 @@ abbrev pub IsRenewedFor : {V : Type 0} → DiskMeaning V → Option CollectionVi
 IsRenewedFor m collection id desk = (c : CollectionView) (age : ℕ) → collection ≡ Some c → IsAt c.ages id age → IsRenewed m c.course.key (tomb_of c.tombstone) age desk
 
 -- a request that tells no ages, and is above the tombstone where it is of a round of the key
-pub asks_by : (collection : Option CollectionView) (request : Request) → ((tag : Ballot) (least : Ages) → request.ask ≡ ask.Ages tag least → ⊥)
+asks_above : (collection : Option CollectionView) (request : Request) → ((tag : Ballot) (least : Ages) → request.ask ≡ ask.Ages tag least → ⊥)
     → ((c : CollectionView) (age : ℕ) → collection ≡ Some c → IsAt c.ages request.from age → IsRoundAsk request.ask → key_of request.ask ≡ c.course.key → BallotLess (tomb_of c.tombstone) (tag_of request.ask)) → AsksAboveFor collection request
-asks_by None request tells above = tt
-asks_by (Some c) request tells above = record { above = λ age at round same. above c age refl at round same; tells_none = tells }
+asks_above None request tells above = tt
+asks_above (Some c) request tells above = record { above = λ age at round same. above c age refl at round same; tells_none = tells }
+
+-- and is no probe beside an open exchange
+pub asks_by : (council : Council) (request : Request) → IsNoProbeIn council.exchange request → ((tag : Ballot) (least : Ages) → request.ask ≡ ask.Ages tag least → ⊥)
+    → ((c : CollectionView) (age : ℕ) → council.collection ≡ Some c → IsAt c.ages request.from age → IsRoundAsk request.ask → key_of request.ask ≡ c.course.key → BallotLess (tomb_of c.tombstone) (tag_of request.ask)) → IsAskedApart council request
+asks_by council request apart tells above = (asks_above council.collection request tells above, apart)

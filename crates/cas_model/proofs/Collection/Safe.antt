@@ -174,13 +174,13 @@ ask_collect_safe {S} {V} m old new was safe by = in_case by.asks
     at = by.may.at
 
     asked : (question : Question) (flow : FlowView) → IsQuestionOf at.collection question → HasRoomToAsk old question → Sends old.flow exchange_place (questions_to (kept_of by.desk.vault).age (tomb_of at.collection.tombstone) question (everyone old)) flow
-        → IsSound (with_council (record old { flow = flow }) (record old.council { exchange = Some (new_exchange question (tomb_of at.collection.tombstone) (everyone old) (length old.marks)) }))
+        → IsSound (with_council (record old { flow = flow }) (record old.council { exchange = Some (new_exchange question (tomb_of at.collection.tombstone) (everyone old) (length old.marks) None) }))
     asked question flow asks room sends =
         let all = everyone_asked old at.collection question asks in
-        let exchange : ExchangeView = new_exchange question (tomb_of at.collection.tombstone) (everyone old) (length old.marks) in
+        let exchange : ExchangeView = new_exchange question (tomb_of at.collection.tombstone) (everyone old) (length old.marks) None in
         council_safe old flow (record old.council { exchange = Some exchange }) old.marks was sends.queues sends.others (omega arith)
-        (sent_safe old.flow flow (kept_of by.desk.vault).age (tomb_of at.collection.tombstone) question (everyone old) (length old.marks) (none_waiting old was by.may.none_asked) (safe.each at.collection at.is_collection).tomb
-        (everyone_set old) (was.few_members 0) sends)
+        (sent_safe old.flow flow (kept_of by.desk.vault).age (tomb_of at.collection.tombstone) question (everyone old) (length old.marks) None (none_waiting old was by.may.none_asked) (safe.each at.collection at.is_collection).tomb
+        (everyone_set old) (was.few_members 0) (λ era reads. absurd (cc reads)) sends)
         (was.council.0, none_of_listing old.council.plan at.collection exchange asks) (omega (arith, room, ap (λ (l : List ℕ). length l) all, ap reserved_for_exchange by.may.none_asked))
 
     in_case : collect.AsksCollect m old at by.desk new → IsSound new

@@ -32,6 +32,7 @@ use Rattle.cas_model.specs.Stops.Step as stops
 use Rattle.cas_model.specs.Stops.Step.{LeavesRound, GoesDown, broken_off_view}
 use Rattle.cas_model.specs.View.{Meaning, View, CallView, era_at, era_in, with_desk}
 use Rattle.cas_model.proofs.Places.{some_is}
+use Rattle.cas_record.specs.declared.operator.OpAnswer.TheVariants.{Probed}
 
 -- ---- what it depends on
 pub record Frame : Type 0 where
@@ -161,8 +162,10 @@ rescan_alone frame id key told next (calls.rescans of done same) = subst (λ (c 
   order = λ order asked_key is_open is_for none. absurd (cc (none, of.is_plan));
 })
 
-rescan_collecting : {S V : Type 0} (old new : View S V) (id : ℕ) (key : List ℕ) (told : Answer) (next : Council) → Rescans old.council id key told next → frame_of new ≡ record (frame_of old) { council = next } → IsCollectingSafe old → IsCollectingSafe new
-rescan_collecting old new id key told next by same was = subst IsCollectingBy (sym same) (left_alone (frame_of old) (record (frame_of old) { council = next }) (rescan_alone (frame_of old) id key told next by) was)
+rescan_collecting : {S V : Type 0} (old new : View S V) (id : ℕ) (key : List ℕ) (told : Answer) (next : Council) → Rescans old.council id key told next
+    → frame_of new ≡ record (frame_of old) { council = next } → IsCollectingSafe old → IsCollectingSafe new
+rescan_collecting old new id key told next by same was =
+    subst IsCollectingBy (sym same) (left_alone (frame_of old) (record (frame_of old) { council = next }) (rescan_alone (frame_of old) id key told next by) was)
 
 pub refuse_collecting : {S V : Type 0} (m : Meaning S V) (old new : View S V) (id : ℕ) (key : List ℕ) → RefusesCall m old id key new → IsCollectingSafe old → IsCollectingSafe new
 refuse_collecting {S} {V} m old new id key (calls.stays told next why rescan is) was = rescan_collecting old new id key told next rescan (ap frame_of is) was
@@ -217,7 +220,8 @@ start_frame {S} {V} m old new id (step.was_up acceptor at up is) = ap frame_of i
 start_frame {S} {V} m old new id (step.starts acceptor now at starts is) = ap frame_of is
 start_frame {S} {V} m old new id (step.fails acceptor now at fails is) = ap frame_of is
 
-pub left_frame : {S V : Type 0} (DeskTurns : DeskView V → DeskView V → Type 0) (closed : CallView → CallView) (old new : View S V) (id : ℕ) → LeavesRound DeskTurns closed old id new → frame_of new ≡ frame_of old
+pub left_frame : {S V : Type 0} (DeskTurns : DeskView V → DeskView V → Type 0) (closed : CallView → CallView) (old new : View S V) (id : ℕ) → LeavesRound DeskTurns closed old id new
+    → frame_of new ≡ frame_of old
 left_frame {S} {V} DeskTurns closed old new id (stops.idle desk now at none turns is) = ap frame_of is
 left_frame {S} {V} DeskTurns closed old new id (stops.closes desk now round at there is_round turns is) = ap frame_of is
 
@@ -281,7 +285,9 @@ restart_collecting {S} {V} m old new id (step.restarts desk now caller at at_c d
 
 -- ---- the operator's calls
 pub order_collecting : {S V : Type 0} (old new : View S V) (of : Asked) → StepOrder old of new → IsCollectingSafe old → IsCollectingSafe new
-order_collecting {S} {V} old new of by was = subst (λ (v : View S V). IsCollectingSafe v) (sym by.view) (left_alone (frame_of old) (record (frame_of old) { council = record old.council { order = Some (record { asked = of; told = None }) } }) alone was)
+order_collecting {S} {V} old new of by was =
+    subst (λ (v : View S V). IsCollectingSafe v) (sym by.view)
+    (left_alone (frame_of old) (record (frame_of old) { council = record old.council { order = Some (record { asked = of; told = None }) } }) alone was)
   where
     alone : LeavesAlone (frame_of old) (record (frame_of old) { council = record old.council { order = Some (record { asked = of; told = None }) } })
     alone = record {
@@ -296,14 +302,18 @@ rested_collecting : (council : Council) (era : Era) (last_proposer : ℕ) → Is
 rested_collecting council era last_proposer = record { each = λ collection is. absurd (cc is); exchange = λ now is asks. absurd (cc is) }
 
 pub tell_collecting : {S V : Type 0} (old new : View S V) (answer : OpAnswer) → StepTell old answer new → IsCollectingSafe new
-tell_collecting {S} {V} old new answer (council.tells order said is_open told same view) = subst (λ (v : View S V). IsCollectingSafe v) (sym view) (rested_collecting old.council (era_at old 0) old.last_proposer)
-tell_collecting {S} {V} old new answer (council.finishes order is_open by view) = subst (λ (v : View S V). IsCollectingSafe v) (sym view) (rested_collecting (record old.council { plan = None }) (era_at old 0) old.last_proposer)
-tell_collecting {S} {V} old new answer (council.collects order is_open by view) = subst (λ (v : View S V). IsCollectingSafe v) (sym view) (rested_collecting old.council (era_at old 0) old.last_proposer)
+tell_collecting {S} {V} old new answer (council.tells order said is_open told same view) =
+    subst (λ (v : View S V). IsCollectingSafe v) (sym view) (rested_collecting old.council (era_at old 0) old.last_proposer)
+tell_collecting {S} {V} old new answer (council.finishes order is_open by view) =
+    subst (λ (v : View S V). IsCollectingSafe v) (sym view) (rested_collecting (record old.council { plan = None }) (era_at old 0) old.last_proposer)
+tell_collecting {S} {V} old new answer (council.collects order is_open by view) =
+    subst (λ (v : View S V). IsCollectingSafe v) (sym view) (rested_collecting old.council (era_at old 0) old.last_proposer)
 
 -- all members are asked, and not for a collection
-asked_collecting : {S V : Type 0} (old : View S V) (question : Question) (tag : Ballot) (tos : List ℕ) → is_of_collection question ≡ false → (old.council.plan ≡ None → plan_asked question tag old.council.plan ≡ None)
-    → IsCollectingSafe old → IsCollectingIn (record old.council { exchange = Some (new_exchange question tag tos (length old.marks)); plan = plan_asked question tag old.council.plan }) (era_at old 0) old.last_proposer
-asked_collecting old question tag tos apart unplanned was = left_alone (frame_of old) (record (frame_of old) { council = record old.council { exchange = Some (new_exchange question tag tos (length old.marks)); plan = plan_asked question tag old.council.plan } }) (record {
+asked_collecting : {S V : Type 0} (old : View S V) (question : Question) (tag : Ballot) (tos : List ℕ) → is_of_collection question ≡ false
+    → (old.council.plan ≡ None → plan_asked question tag old.council.plan ≡ None)
+    → IsCollectingSafe old → IsCollectingIn (record old.council { exchange = Some (new_exchange question tag tos (length old.marks) (council.read_era old question)); plan = plan_asked question tag old.council.plan }) (era_at old 0) old.last_proposer
+asked_collecting old question tag tos apart unplanned was = left_alone (frame_of old) (record (frame_of old) { council = record old.council { exchange = Some (new_exchange question tag tos (length old.marks) (council.read_era old question)); plan = plan_asked question tag old.council.plan } }) (record {
   collection = refl;
   last_proposer = refl;
   exchange = λ now is asks. absurd (cc (apart, asks, ap (λ (e : ExchangeView). is_of_collection e.question) (some_is is)));
@@ -336,20 +346,22 @@ ask_collecting {S} {V} m old new question by was = in_case by.asks
     in_case (council.no_memory now tag up loses is) = same_collecting (told_view old _) new (ap frame_of is) (told_collecting old _ was)
 
 -- the open exchange goes on, and asks what it asked
-exchanged_collecting : {S V : Type 0} (old new : View S V) (exchange now : ExchangeView) → old.council.exchange ≡ Some exchange → now.question ≡ exchange.question → now.tag ≡ exchange.tag → now.members ≡ exchange.members
+exchanged_collecting : {S V : Type 0} (old new : View S V) (exchange now : ExchangeView) → old.council.exchange ≡ Some exchange → now.question ≡ exchange.question → now.tag ≡ exchange.tag
+    → now.members ≡ exchange.members
     → frame_of new ≡ record (frame_of old) { council = record old.council { exchange = Some now } } → IsCollectingSafe old → IsCollectingSafe new
-exchanged_collecting old new exchange now is_open question tag members same was = subst IsCollectingBy (sym same) (left_alone (frame_of old) (record (frame_of old) { council = record old.council { exchange = Some now } }) (record {
-  collection = refl;
-  last_proposer = refl;
-  exchange = λ other is asks. let one = some_is is in record {
-    before = exchange;
-    is_open = is_open;
-    question = ap (λ (e : ExchangeView). e.question) (sym one) ∙ question;
-    tag = ap (λ (e : ExchangeView). e.tag) (sym one) ∙ tag;
-    members = ap (λ (e : ExchangeView). e.members) (sym one) ∙ members;
-  };
-  order = λ order key is_open is_for none. record { order_now = order; is_open = is_open; asked = refl; none_planned = none; era = refl };
-}) was)
+exchanged_collecting old new exchange now is_open question tag members same was =
+    subst IsCollectingBy (sym same) (left_alone (frame_of old) (record (frame_of old) { council = record old.council { exchange = Some now } }) (record {
+      collection = refl;
+      last_proposer = refl;
+      exchange = λ other is asks. let one = some_is is in record {
+        before = exchange;
+        is_open = is_open;
+        question = ap (λ (e : ExchangeView). e.question) (sym one) ∙ question;
+        tag = ap (λ (e : ExchangeView). e.tag) (sym one) ∙ tag;
+        members = ap (λ (e : ExchangeView). e.members) (sym one) ∙ members;
+      };
+      order = λ order key is_open is_for none. record { order_now = order; is_open = is_open; asked = refl; none_planned = none; era = refl };
+    }) was)
 
 pub turn_collecting : {S V : Type 0} (m : Meaning S V) (old new : View S V) (v : Verdict) → StepTurnExchange m old v new → IsCollectingSafe old → IsCollectingSafe new
 turn_collecting {S} {V} m old new v by was = in_turn by.turn
@@ -384,7 +396,9 @@ gather_collecting {S} {V} old new by was = in_case by.gathers
 
     in_case : council.Gathers old by.at.exchange new → IsCollectingSafe new
     in_case (council.crashed down is) = over _ is
-    in_case (council.probed key found up question keeps is) = over _ is
+    in_case (council.probed key found up question plain keeps is) = over _ is
+    in_case (council.read key era found marks up question reads keeps counts is) =
+        same_collecting (council.gathered old (Probed key found)) new (ap frame_of is) (gathered_collecting old (Probed key found) was)
     in_case (council.lists of listing up enough on is) = same_collecting (council.listed_view old of.plan listing) new (ap frame_of is)
         (left_alone (frame_of old) (frame_of (council.listed_view old of.plan listing)) (planned_alone (frame_of old) (frame_of (council.listed_view old of.plan listing)) of.plan of.is_plan refl refl (λ now none. absurd (cc none))) was)
     in_case (council.is_short of short up missing is) = over _ is

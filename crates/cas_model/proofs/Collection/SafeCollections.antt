@@ -386,9 +386,9 @@ ask_collect_collecting {S} {V} m old new by was = in_case by.asks
     told : (answer : OpAnswer) → new ≡ told_view old answer → IsCollectingSafe new
     told answer is = same_collecting (told_view old answer) new (ap frame_of is) (told_collecting old answer was)
 
-    asked_for : (question : Question) → IsQuestionOf at.collection question → IsCollectingIn (record old.council { exchange = Some (new_exchange question (tomb_of at.collection.tombstone) (everyone old) (length old.marks)) }) (era_at old 0) old.last_proposer
+    asked_for : (question : Question) → IsQuestionOf at.collection question → IsCollectingIn (record old.council { exchange = Some (new_exchange question (tomb_of at.collection.tombstone) (everyone old) (length old.marks) None) }) (era_at old 0) old.last_proposer
     asked_for question asks =
-        let exchange : ExchangeView = new_exchange question (tomb_of at.collection.tombstone) (everyone old) (length old.marks) in
+        let exchange : ExchangeView = new_exchange question (tomb_of at.collection.tombstone) (everyone old) (length old.marks) None in
         one_collecting (record old.council { exchange = Some exchange }) (era_at old 0) old.last_proposer at.collection at.is_collection (record {
           order = of.order;
           is_open = of.is_open;

@@ -49,7 +49,7 @@ use Rattle.std.proofs.lemmas.List.{reverse-append}
 use Rattle.cas_change.specs.declared.outcome.Took.{Took}
 use Rattle.cas_record.specs.Logs.Orderly.{Orderly, age_told, IsRoundAsk, MayAsk, MayDraw, took_it, IsAgedOut, IsTold, MayReply}
 use Rattle.cas_record.specs.declared.mark.Proposal.{Proposal}
-use Rattle.cas_record.proofs.PlaceLemmas.{stands_at, stands_deeper, stands_part, newest_or}
+use Rattle.cas_record.proofs.PlaceLemmas.{stands_at, stands_deeper, stands_part}
 use Rattle.cas_slot.specs.declared.ages.Ages.{Ages as LeastAges}
 use Rattle.cas_slot.specs.declared.message.Ask.TheVariants as ask
 use Rattle.cas_slot.specs.declared.message.Request.{Request}
@@ -75,11 +75,11 @@ use Rattle.cas_vault.specs.Vault.{kept_of}
 use Rattle.cas_record.proofs.Logs.Eras.{le_or_lt}
 use Rattle.cas_model.specs.Eras.Listed.{IsPlanTrue}
 use Rattle.cas_model.specs.Calls.Step.{Sends}
-use Rattle.cas_model.proofs.Calls.Asks.{asked_log, asked_global, asked_all, asked_later, asked_marks, asked_messages}
+use Rattle.cas_model.proofs.Calls.Asks.{asked_log, asked_global, asked_all, asked_now, asked_later, asked_marks, asked_messages}
 use Rattle.cas_protocol.proofs.Events.{keeps as happens}
 use Rattle.cas_model.proofs.Collection.Flooring.{floor_mark, whole_floored}
 use Rattle.cas_model.proofs.Frames.Steps.{marked}
-use Rattle.cas_model.proofs.Others.{collection_still, exchange_still}
+use Rattle.cas_model.proofs.Others.{IsNoProbeIn, collection_still, exchange_still}
 use Rattle.cas_model.proofs.Collection.SafeCollecting.{Frame, frame_of, begin_frame}
 use Rattle.cas_model.proofs.Safety.Parts.{at_low}
 use Rattle.cas_ballot.proofs.MemberLemmas.{has-members_where, members_where_tells}
@@ -96,7 +96,8 @@ use Rattle.cas_model.proofs.Eras.Listings.{answer_of}
 
 -- ---- the collection goes on
 -- what else is under way stays
-recollected : {S V : Type 0} (m : Meaning S V) (old : View S V) (order : OrderView) (told : Option OpAnswer) (collection : CollectionView) → (is : IsFollowed m old) → IsCollectionTrue is.cluster is.logged.global.log collection
+recollected : {S V : Type 0} (m : Meaning S V) (old : View S V) (order : OrderView) (told : Option OpAnswer) (collection : CollectionView) → (is : IsFollowed m old)
+    → IsCollectionTrue is.cluster is.logged.global.log collection
     → IsFollowed m (collecting old order told collection)
 recollected m old order told collection is known =
     same_course m old (collecting old order told collection) refl
@@ -104,11 +105,13 @@ recollected m old order told collection is known =
     is.course is.in_eras
 
 -- what is known of the one that is under way
-pub known_of : {S V : Type 0} (m : Meaning S V) (old : View S V) (is : IsFollowed m old) (collection : CollectionView) → old.council.collection ≡ Some collection → IsCollectionTrue is.cluster is.logged.global.log collection
+pub known_of : {S V : Type 0} (m : Meaning S V) (old : View S V) (is : IsFollowed m old) (collection : CollectionView) → old.council.collection ≡ Some collection
+    → IsCollectionTrue is.cluster is.logged.global.log collection
 known_of m old is collection is_some = subst (IsCollectingTrue is.cluster is.logged.global.log) is_some is.logged.agrees.council.3
 
 -- as many are renewed as before, of the same collection
-renewed_same : {S V : Type 0} (m : Meaning S V) (old : View S V) (order : OrderView) (told : Option OpAnswer) (collection now : CollectionView) → old.council.collection ≡ Some collection → now.ages ≡ collection.ages
+renewed_same : {S V : Type 0} (m : Meaning S V) (old : View S V) (order : OrderView) (told : Option OpAnswer) (collection now : CollectionView) → old.council.collection ≡ Some collection
+    → now.ages ≡ collection.ages
     → now.course.key ≡ collection.course.key → now.tombstone ≡ collection.tombstone → AreRenewed m old → AreRenewed m (collecting old order told now)
 renewed_same {S} {V} m old order told collection now is_some same_ages same_key same_tomb were one proposer age desk is at_age at =
     let same : now ≡ one = some_is is in
@@ -123,8 +126,10 @@ renewed_none m old order told now none one proposer age desk is at_age at =
 
 -- ---- while its round is due
 -- nothing is known of one whose round is due but its tombstone and its era
-fresh_known : (cluster : Cluster) (log : List Happening) (c : CollectionView) → c.course.step ≡ Round → c.ages ≡ [] → IsSoughtTrue log c.course.key c.course.era.number c.tombstone → (c.course.era.number ≡ 0) ⊎ AllEntered cluster c.course.era.number (marks_of log)
-    → ((tomb : Ballot) (by : List ℕ) (request : Request) (least : LeastAges) → c.tombstone ≡ Acknowledged tomb by → Stands (Asked request) log → request.ask ≡ ask.Ages tomb least → ⊥) → IsCollectionTrue cluster log c
+fresh_known : (cluster : Cluster) (log : List Happening) (c : CollectionView) → c.course.step ≡ Round → c.ages ≡ [] → IsSoughtTrue log c.course.key c.course.era.number c.tombstone
+    → (c.course.era.number ≡ 0) ⊎ AllEntered cluster c.course.era.number (marks_of log)
+    → ((tomb : Ballot) (by : List ℕ) (request : Request) (least : LeastAges) → c.tombstone ≡ Acknowledged tomb by → Stands (Asked request) log → request.ask ≡ ask.Ages tomb least → ⊥)
+    → IsCollectionTrue cluster log c
 fresh_known cluster log c due none sought entered untold = record {
   tombstone = sought;
   entered = entered;
@@ -138,7 +143,8 @@ fresh_known cluster log c due none sought entered untold = record {
 }
 
 -- all proposers entered the era in which no change of membership is under way, or it is the first
-entered_by_all : {S V : Type 0} (m : Meaning S V) (view : View S V) (is : IsFollowed m view) → view.council.plan ≡ None → ((era_at view 0).number ≡ 0) ⊎ AllEntered is.cluster (era_at view 0).number (marks_of is.logged.global.log)
+entered_by_all : {S V : Type 0} (m : Meaning S V) (view : View S V) (is : IsFollowed m view) → view.council.plan ≡ None
+    → ((era_at view 0).number ≡ 0) ⊎ AllEntered is.cluster (era_at view 0).number (marks_of is.logged.global.log)
 entered_by_all {S} {V} m view is none = by_number (era_at view 0).number refl
   where
     entries : AreEntries (course view.last_proposer view.eras None (entries_in view.marks))
@@ -153,14 +159,16 @@ entered_by_all {S} {V} m view is none = by_number (era_at view 0).number refl
 none_of : {S V : Type 0} (m : Meaning S V) (old : View S V) (is : IsFollowed m old) (at : CollectingAt old.council) → at.collection.course.step ≡ Round → at.collection.ages ≡ []
 none_of m old is at due = (known_of m old is at.collection at.is_collection).none_yet (ap is_round due)
 
-begins_collection : {S V : Type 0} (m : Meaning S V) (old : View S V) (key : List ℕ) (new : View S V) → m.shelves.tells → m.disks.tells → IsRemembered m old → Step m old (step.BeginCollect key) new → IsRemembered m new
+begins_collection : {S V : Type 0} (m : Meaning S V) (old : View S V) (key : List ℕ) (new : View S V) → m.shelves.tells → m.disks.tells → IsRemembered m old
+    → Step m old (step.BeginCollect key) new → IsRemembered m new
 begins_collection {S} {V} m old key new shelves disks is by = by_case by.begins
   where
     by_case : collect.BeginsCollection m (λ before after. step.StepBegin m before 0 key keep_always after) old key by.may.order by.desk by.caller new → IsRemembered m new
     by_case (collect.is_down none down view) = subst (IsRemembered m) (sym view) (told_remembered m old _ is)
     by_case (collect.is_busy plan none up planned view) = subst (IsRemembered m) (sym view) (told_remembered m old _ is)
     by_case (collect.is_full none up unplanned full view) = subst (IsRemembered m) (sym view) (told_remembered m old _ is)
-    by_case (collect.no_memory middle none up unplanned refuses view) = subst (IsRemembered m) (sym view) (told_remembered m middle _ (plainly m old (step.RefuseBegin 0 key) middle shelves disks tt is refuses))
+    by_case (collect.no_memory middle none up unplanned refuses view) =
+        subst (IsRemembered m) (sym view) (told_remembered m middle _ (plainly m old (step.RefuseBegin 0 key) middle shelves disks tt is refuses))
     by_case (collect.begins middle none unplanned begun view) =
         let then_ = plainly m old (step.Begin 0 key keep_always) middle shelves disks tt is begun in
         let same : frame_of middle ≡ frame_of old = begin_frame m old middle 0 key keep_always begun in
@@ -214,29 +222,32 @@ reads_held {S} {V} m old new disks is by = subst (IsRemembered m) (sym by.view) 
         (prepare_at global.log global.made 0 by.of_call.caller.number (round_at m old 0 is.followed.logged at).call (queue_at old.flow 0).messages by.round by.preparing (round_at m old 0 is.followed.logged at).phase).unproposed)
 
     log : IsLogged m is.followed.cluster closed
-    log = logged m is.followed.cluster global closed (settles m is.followed.cluster global old closed 0 (around m is.followed.cluster global old 0 whole) (leaves_both old 0 by.now caller old.flow old.marks (λ p other. refl)) (record {
-      desk = λ d c at_d at_c.
-          subst (λ (x : DeskView V). IsDeskTrue m is.followed.cluster global.log global.made (era_at old 0).number 0 c (queue_at old.flow 0).messages x) (sym (own_set old.desks 0 by.now d at_d))
-          (quiet_true m is.followed.cluster global.log global.made 0 (era_at old 0).number c (queue_at old.flow 0).messages by.now by.none_waits
-          (quiet_ends m is.followed.cluster global.log global.made 0 (era_at old 0).number by.of_call.caller (queue_at old.flow 0).messages by.desk by.now by.round disks (whole.parties.desks 0 tt by.desk by.of_call.caller by.at_desk by.of_call.at_caller) by.ends));
-      caller = λ c at_c. subst (IsCallerTrue global.log global.made 0) (sym (own_set old.callers 0 caller c at_c)) (record {
-        number = caller_true.number;
-        call = λ call none. absurd (cc none);
-        ended = λ call proposed. elim (caller_true.ended call proposed) [
-          | inl open_ ↦ absurd (unproposed (subst (λ (n : ℕ). IsProposed 0 n (marks_of global.log)) open_.1 proposed))
-          | inr ended ↦ inr ended
-        ];
-      });
-      own = whole.parties.own 0;
-      late = whole.parties.late;
-    })) is.followed.logged.agrees.marks
+    log =
+        logged m is.followed.cluster global closed
+        (settles m is.followed.cluster global old closed 0 (around m is.followed.cluster global old 0 whole) (leaves_both old 0 by.now caller old.flow old.marks (λ p other. refl)) (record {
+          desk = λ d c at_d at_c.
+              subst (λ (x : DeskView V). IsDeskTrue m is.followed.cluster global.log global.made (era_at old 0).number 0 c (queue_at old.flow 0).messages x) (sym (own_set old.desks 0 by.now d at_d))
+              (quiet_true m is.followed.cluster global.log global.made 0 (era_at old 0).number c (queue_at old.flow 0).messages by.now by.none_waits
+              (quiet_ends m is.followed.cluster global.log global.made 0 (era_at old 0).number by.of_call.caller (queue_at old.flow 0).messages by.desk by.now by.round disks (whole.parties.desks 0 tt by.desk by.of_call.caller by.at_desk by.of_call.at_caller) by.ends));
+          caller = λ c at_c. subst (IsCallerTrue global.log global.made 0) (sym (own_set old.callers 0 caller c at_c)) (record {
+            number = caller_true.number;
+            call = λ call none. absurd (cc none);
+            ended = λ call proposed. elim (caller_true.ended call proposed) [
+              | inl open_ ↦ absurd (unproposed (subst (λ (n : ℕ). IsProposed 0 n (marks_of global.log)) open_.1 proposed))
+              | inr ended ↦ inr ended
+            ];
+          });
+          own = whole.parties.own 0;
+          late = whole.parties.late;
+        })) is.followed.logged.agrees.marks
 
     mid : IsFollowed m closed
     mid = same_course m old closed refl log is.followed.course (one_changed m (course_of old) _ _ 0 _ _ refl by.at_desk (up_kept m.disks disks by.up by.ends.goes_on) is.followed.in_eras)
 
 -- ---- its tombstone
 -- what the log tells of the ballot at which the operator's caller was told that the empty state is done
-tombstone_true : (cluster : Cluster) (log : List Happening) (all : List Made) (number : ℕ) (call : CallView) (key : List ℕ) (era : ℕ) (took : Took) (a : Acknowledgment) → Lawful cluster log → Orderly cluster log → Knows cluster log all
+tombstone_true : (cluster : Cluster) (log : List Happening) (all : List Made) (number : ℕ) (call : CallView) (key : List ℕ) (era : ℕ) (took : Took) (a : Acknowledgment) → Lawful cluster log
+    → Orderly cluster log → Knows cluster log all
     → IsCallTrue log all 0 number call → call.told ≡ Some (answer.Done Empty took a.ballot) → Stands (Acked a) (marks_of log) → a.key ≡ key → a.era ≡ era → IsTombstoneTrue log key era a.ballot a.by
 tombstone_true cluster log all number call key era took a lawful orderly knows call_true told acked same_key same_era = record {
   own = done.own;
@@ -284,10 +295,12 @@ tombstone_true cluster log all number call key era took a lawful orderly knows c
     drawn_here = drawn_acked
 
     one_drawn : (key ≡ done.made.proposal.key) × (era ≡ done.made.proposal.era)
-    one_drawn = drawn_once cluster orderly drawn_acked (subst (λ (b : Ballot). Stands (Drew b done.made.proposal.key done.made.proposal.era) log) done.same_ballot (knows.drawn done.made.proposal proposed))
+    one_drawn =
+        drawn_once cluster orderly drawn_acked (subst (λ (b : Ballot). Stands (Drew b done.made.proposal.key done.made.proposal.era) log) done.same_ballot (knows.drawn done.made.proposal proposed))
 
 -- no ages were told under it, as its call is open
-untold : (cluster : Cluster) (log : List Happening) (all : List Made) (number : ℕ) (call : CallView) (took : Took) (tomb : Ballot) (request : Request) (least : LeastAges) → Lawful cluster log → Orderly cluster log → Knows cluster log all
+untold : (cluster : Cluster) (log : List Happening) (all : List Made) (number : ℕ) (call : CallView) (took : Took) (tomb : Ballot) (request : Request) (least : LeastAges) → Lawful cluster log
+    → Orderly cluster log → Knows cluster log all
     → IsCallTrue log all 0 number call → call.told ≡ Some (answer.Done Empty took tomb) → Stands (Asked request) log → request.ask ≡ ask.Ages tomb least → ⊥
 untold cluster log all number call took tomb request least lawful orderly knows call_true told stands tells =
     let done : IsDoneTrue log all 0 number Empty took tomb = call_true.told (answer.Done Empty took tomb) told in
@@ -340,7 +353,8 @@ counts_collection {S} {V} m old new shelves disks is by = in_case by.counted
     in_case (collect.acknowledges took acknowledgment done marks same_key same_era same) =
         let acked : Stands (Acked acknowledgment) (marks_of log) =
         subst (Stands (Acked acknowledgment)) (sym (then_.followed.logged.agrees.marks ∙ ap (λ (l : List Mark). reverse l) marks ∙ reverse-append old.marks (Acked acknowledgment ∷ []))) (record { older = reverse old.marks; at = here }) in
-        let same_tomb : (tomb : Ballot) (members : List ℕ) → Acknowledged acknowledgment.ballot acknowledgment.by ≡ Acknowledged tomb members → acknowledgment.ballot ≡ tomb = λ tomb members is_same. cc is_same in
+        let same_tomb : (tomb : Ballot) (members : List ℕ) → Acknowledged acknowledgment.ballot acknowledgment.by ≡ Acknowledged tomb members → acknowledgment.ballot ≡ tomb =
+        λ tomb members is_same. cc is_same in
         so _ same none (fresh_known then_.followed.cluster log (record at.collection { tombstone = Acknowledged acknowledgment.ballot acknowledgment.by; reserved = 1 }) by.is.is_due none
         (tombstone_true then_.followed.cluster log all by.of_call.caller.number by.of_call.call at.collection.course.key at.collection.course.era.number took acknowledgment
         history.lawful history.orderly history.knows call_true done acked (same_key ∙ sym by.is.same_key) same_era)
@@ -364,7 +378,8 @@ same_known cluster log c was = record {
   floor = was.floor;
 }
 
-ends_collection : {S V : Type 0} (m : Meaning S V) (old : View S V) (answer : Answer) (new : View S V) → m.shelves.tells → m.disks.tells → IsRemembered m old → Step m old (step.EndCollect answer) new → IsRemembered m new
+ends_collection : {S V : Type 0} (m : Meaning S V) (old : View S V) (answer : Answer) (new : View S V) → m.shelves.tells → m.disks.tells → IsRemembered m old
+    → Step m old (step.EndCollect answer) new → IsRemembered m new
 ends_collection {S} {V} m old answer new shelves disks is by =
     let then_ : IsRemembered m by.middle = plainly m old (step.End 0 answer) by.middle shelves disks tt is by.ends in
     let same : by.middle.council.collection ≡ Some by.is.at.collection = ended_collection m old by.middle answer {id = 0} by.ends ∙ by.is.at.is_collection in
@@ -375,7 +390,8 @@ ends_collection {S} {V} m old answer new shelves disks is by =
     })
 
 -- the members of an era in which no change of membership is under way accept in it
-accepts_all : {S V : Type 0} (m : Meaning S V) (view : View S V) (is : IsFollowed m view) → view.council.plan ≡ None → (acceptor : ℕ) → has_member (is.cluster.members (era_at view 0).number) acceptor ≡ true → has_member (era_at view 0).acc acceptor ≡ true
+accepts_all : {S V : Type 0} (m : Meaning S V) (view : View S V) (is : IsFollowed m view) → view.council.plan ≡ None → (acceptor : ℕ)
+    → has_member (is.cluster.members (era_at view 0).number) acceptor ≡ true → has_member (era_at view 0).acc acceptor ≡ true
 accepts_all {S} {V} m view is none acceptor member = elim ((is.logged.agrees.eras 0 (omega arith)).only_members acceptor member) [
   | inl prepares ↦ subst (λ (l : List ℕ). has_member l acceptor ≡ true) (sym settled.whole.one_set.same) prepares
   | inr accepts ↦ accepts
@@ -416,11 +432,13 @@ gathers_round {S} {V} m old new is by = by_case by.gathers
         }
 
     -- all members accept in an era in which no change of membership is under way
-    taken_by_all : (tomb : Ballot) (members : List ℕ) → c.tombstone ≡ Acknowledged tomb members → ((acceptor : ℕ) → has_member (era_at old 0).acc acceptor ≡ true → has_member members acceptor ≡ true) → (acceptor : ℕ)
+    taken_by_all : (tomb : Ballot) (members : List ℕ) → c.tombstone ≡ Acknowledged tomb members
+        → ((acceptor : ℕ) → has_member (era_at old 0).acc acceptor ≡ true → has_member members acceptor ≡ true) → (acceptor : ℕ)
         → has_member (is.followed.cluster.members c.course.era.number) acceptor ≡ true → (ride : Ballot) × Stands (TookIt acceptor c.course.key tomb ride) log
     taken_by_all tomb members same all acceptor member =
         let of : IsTombstoneTrue log c.course.key c.course.era.number tomb members = subst (IsSoughtTrue log c.course.key c.course.era.number) same known.tombstone in
-        of.taken acceptor (all acceptor (accepts_all m old is.followed by.none_planned acceptor (subst (λ (e : Era). has_member (is.followed.cluster.members e.number) acceptor ≡ true) by.same_era member)))
+        of.taken acceptor
+        (all acceptor (accepts_all m old is.followed by.none_planned acceptor (subst (λ (e : Era). has_member (is.followed.cluster.members e.number) acceptor ≡ true) by.same_era member)))
 
     by_case : GathersRound old by.at new → IsRemembered m new
     by_case (collect.is_absent tomb members acceptor same least view) = subst (IsRemembered m) (sym view) (told_remembered m old _ is)
@@ -493,7 +511,8 @@ renews_above {V} m key tomb age desk now tells by = idle_above m desk now (by.go
     (λ entry h. within_renewed key desk.round desk.cache entry (subst (λ (l : List (List ℕ × Ready)). Contains l entry) (ap (λ (d : DeskView V). d.cache) by.desk) h))
 
 -- it is renewed then
-now_renewed : {V : Type 0} (m : DiskMeaning V) (key : List ℕ) (tomb : Ballot) (age : ℕ) (desk now : DeskView V) → m.tells → HaveOneEach desk.cache → Renews m key tomb age desk now → IsRenewed m key tomb age now
+now_renewed : {V : Type 0} (m : DiskMeaning V) (key : List ℕ) (tomb : Ballot) (age : ℕ) (desk now : DeskView V) → m.tells → HaveOneEach desk.cache → Renews m key tomb age desk now
+    → IsRenewed m key tomb age now
 now_renewed {V} m key tomb age desk now tells one by = record {
   past = by.past tells;
   aged = by.aged tells;
@@ -510,7 +529,8 @@ record HasLeft {V : Type 0} (DeskTurns : DeskView V → DeskView V → Type 0) (
   turns : DeskTurns desk now
   desks : new ≡ slice_set old id now
 
-has_left : {S V : Type 0} (DeskTurns : DeskView V → DeskView V → Type 0) (closed : CallView → CallView) (old new : View S V) (id : ℕ) → LeavesRound DeskTurns closed old id new → HasLeft DeskTurns old.desks new.desks id
+has_left : {S V : Type 0} (DeskTurns : DeskView V → DeskView V → Type 0) (closed : CallView → CallView) (old new : View S V) (id : ℕ) → LeavesRound DeskTurns closed old id new
+    → HasLeft DeskTurns old.desks new.desks id
 has_left {S} {V} DeskTurns closed old new id (stops.idle desk now at none turns is) = record { desk = desk; now = now; at = at; turns = turns; desks = ap (λ (w : View S V). w.desks) is }
 has_left {S} {V} DeskTurns closed old new id (stops.closes desk now round of_call at is_round turns is) = record { desk = desk; now = now; at = at; turns = turns; desks = ap (λ (w : View S V). w.desks) is }
 
@@ -527,14 +547,17 @@ fails_renewal {S} {V} m old proposer tomb middle disks is down = record {
 }
 
 -- its vault goes on, and all else stays
-moves_on : {S V : Type 0} (m : Meaning S V) (old : View S V) (id : ℕ) (desk now : DeskView V) → m.disks.tells → IsRemembered m old → IsAt old.desks id desk → desk.down ≡ false → now ≡ record desk { vault = now.vault } → VaultGoesOn m.disks desk.vault now.vault
+moves_on : {S V : Type 0} (m : Meaning S V) (old : View S V) (id : ℕ) (desk now : DeskView V) → m.disks.tells → IsRemembered m old → IsAt old.desks id desk → desk.down ≡ false
+    → now ≡ record desk { vault = now.vault } → VaultGoesOn m.disks desk.vault now.vault
     → IsRemembered m (with_desk old id now)
 moves_on {S} {V} m old id desk now disks is at up is_now on = record {
   followed = same_course m old (with_desk old id now) refl
       (logged m is.followed.cluster is.followed.logged.global (with_desk old id now) (revaulted m is.followed.cluster is.followed.logged.global old id desk now at
       (is_now ∙ ap (λ (b : Bool). record desk { vault = now.vault; down = b }) (sym (ap (λ (d : DeskView V). d.down) is_now))) (record { still_past = on.still_past disks; ages = on.ages disks }) (whole_of m old is.followed.logged)) is.followed.logged.agrees.marks)
       is.followed.course (one_changed m (course_of old) _ _ id _ _ refl at (up_kept m.disks disks up on) is.followed.in_eras);
-  renewed = held_set m.disks old.council.collection old.desks id desk now at (vault_above m.disks desk now (on.still_past disks) (on.ages disks) (ap (λ (d : DeskView V). d.round) is_now) (ap (λ (d : DeskView V). d.cache) is_now)) is.renewed;
+  renewed =
+      held_set m.disks old.council.collection old.desks id desk now at
+      (vault_above m.disks desk now (on.still_past disks) (on.ages disks) (ap (λ (d : DeskView V). d.round) is_now) (ap (λ (d : DeskView V). d.cache) is_now)) is.renewed;
 }
 
 renews : {S V : Type 0} (m : Meaning S V) (old : View S V) (proposer : ℕ) (new : View S V) → m.disks.tells → IsRemembered m old → StepRenew m old proposer new → IsRemembered m new
@@ -573,7 +596,9 @@ renews {S} {V} m old proposer new disks is by = by_case by.renews
         left = has_left (Renews m.disks key tomb age) (closed_by (answer.Aged age) (cause.Aged age)) old middle proposer leaves
 
         whole : Whole m is.followed.cluster global middle
-        whole = left_whole m is.followed.cluster global old proposer (Renews m.disks key tomb age) (answer.Aged age) (cause.Aged age) middle (closing_age age) (around m is.followed.cluster global old proposer (whole_of m old is.followed.logged))
+        whole =
+            left_whole m is.followed.cluster global old proposer (Renews m.disks key tomb age) (answer.Aged age) (cause.Aged age) middle (closing_age age)
+            (around m is.followed.cluster global old proposer (whole_of m old is.followed.logged))
             (is.followed.logged.agrees.callers proposer) (is.followed.logged.agrees.own proposer) is.followed.logged.agrees.late
             (λ desk now caller at at_caller turns. quiet_renewed m is.followed.cluster global.log global.made proposer (era_at old proposer).number caller (queue_at old.flow proposer).messages key tomb age desk now disks
             (is.followed.logged.agrees.desks proposer desk caller at at_caller) turns) leaves
@@ -608,7 +633,9 @@ renews {S} {V} m old proposer new disks is by = by_case by.renews
         }
 
         before : AreRenewed m middle
-        before = left_renewed m old middle proposer (Renews m.disks key tomb age) (closed_by (answer.Aged age) (cause.Aged age)) (λ desk now turns. renews_above m.disks key tomb age desk now disks turns) leaves is.renewed
+        before =
+            left_renewed m old middle proposer (Renews m.disks key tomb age) (closed_by (answer.Aged age) (cause.Aged age))
+            (λ desk now turns. renews_above m.disks key tomb age desk now disks turns) leaves is.renewed
 
         are : (p a : ℕ) (d : DeskView V) → IsAt next.ages p a → IsAt middle.desks p d → IsRenewed m.disks key tomb a d
         are p a d at at_d = elim (at_snoc c.ages age p a at) [
@@ -624,7 +651,8 @@ renews {S} {V} m old proposer new disks is by = by_case by.renews
     by_case (collect.is_down down view) = subst (IsRemembered m) (sym view) (told_remembered m old _ is)
     by_case (collect.fails middle down view) = subst (IsRemembered m) (sym view) (told_remembered m middle _ (fails_renewal m old proposer _ middle disks is down))
     by_case (collect.is_spent up spent view) = subst (IsRemembered m) (sym view) (told_remembered m old _ is)
-    by_case (collect.no_memory now up finds view) = subst (IsRemembered m) (sym view) (told_remembered m (with_desk old proposer now) _ (moves_on m old proposer by.desk now disks is by.at_desk up finds.desk finds.goes_on))
+    by_case (collect.no_memory now up finds view) =
+        subst (IsRemembered m) (sym view) (told_remembered m (with_desk old proposer now) _ (moves_on m old proposer by.desk now disks is by.at_desk up finds.desk finds.goes_on))
 
 -- ---- once all are renewed
 -- a proposer that is known was renewed
@@ -636,7 +664,8 @@ era_of : {S V : Type 0} (m : Meaning S V) (view : View S V) (is : IsFollowed m v
 era_of m view is c of = subst (IsEraOf is.cluster) (sym of.same_era) (is.logged.agrees.eras 0 (omega arith))
 
 -- no era is beyond it
-none_later : {S V : Type 0} (m : Meaning S V) (view : View S V) (is : IsFollowed m view) (c : CollectionView) → IsRenewedBy view c → (number acceptor : ℕ) → suc c.course.era.number ≤ number → has_member (is.cluster.members number) acceptor ≡ true → ⊥
+none_later : {S V : Type 0} (m : Meaning S V) (view : View S V) (is : IsFollowed m view) (c : CollectionView) → IsRenewedBy view c → (number acceptor : ℕ) → suc c.course.era.number ≤ number
+    → has_member (is.cluster.members number) acceptor ≡ true → ⊥
 none_later {S} {V} m view is c of number acceptor far member =
     let on : IsCourseOf is.cluster (course view.last_proposer view.eras None (entries_in view.marks)) =
     subst (λ (p : Option PlanView). IsCourseOf is.cluster (course view.last_proposer view.eras p (entries_in view.marks))) of.none_planned is.course in
@@ -653,7 +682,8 @@ asker_known cluster log request orderly stands round =
     subst (λ (n : ℕ). n ≤ cluster.last_proposer) ask_for.own draw.known
 
 -- what was asked of a member for the key at or below the tombstone is too old for it, once all were told the new ages
-aged_by_ages : {S V : Type 0} (m : Meaning S V) (view : View S V) (is : IsFollowed m view) (c : CollectionView) → IsRenewedBy view c → is_after_ages c.course.step ≡ true → IsCollectionTrue is.cluster is.logged.global.log c
+aged_by_ages : {S V : Type 0} (m : Meaning S V) (view : View S V) (is : IsFollowed m view) (c : CollectionView) → IsRenewedBy view c → is_after_ages c.course.step ≡ true
+    → IsCollectionTrue is.cluster is.logged.global.log c
     → (acceptor : ℕ) → has_member (is.cluster.members c.course.era.number) acceptor ≡ true → IsAgedOut is.logged.global.log acceptor c.course.key (tomb_of c.tombstone)
 aged_by_ages m view is c of past known acceptor member = record {
   aged = λ request stands to round same low.
@@ -662,7 +692,8 @@ aged_by_ages m view is c of past known acceptor member = record {
 }
 
 -- all members of its era, and of later ones, are clear of the tombstone
-clear_of_tomb : {S V : Type 0} (m : Meaning S V) (view : View S V) (is : IsFollowed m view) (c : CollectionView) → (of : IsRenewedBy view c) → is_round c.course.step ≡ false → is_after_ages c.course.step ≡ true → IsCollectionTrue is.cluster is.logged.global.log c
+clear_of_tomb : {S V : Type 0} (m : Meaning S V) (view : View S V) (is : IsFollowed m view) (c : CollectionView) → (of : IsRenewedBy view c) → is_round c.course.step ≡ false
+    → is_after_ages c.course.step ≡ true → IsCollectionTrue is.cluster is.logged.global.log c
     → IsFloorClear is.cluster is.logged.global.log c.course.key (tomb_of c.tombstone)
 clear_of_tomb m view is c of past told known = record {
   era = c.course.era.number;
@@ -683,16 +714,17 @@ clear_of_tomb m view is c of past told known = record {
 }
 
 makes_floor : {S V : Type 0} (m : Meaning S V) (old : View S V) (new : View S V) → IsRemembered m old → StepMakeFloor old new → IsRemembered m new
-makes_floor {S} {V} m old new is by = subst (IsRemembered m) (sym (by.view ∙ ap (λ (x : CollectionView). with_marks (collecting old by.at.order None (record x { reserved = 0 })) (Floor key tomb Empty ∷ [])) next_is)) (record {
-  followed = record {
-    cluster = is.followed.cluster;
-    logged = marked m is.followed.cluster (with_mark global h) (collecting old by.at.order None next) (Floor key tomb Empty ∷ []) (marks_of global.log)
-        (counsels m is.followed.cluster (with_mark global h) old _ (floored.parties.council.0, floored.parties.council.1, floored.parties.council.2, next_known) floored) is.followed.logged.agrees.marks refl;
-    course = subst (λ (l : List EraEntry). IsCourseOf is.followed.cluster (course old.last_proposer old.eras old.council.plan l)) (sym no_entry) is.followed.course;
-    in_eras = λ id desk at. subst (λ (l : List EraEntry). (id ≤ old.last_proposer) × IsInEra m (course old.last_proposer old.eras old.council.plan l) id desk) (sym no_entry) (is.followed.in_eras id desk at);
-  };
-  renewed = renewed_same m old by.at.order None c next by.at.is_collection refl refl refl is.renewed;
-})
+makes_floor {S} {V} m old new is by =
+    subst (IsRemembered m) (sym (by.view ∙ ap (λ (x : CollectionView). with_marks (collecting old by.at.order None (record x { reserved = 0 })) (Floor key tomb Empty ∷ [])) next_is)) (record {
+      followed = record {
+        cluster = is.followed.cluster;
+        logged = marked m is.followed.cluster (with_mark global h) (collecting old by.at.order None next) (Floor key tomb Empty ∷ []) (marks_of global.log)
+            (counsels m is.followed.cluster (with_mark global h) old _ (floored.parties.council.0, floored.parties.council.1, floored.parties.council.2, next_known) floored) is.followed.logged.agrees.marks refl;
+        course = subst (λ (l : List EraEntry). IsCourseOf is.followed.cluster (course old.last_proposer old.eras old.council.plan l)) (sym no_entry) is.followed.course;
+        in_eras = λ id desk at. subst (λ (l : List EraEntry). (id ≤ old.last_proposer) × IsInEra m (course old.last_proposer old.eras old.council.plan l) id desk) (sym no_entry) (is.followed.in_eras id desk at);
+      };
+      renewed = renewed_same m old by.at.order None c next by.at.is_collection refl refl refl is.renewed;
+    })
   where
     c : CollectionView
     c = by.at.collection
@@ -740,7 +772,7 @@ makes_floor {S} {V} m old new is by = subst (IsRemembered m) (sym (by.view ∙ a
     floored : Whole m is.followed.cluster (with_mark global h) old
     floored = whole_floored m is.followed.cluster global old key tomb
         (λ id desk at low. let age = age_of old c by.is_renewed id low in (age.0, is.renewed c id age.0 desk by.at.is_collection age.1 at)) (
-          exchange_still h global.log old.council.exchange whole.parties.council.0,
+          exchange_still is.followed.cluster h global.log old.council.exchange (λ request now. absurd (cc now)) whole.parties.council.0,
           subst (IsPlanTrue is.followed.cluster (h ∷ global.log)) (sym by.is_renewed.none_planned) tt,
           whole.parties.council.2,
           subst (IsCollectingTrue is.followed.cluster (h ∷ global.log)) (sym by.at.is_collection) still,
@@ -767,15 +799,6 @@ makes_floor {S} {V} m old new is by = subst (IsRemembered m) (sym (by.view ∙ a
         entries_more (EraEntered proposer era ∷ marks) = ap (λ (l : List EraEntry). record { proposer = proposer; era = era } ∷ l) (entries_more marks)
         entries_more (other ∷ marks) = entries_more marks
 
--- ---- all members are asked
--- a request that stands is one of these, or stood before
-asked_now : (f : ℕ → Request) (tos : List ℕ) (log : List Happening) {request : Request} → Stands (Asked request) (asked_log f tos log) → ((to : ℕ) × (request ≡ f to)) ⊎ Stands (Asked request) log
-asked_now f [] log stands = inr stands
-asked_now f (to ∷ tos) log {request} stands = elim (newest_or stands) [
-  | inl now ↦ let same : request ≡ f to = cc now in inl (to, same)
-  | inr before ↦ asked_now f tos log before
-]
-
 age_asked : (f : ℕ → Request) (tos : List ℕ) (log : List Happening) (acceptor proposer : ℕ) → age_told (asked_log f tos log) acceptor proposer ≡ age_told log acceptor proposer
 age_asked f tos log acceptor proposer = asked_all f (λ l. age_told l acceptor proposer ≡ age_told log acceptor proposer) (λ to l same. same) tos log refl
 
@@ -789,13 +812,15 @@ question_no_round c question tag to (collect.tells_ages due is) round = subst (�
 question_no_round c question tag to (collect.removes due is) round = subst (λ (q : Question). IsRoundAsk (ask_of tag q to)) is round
 
 -- it tells ages just where they are to be told, and these
-question_ages : (c : CollectionView) (question : Question) (tag one : Ballot) (to : ℕ) (least : LeastAges) → IsQuestionOf c question → ask_of tag question to ≡ ask.Ages one least → (may_tell_ages c.course.step ≡ true) × (least ≡ ages_of c.ages)
+question_ages : (c : CollectionView) (question : Question) (tag one : Ballot) (to : ℕ) (least : LeastAges) → IsQuestionOf c question → ask_of tag question to ≡ ask.Ages one least
+    → (may_tell_ages c.course.step ≡ true) × (least ≡ ages_of c.ages)
 question_ages c question tag one to least (collect.tells_ages due is) asks =
     let told : ask.Ages tag (ages_of c.ages) ≡ ask.Ages one least = ap (λ (q : Question). ask_of tag q to) (sym is) ∙ asks in (ap may_tell_ages due, cc told)
 question_ages c question tag one to least (collect.removes due is) asks = let told : ask.Remove c.course.key tag ≡ ask.Ages one least = ap (λ (q : Question). ask_of tag q to) (sym is) ∙ asks in absurd (cc told)
 
 -- what is known of a tombstone stays as requests are made
-tomb_asked : (f : ℕ → Request) (tos : List ℕ) (log : List Happening) (key : List ℕ) (era : ℕ) (tomb : Ballot) (members : List ℕ) → IsTombstoneTrue log key era tomb members → IsTombstoneTrue (asked_log f tos log) key era tomb members
+tomb_asked : (f : ℕ → Request) (tos : List ℕ) (log : List Happening) (key : List ℕ) (era : ℕ) (tomb : Ballot) (members : List ℕ) → IsTombstoneTrue log key era tomb members
+    → IsTombstoneTrue (asked_log f tos log) key era tomb members
 tomb_asked f tos log key era tomb members was = record {
   own = was.own;
   drawn = asked_later f tos log was.drawn;
@@ -808,7 +833,8 @@ tomb_asked f tos log key era tomb members was = record {
   taken = λ acceptor member. let took = was.taken acceptor member in (took.0, asked_later f tos log took.1);
 }
 
-sought_asked : (f : ℕ → Request) (tos : List ℕ) (log : List Happening) (key : List ℕ) (era : ℕ) (tombstone : Tombstone) → IsSoughtTrue log key era tombstone → IsSoughtTrue (asked_log f tos log) key era tombstone
+sought_asked : (f : ℕ → Request) (tos : List ℕ) (log : List Happening) (key : List ℕ) (era : ℕ) (tombstone : Tombstone) → IsSoughtTrue log key era tombstone
+    → IsSoughtTrue (asked_log f tos log) key era tombstone
 sought_asked f tos log key era (Acknowledged tomb members) was = tomb_asked f tos log key era tomb members was
 sought_asked f tos log key era other was = was
 
@@ -837,21 +863,25 @@ asks_collection {S} {V} m old new disks is by = by_case by.asks
     same_tomb = ap tomb_of by.may.is_renewed.acknowledged
 
     -- each of them may be asked
-    askable : (question : Question) (age : ℕ) → IsQuestionOf c question → (rest : List ℕ) (to : ℕ) → Has to (everyone old) → IsAskable is.followed.cluster (asked_global global (question_to age tomb question) rest) (question_to age tomb question to)
-    askable question age (collect.tells_ages due same) rest to h = subst (λ (q : Question). IsAskable is.followed.cluster (asked_global global (question_to age tomb question) rest) (question_to age tomb q to)) (sym same) (record {
-      may = tt;
-      made = tt;
-      ended = subst (λ (l : List Mark). HasEnded l tomb) (sym (asked_marks (question_to age tomb question) rest global.log)) (known.ended (ap is_round due));
-      from = omega arith;
-      to = (everyone_within is.followed.cluster old (is.followed.logged.agrees.eras 0 (omega arith)) to h).1;
-    })
+    askable : (question : Question) (age : ℕ) → IsQuestionOf c question → (rest : List ℕ) (to : ℕ) → Has to (everyone old)
+        → IsAskable is.followed.cluster (asked_global global (question_to age tomb question) rest) (question_to age tomb question to)
+    askable question age (collect.tells_ages due same) rest to h =
+        subst (λ (q : Question). IsAskable is.followed.cluster (asked_global global (question_to age tomb question) rest) (question_to age tomb q to)) (sym same) (record {
+          may = tt;
+          made = tt;
+          ended = subst (λ (l : List Mark). HasEnded l tomb) (sym (asked_marks (question_to age tomb question) rest global.log)) (known.ended (ap is_round due));
+          from = omega arith;
+          to = (everyone_within is.followed.cluster old (is.followed.logged.agrees.eras 0 (omega arith)) to h).1;
+        })
     askable question age (collect.removes due same) rest to h =
         let within = everyone_within is.followed.cluster old (is.followed.logged.agrees.eras 0 (omega arith)) to h in
-        let member : has_member (is.followed.cluster.members c.course.era.number) to ≡ true = subst (λ (e : Era). has_member (is.followed.cluster.members e.number) to ≡ true) (sym by.may.is_renewed.same_era) within.0 in
+        let member : has_member (is.followed.cluster.members c.course.era.number) to ≡ true =
+        subst (λ (e : Era). has_member (is.followed.cluster.members e.number) to ≡ true) (sym by.may.is_renewed.same_era) within.0 in
         subst (λ (q : Question). IsAskable is.followed.cluster (asked_global global (question_to age tomb question) rest) (question_to age tomb q to)) (sym same) (record {
           may = (
             record { state = Empty; stands = subst (Stands (Floor c.course.key tomb Empty)) (sym (asked_marks (question_to age tomb question) rest global.log)) (known.floor (ap is_after_floor due)) },
-            subst (IsAcked c.course.key tomb) (sym (asked_marks (question_to age tomb question) rest global.log)) (subst (λ (b : Ballot). IsAcked c.course.key b (marks_of global.log)) (sym same_tomb) sought.acked),
+            subst (IsAcked c.course.key tomb) (sym (asked_marks (question_to age tomb question) rest global.log))
+                (subst (λ (b : Ballot). IsAcked c.course.key b (marks_of global.log)) (sym same_tomb) sought.acked),
             record {
               aged = λ request stands to_it round same_key low. elim (asked_now (question_to age tomb question) rest global.log stands) [
                 | inl now ↦ absurd (question_no_round c question tomb now.0 (collect.removes due same) (subst (λ (r : Request). IsRoundAsk r.ask) now.1 round))
@@ -869,16 +899,17 @@ asks_collection {S} {V} m old new disks is by = by_case by.asks
 
     asked : (question : Question) (flow : FlowView) → IsQuestionOf c question → IsAged m.disks (kept_of by.desk.vault).age by.desk.vault
         → Sends old.flow exchange_place (questions_to (kept_of by.desk.vault).age tomb question (everyone old)) flow
-        → IsRemembered m (with_council (record old { flow = flow }) (record old.council { exchange = Some (new_exchange question tomb (everyone old) (length old.marks)) }))
+        → IsRemembered m (with_council (record old { flow = flow }) (record old.council { exchange = Some (new_exchange question tomb (everyone old) (length old.marks) None) }))
     asked question flow of aged sends = record {
       followed = same_course m old _ refl
-          (logged m is.followed.cluster after _ (counsels m is.followed.cluster after moved (record old.council { exchange = Some (new_exchange question tomb tos (length old.marks)) }) (
-            λ exchange open_. subst (IsExchangeTrue after.log) (some_is open_) (record {
+          (logged m is.followed.cluster after _ (counsels m is.followed.cluster after moved (record old.council { exchange = Some (new_exchange question tomb tos (length old.marks) None) }) (
+            λ exchange open_. subst (IsExchangeTrue is.followed.cluster after.log) (some_is open_) (record {
               own = subst (λ (b : Ballot). b.proposer ≡ 0) (sym same_tomb) sought.own;
               era = c.course.era.number;
               drawn = subst (λ (k : List ℕ). Stands (Drew tomb k c.course.era.number) after.log) (sym (question_key c question of))
                   (asked_later f tos global.log (subst (λ (b : Ballot). Stands (Drew b c.course.key c.course.era.number) global.log) (sym same_tomb) sought.drawn));
               told = λ place answer told at is_told. absurd (none_told tos place answer told at is_told);
+              read = λ key era asks reads. absurd (cc reads);
             }),
             then_.parties.council.1,
             then_.parties.council.2,
@@ -911,7 +942,9 @@ asks_collection {S} {V} m old new disks is by = by_case by.asks
         before = counsels m is.followed.cluster global old _ (whole.parties.council.0, whole.parties.council.1, whole.parties.council.2, tt) whole
 
         then_ : Whole m is.followed.cluster after apart
-        then_ = asks_each m is.followed.cluster global apart age tomb question tos by.desk by.may.caller by.may.at_desk by.may.at_caller by.may.idle aged (askable question age of) (λ to. tt) before
+        then_ =
+            asks_each m is.followed.cluster global apart age tomb question tos by.desk by.may.caller by.may.at_desk by.may.at_caller by.may.idle aged (askable question age of)
+            (λ to. (tt, subst (λ (o : Option ExchangeView). IsNoProbeIn o (f to)) (sym by.may.none_asked) tt)) before
 
         flows : ReFlows after.log old.flow flow
         flows = record {
@@ -977,7 +1010,8 @@ tells_ages (ask.Ages tag least) e = record { tag = tag; least = least; is = refl
 tells_ages question e = absurd (cc e)
 
 -- a member that told so answers no request that is older
-set_by : (cluster : Cluster) (log : List Happening) (c : CollectionView) (tomb : Ballot) (members : List ℕ) (question : Question) (acceptor : ℕ) → Orderly cluster log → IsCollectionTrue cluster log c → c.tombstone ≡ Acknowledged tomb members
+set_by : (cluster : Cluster) (log : List Happening) (c : CollectionView) (tomb : Ballot) (members : List ℕ) (question : Question) (acceptor : ℕ) → Orderly cluster log
+    → IsCollectionTrue cluster log c → c.tombstone ≡ Acknowledged tomb members
     → phase_for question ≡ phase.Ages → WasToldBy log tomb question acceptor tell.AgesSet → (p age : ℕ) → p ≤ 16 → IsAt c.ages p age → age ≤ age_told log acceptor p
 set_by cluster log c tomb members question acceptor orderly known same kind was p age low at =
     omega (arith, now, age_later log acceptor p was.made.replied.at, ap (λ (l : LeastAges). least_age l p) same_least, ages_at c.ages (replicate 17 0) 17 p age (omega (arith, low)) at)
@@ -998,7 +1032,8 @@ set_by cluster log c tomb members question acceptor orderly known same kind was 
     same_least = (known.told_alone tomb members was.made.request asks.least same (stands_deeper may.asked was.made.replied.at) (asks.is ∙ ap (λ (b : Ballot). ask.Ages b asks.least) is_tag)).1
 
     told : IsTold then_ was.made.request.to (ask.Ages asks.tag asks.least) tell.AgesSet
-    told = subst (λ (t : Tell). IsTold then_ was.made.request.to (ask.Ages asks.tag asks.least) t) was.same_tell (subst (λ (a : Ask). IsTold then_ was.made.request.to a was.reply.tell) asks.is may.told)
+    told =
+        subst (λ (t : Tell). IsTold then_ was.made.request.to (ask.Ages asks.tag asks.least) t) was.same_tell (subst (λ (a : Ask). IsTold then_ was.made.request.to a was.reply.tell) asks.is may.told)
 
     now : least_age asks.least p ≤ age_told then_ acceptor p
     now = subst (λ (a : ℕ). least_age asks.least p ≤ age_told then_ a p) (sym may.from ∙ was.same_from) (told p low)
@@ -1032,14 +1067,17 @@ gathers_collection {S} {V} m old new is by = by_case by.gathers
     asked_all_of acceptor member =
         let prep : List ℕ = (era_at old 0).prep in
         let acc : List ℕ = (era_at old 0).acc in
-        let accepts : has_member acc acceptor ≡ true = accepts_all m old is.followed by.is_renewed.none_planned acceptor (subst (λ (e : Era). has_member (is.followed.cluster.members e.number) acceptor ≡ true) by.is_renewed.same_era member) in
+        let accepts : has_member acc acceptor ≡ true =
+        accepts_all m old is.followed by.is_renewed.none_planned acceptor (subst (λ (e : Era). has_member (is.followed.cluster.members e.number) acceptor ≡ true) by.is_renewed.same_era member) in
         let low : acceptor < 64 = member_low acc acceptor (is.followed.logged.agrees.eras 0 (omega arith)).acc_set accepts in
-        subst (λ (l : List ℕ). has_member l acceptor ≡ true) (sym by.members) (has-members_where (λ n. has_member prep n || has_member acc n) acceptor low ∙ or_right (has_member prep acceptor) (has_member acc acceptor) accepts)
+        subst (λ (l : List ℕ). has_member l acceptor ≡ true) (sym by.members)
+        (has-members_where (λ n. has_member prep n || has_member acc n) acceptor low ∙ or_right (has_member prep acceptor) (has_member acc acceptor) accepts)
 
-    is_told : IsExchangeTrue log exchange
+    is_told : IsExchangeTrue is.followed.cluster log exchange
     is_told = is.followed.logged.agrees.council.0 exchange by.of_exchange.is_open
 
-    set_at : c.course.step ≡ Ages → exchange.question ≡ NewAges c.course.key (ages_of c.ages) → ((acceptor : ℕ) → has_member exchange.members acceptor ≡ true → has_member (confirmers_in exchange.question exchange.told) acceptor ≡ true)
+    set_at : c.course.step ≡ Ages → exchange.question ≡ NewAges c.course.key (ages_of c.ages)
+        → ((acceptor : ℕ) → has_member exchange.members acceptor ≡ true → has_member (confirmers_in exchange.question exchange.told) acceptor ≡ true)
         → (acceptor p age : ℕ) → has_member (is.followed.cluster.members c.course.era.number) acceptor ≡ true → IsAt c.ages p age → age ≤ age_told log acceptor p
     set_at due asks all acceptor p age member at =
         let confirmed = members_where_tells (λ a. confirms exchange.question (told_by exchange.told a)) acceptor (all acceptor (asked_all_of acceptor member)) in
@@ -1062,7 +1100,8 @@ gathers_collection {S} {V} m old new is by = by_case by.gathers
       renewed = renewed_same m old by.at.order None c (confirmed_at next removed kept) by.at.is_collection refl refl refl is.renewed;
     }
 
-    ages_told : (removed kept : ℕ) → c.course.step ≡ Ages → ((acceptor p age : ℕ) → has_member (is.followed.cluster.members c.course.era.number) acceptor ≡ true → IsAt c.ages p age → age ≤ age_told log acceptor p)
+    ages_told : (removed kept : ℕ) → c.course.step ≡ Ages
+        → ((acceptor p age : ℕ) → has_member (is.followed.cluster.members c.course.era.number) acceptor ≡ true → IsAt c.ages p age → age ≤ age_told log acceptor p)
         → IsCollectionTrue is.followed.cluster log (confirmed_at FloorStep removed kept)
     ages_told removed kept due told = record {
       tombstone = known.tombstone;
@@ -1089,13 +1128,16 @@ gathers_collection {S} {V} m old new is by = by_case by.gathers
       floor = λ past. known.floor (ap is_after_floor due);
     }
 
-    by_question : (removed kept : ℕ) → IsQuestionOf c exchange.question → ((acceptor : ℕ) → has_member exchange.members acceptor ≡ true → has_member (confirmers_in exchange.question exchange.told) acceptor ≡ true)
+    by_question : (removed kept : ℕ) → IsQuestionOf c exchange.question
+        → ((acceptor : ℕ) → has_member exchange.members acceptor ≡ true → has_member (confirmers_in exchange.question exchange.told) acceptor ≡ true)
         → IsRemembered m (with_council old (record (collecting old by.at.order None (record (confirmed_step c) { removed = removed; kept = kept })).council { exchange = None }))
     by_question removed kept (collect.tells_ages due asks) all =
-        subst (λ (s : CollectStep). IsRemembered m (with_council old (record (collecting old by.at.order None (confirmed_at s removed kept)).council { exchange = None }))) (sym (ap (step_after c.course.proposers) due))
+        subst (λ (s : CollectStep). IsRemembered m (with_council old (record (collecting old by.at.order None (confirmed_at s removed kept)).council { exchange = None })))
+        (sym (ap (step_after c.course.proposers) due))
         (confirmed_in FloorStep removed kept (ages_told removed kept due (set_at due asks all)))
     by_question removed kept (collect.removes due asks) all =
-        subst (λ (s : CollectStep). IsRemembered m (with_council old (record (collecting old by.at.order None (confirmed_at s removed kept)).council { exchange = None }))) (sym (ap (step_after c.course.proposers) due))
+        subst (λ (s : CollectStep). IsRemembered m (with_council old (record (collecting old by.at.order None (confirmed_at s removed kept)).council { exchange = None })))
+        (sym (ap (step_after c.course.proposers) due))
         (confirmed_in End removed kept (all_removed removed kept due))
 
     by_case : GathersCollect old by.at exchange new → IsRemembered m new

@@ -1,6 +1,6 @@
 -- A cluster stays on its course, whatever is called on it.
 use Rattle.std.proofs.Common.{◌≡◌, ℕ, List, [], ◌∷◌, ◌++◌, Option, None, Some, sym, ap, subst, ◌∙◌, inl, inr}
-use Rattle.std.specs.Prelude.{drop, option_map, Bool, true, false, if◌then◌else◌, slice_set}
+use Rattle.std.specs.Prelude.{drop, option_map, Bool, true, false, if◌then◌else◌, slice_set, reverse}
 use Rattle.cas_quorum.specs.declared.era.Era.{Era}
 use Rattle.cas_vault.specs.Vault.{kept_of}
 use Rattle.cas_record.specs.declared.answer.Answer.{Answer}
@@ -9,6 +9,7 @@ use Rattle.cas_record.specs.declared.answer.Cause.TheVariants as cause
 use Rattle.cas_record.specs.declared.mark.Mark.TheVariants.{EraEntered}
 use Rattle.cas_record.specs.declared.operator.Asked.{Asked}
 use Rattle.cas_record.specs.declared.operator.OpAnswer.{OpAnswer}
+use Rattle.cas_record.specs.declared.operator.OpAnswer.TheVariants.{Probed}
 use Rattle.cas_model.specs.Council.{MemberPlace, NextKeys, PlanView, Council, complete_only, without_partial}
 use Rattle.cas_model.specs.Eras.Course.{EraEntry, Course, course_of, entries_in, next_era, era_shown, IsCourse}
 use Rattle.cas_model.specs.Step as step
@@ -23,26 +24,30 @@ use Rattle.cas_model.specs.Eras.Step.{StepOpenPlan, OpensPlan, StepEnterEra, Ent
 use Rattle.cas_model.specs.Stops.Step.{closed_by, LeavesRound}
 use Rattle.cas_model.specs.View.{Meaning, View, era_at, with_desk}
 use Rattle.cas_model.proofs.Eras.Courses.{course, course_shown, course_opened, course_finished, course_entered, course_relisted, course_listed}
-use Rattle.cas_model.proofs.Eras.OnCourse.{Leads, on_course, left_course, down_course, told_course, end_course, entries_joined}
-use Rattle.cas_model.proofs.Eras.Plans.{planned_starts}
+use Rattle.cas_model.proofs.Eras.OnCourse.{Leads, on_course, left_course, down_course, told_course, end_course, entries_joined, quiet, read_quietly}
+use Rattle.cas_model.proofs.Eras.Plans.{planned_starts, planned_meets}
 
 -- ---- calls that lead on
 restart_on : {S V : Type 0} (m : Meaning S V) (old new : View S V) (id : ℕ) → StepRestartProposer m old id new → IsCourse (course_of old) → IsCourse (course_of new)
 restart_on {S} {V} m old new id (step.was_up_already desk at up view) was = subst IsCourse (sym (ap course_of view)) was
 restart_on {S} {V} m old new id (step.restarts desk now caller at at_c down by view) was = subst IsCourse (sym (ap course_of view)) (by_down now.down)
   where
-    by_down : (b : Bool) → IsCourse (course_of (record (with_desk old id now) { eras = if b then old.eras else slice_set old.eras id (era_shown old.council.plan (era_at old id) (kept_of now.vault).era) }))
+    by_down : (b : Bool)
+        → IsCourse (course_of (record (with_desk old id now) { eras = if b then old.eras else slice_set old.eras id (era_shown old.council.plan (era_at old id) (kept_of now.vault).era) }))
     by_down true = was
     by_down false = course_shown old.last_proposer old.eras old.council.plan (entries_in old.marks) id (kept_of now.vault).era was
 
-finish_on : {S V : Type 0} (old : View S V) (plan : PlanView) → old.council.plan ≡ Some plan → plan.progress.left ≡ [] → IsCourse (course_of old) → IsCourse (course_of (with_council old (record old.council { plan = None })))
-finish_on old plan is_plan none was = course_finished old.last_proposer old.eras (entries_in old.marks) plan none (subst (λ (p : Option PlanView). IsCourse (course old.last_proposer old.eras p (entries_in old.marks))) is_plan was)
+finish_on : {S V : Type 0} (old : View S V) (plan : PlanView) → old.council.plan ≡ Some plan → plan.progress.left ≡ [] → IsCourse (course_of old)
+    → IsCourse (course_of (with_council old (record old.council { plan = None })))
+finish_on old plan is_plan none was =
+    course_finished old.last_proposer old.eras (entries_in old.marks) plan none (subst (λ (p : Option PlanView). IsCourse (course old.last_proposer old.eras p (entries_in old.marks))) is_plan was)
 
 -- a listing that is not complete is dropped
 over_on : {S V : Type 0} (old : View S V) (asked : Asked) (answer : OpAnswer) → IsCourse (course_of old) → IsCourse (course_of (told_over old asked answer))
 over_on {S} {V} old asked answer was = subst IsCourse (sym (told_course old asked answer)) (by_plan old.council.plan was)
   where
-    by_plan : (plan : Option PlanView) → IsCourse (course old.last_proposer old.eras plan (entries_in old.marks)) → IsCourse (course old.last_proposer old.eras (option_map without_partial plan) (entries_in old.marks))
+    by_plan : (plan : Option PlanView) → IsCourse (course old.last_proposer old.eras plan (entries_in old.marks))
+        → IsCourse (course old.last_proposer old.eras (option_map without_partial plan) (entries_in old.marks))
     by_plan None was = was
     by_plan (Some plan) was = course_relisted old.last_proposer old.eras plan (entries_in old.marks) plan.rescanned (complete_only plan.listing) was
 
@@ -54,7 +59,8 @@ tell_on {S} {V} old new answer (told_by.finishes order is_open by view) was =
 
 -- ---- listings
 -- with another plan
-planned_on : {S V : Type 0} (old : View S V) (plan : PlanView) → old.council.plan ≡ Some plan → IsCourse (course_of old) → IsCourse (course old.last_proposer old.eras (Some plan) (entries_in old.marks))
+planned_on : {S V : Type 0} (old : View S V) (plan : PlanView) → old.council.plan ≡ Some plan → IsCourse (course_of old)
+    → IsCourse (course old.last_proposer old.eras (Some plan) (entries_in old.marks))
 planned_on old plan is was = subst (λ (p : Option PlanView). IsCourse (course old.last_proposer old.eras p (entries_in old.marks))) is was
 
 -- all are asked for their next keys
@@ -79,7 +85,9 @@ gather_on {S} {V} old new by was = in_case by.gathers
   where
     in_case : told_by.Gathers old by.at.exchange new → IsCourse (course_of new)
     in_case (told_by.crashed down view) = subst IsCourse (sym (ap course_of view)) was
-    in_case (told_by.probed key found up question keeps view) = subst IsCourse (sym (ap course_of view)) was
+    in_case (told_by.probed key found up question plain keeps view) = subst IsCourse (sym (ap course_of view)) was
+    in_case (told_by.read key era found marks up question reads keeps counts view) =
+        subst IsCourse (sym (ap course_of view ∙ quiet (told_by.gathered old (Probed key found)) marks (read_quietly era key by.at.exchange.told (reverse old.marks) marks counts))) was
     in_case (told_by.lists of listing up enough on view) =
         subst IsCourse (sym (ap course_of view)) (course_listed old.last_proposer old.eras of.plan (entries_in old.marks) listing of.settles (planned_on old of.plan of.is_plan was))
     in_case (told_by.is_short of short up missing view) = subst IsCourse (sym (ap course_of view)) was
@@ -115,16 +123,19 @@ open_on {S} {V} m old new by was = by_case by.opens
     by_case (plans.opens progress middle up none planned welcomes view) =
         let settled = subst (λ (p : Option PlanView). IsCourse (course old.last_proposer old.eras p (entries_in old.marks))) none was in
         let begins = planned_starts (era_at old 0) old.council.used by.order.asked progress settled.under_way.whole planned in
-        subst IsCourse (sym (ap course_of view ∙ ap (λ (c : Course). course c.last_proposer c.eras (Some (plans.new_plan by.order.asked progress)) c.entries) (welcome_course m old middle by.order.asked welcomes)))
-        (course_opened old.last_proposer old.eras (entries_in old.marks) by.order.asked progress begins.era begins.start begins.leads settled)
+        subst IsCourse
+        (sym (ap course_of view ∙ ap (λ (c : Course). course c.last_proposer c.eras (Some (plans.new_plan by.order.asked progress)) c.entries) (welcome_course m old middle by.order.asked welcomes)))
+        (course_opened old.last_proposer old.eras (entries_in old.marks) by.order.asked progress begins.era begins.start begins.leads (planned_meets (era_at old 0) old.council.used by.order.asked progress settled.under_way.whole planned) settled)
     by_case (plans.no_memory progress middle up none planned welcomes view) = subst IsCourse (sym (ap course_of view ∙ welcome_course m old middle by.order.asked welcomes)) was
 
 -- a proposer enters the next era
-pub enters_course : {S V : Type 0} (m : Meaning S V) (old middle : View S V) (plan : PlanView) (next : Era) → LeavesRound (EntersEra m.disks next) (closed_by (answer.Moved next.number) (cause.Moved next.number)) old plan.entered middle
+pub enters_course : {S V : Type 0} (m : Meaning S V) (old middle : View S V) (plan : PlanView) (next : Era)
+    → LeavesRound (EntersEra m.disks next) (closed_by (answer.Moved next.number) (cause.Moved next.number)) old plan.entered middle
     → course_of (entered_view middle plan next) ≡ course old.last_proposer (slice_set old.eras plan.entered next) (Some (plan_after old.last_proposer plan next)) (entries_in old.marks ++ record { proposer = plan.entered; era = next.number } ∷ [])
 enters_course {S} {V} m old middle plan next leaves =
     let same = left_course (EntersEra m.disks next) (closed_by (answer.Moved next.number) (cause.Moved next.number)) old middle plan.entered leaves in
-    ap (λ (l : List EraEntry). course middle.last_proposer (slice_set middle.eras plan.entered next) (Some (plan_after middle.last_proposer plan next)) l) (entries_joined middle.marks (EraEntered plan.entered next.number ∷ []))
+    ap (λ (l : List EraEntry). course middle.last_proposer (slice_set middle.eras plan.entered next) (Some (plan_after middle.last_proposer plan next)) l)
+    (entries_joined middle.marks (EraEntered plan.entered next.number ∷ []))
     ∙ ap (λ (c : Course). course c.last_proposer (slice_set c.eras plan.entered next) (Some (plan_after c.last_proposer plan next)) (c.entries ++ record { proposer = plan.entered; era = next.number } ∷ [])) same
 
 enter_on : {S V : Type 0} (m : Meaning S V) (old new : View S V) (id : ℕ) → StepEnterEra m old id new → IsCourse (course_of old) → IsCourse (course_of new)

@@ -9,12 +9,12 @@ use Rattle.cas_members.specs.declared.plan.PlanStep.TheVariants.{Settle, Enter, 
 use Rattle.cas_members.specs.Steps.{Progress}
 use Rattle.cas_quorum.specs.declared.era.Era.{Era}
 use Rattle.cas_members.specs.Plan.{eras_in, next_of}
-use Rattle.cas_quorum.specs.Era.{IsSized, majority_era}
+use Rattle.cas_quorum.specs.Era.{IsSized, Meet, NeighboursMeet, majority_era}
 use Rattle.cas_record.specs.declared.operator.Asked.{Asked}
 use Rattle.cas_round.proofs.Lists.{has, contains}
 use Rattle.cas_record.proofs.Tests.{nat_same, nat_is}
 use Rattle.cas_model.specs.Council.{ListingView, PlanView, stepped, with_listing}
-use Rattle.cas_model.specs.Eras.Course.{EraEntry, Course, IsAskedEra, last_era, entering, shown_era, era_shown, IsWhole, Follows, IsPath, IsStart, WorksIn, not_yet, entered, IsCourse}
+use Rattle.cas_model.specs.Eras.Course.{EraEntry, Course, IsAskedEra, last_era, entering, shown_era, era_shown, IsWhole, Follows, IsPath, IsStart, WorksIn, not_yet, entered, CourseIsUnderWay, IsCourse}
 use Rattle.cas_model.specs.Eras.Step.{new_plan, rest_of, plan_after}
 use Rattle.cas_model.specs.View.{era_in}
 use Rattle.cas_model.proofs.Places.{same_or_not, some_is, contains_none, contains_append, contains_front, contains_back}
@@ -57,11 +57,13 @@ leads era next (Finished ∷ left) is start = absurd (cc is)
 
 -- ---- sizes
 -- all eras are sized, also where one is put in a place
-sized_with : (last_proposer : ℕ) (eras : List Era) (id : ℕ) (era : Era) → length eras ≡ 17 → last_proposer ≤ 16 → (id ≤ last_proposer → IsSized era) → ((p : ℕ) → p ≤ last_proposer → IsSized (era_in eras p)) → (p : ℕ) → p ≤ last_proposer → IsSized (era_in (slice_set eras id era) p)
+sized_with : (last_proposer : ℕ) (eras : List Era) (id : ℕ) (era : Era) → length eras ≡ 17 → last_proposer ≤ 16 → (id ≤ last_proposer → IsSized era)
+    → ((p : ℕ) → p ≤ last_proposer → IsSized (era_in eras p)) → (p : ℕ) → p ≤ last_proposer → IsSized (era_in (slice_set eras id era) p)
 sized_with last_proposer eras id era places few is were p low = by_place (same_or_not p id)
   where
     by_place : (p ≡ id) ⊎ (p ≡ id → ⊥) → IsSized (era_in (slice_set eras id era) p)
-    by_place (inl same) = subst (λ (q : ℕ). IsSized (era_in (slice_set eras id era) q)) (sym same) (subst IsSized (sym (era_set eras id era (omega (arith, same, low, few, places)))) (is (omega (arith, same, low))))
+    by_place (inl same) =
+        subst (λ (q : ℕ). IsSized (era_in (slice_set eras id era) q)) (sym same) (subst IsSized (sym (era_set eras id era (omega (arith, same, low, few, places)))) (is (omega (arith, same, low))))
     by_place (inr other) = subst IsSized (sym (era_kept eras id p era other)) (were p low)
 
 -- ---- the opening
@@ -93,6 +95,7 @@ stays_on last_proposer eras plan entries id era works sized was = record {
   under_way = record {
     start = was.under_way.start;
     leads = was.under_way.leads;
+    meets = was.under_way.meets;
     some_left = was.under_way.some_left;
     none_entered = was.under_way.none_entered;
     each = λ p low. by_place p low (same_or_not p id);
@@ -108,7 +111,9 @@ stays_on last_proposer eras plan entries id era works sized was = record {
 pub course_shown : (last_proposer : ℕ) (eras : List Era) (plan : Option PlanView) (entries : List EraEntry) (id number : ℕ)
     → IsCourse (course last_proposer eras plan entries) → IsCourse (course last_proposer (slice_set eras id (era_shown plan (era_in eras id) number)) plan entries)
 course_shown last_proposer eras None entries id number was = subst (λ (l : List Era). IsCourse (course last_proposer l None entries)) (sym (set-get_or eras id (majority_era 0 []))) was
-course_shown last_proposer eras (Some plan) entries id number was = stays_on last_proposer eras plan entries id (era_shown (Some plan) (era_in eras id) number) (λ low. by_next low (entering plan.progress.left) refl) (λ low. sized_next low (entering plan.progress.left) refl) was
+course_shown last_proposer eras (Some plan) entries id number was =
+    stays_on last_proposer eras plan entries id (era_shown (Some plan) (era_in eras id) number) (λ low. by_next low (entering plan.progress.left) refl)
+    (λ low. sized_next low (entering plan.progress.left) refl) was
   where
     by_next : id ≤ last_proposer → (next : Option Era) → entering plan.progress.left ≡ next → WorksIn plan id (shown_era next (era_in eras id) number)
     by_next low None is = was.under_way.each id low
@@ -128,15 +133,16 @@ course_shown last_proposer eras (Some plan) entries id number was = stays_on las
 
 -- ---- a change of membership
 pub course_opened : (last_proposer : ℕ) (eras : List Era) (entries : List EraEntry) (asked : Asked) (progress : Progress) → progress.era ≡ era_in eras 0 → IsStart progress.era progress.left
-    → IsAskedEra asked (last_era progress.era (eras_in progress.left))
+    → IsAskedEra asked (last_era progress.era (eras_in progress.left)) → NeighboursMeet (progress.era ∷ eras_in progress.left)
     → IsCourse (course last_proposer eras None entries) → IsCourse (course last_proposer eras (Some (new_plan asked progress)) entries)
-course_opened last_proposer eras entries asked progress from start ends was = record {
+course_opened last_proposer eras entries asked progress from start ends meets was = record {
   few = was.few;
   places = was.places;
   sized = was.sized;
   under_way = record {
     start = start;
     leads = ends;
+    meets = meets;
     some_left = omega arith;
     none_entered = λ none. refl;
     each = λ id low. not_yet (omega arith) (was.under_way.same id low ∙ sym from);
@@ -149,7 +155,8 @@ course_opened last_proposer eras entries asked progress from start ends was = re
   };
 }
 
-pub course_finished : (last_proposer : ℕ) (eras : List Era) (entries : List EraEntry) (plan : PlanView) → plan.progress.left ≡ [] → IsCourse (course last_proposer eras (Some plan) entries) → IsCourse (course last_proposer eras None entries)
+pub course_finished : (last_proposer : ℕ) (eras : List Era) (entries : List EraEntry) (plan : PlanView) → plan.progress.left ≡ [] → IsCourse (course last_proposer eras (Some plan) entries)
+    → IsCourse (course last_proposer eras None entries)
 course_finished last_proposer eras entries plan none was = record {
   few = was.few;
   places = was.places;
@@ -204,6 +211,7 @@ one_entered last_proposer eras plan entries next is_next more was = record {
   under_way = record {
     start = was.under_way.start;
     leads = was.under_way.leads;
+    meets = was.under_way.meets;
     some_left = low;
     none_entered = λ none. absurd (cc (none, is_next));
     each = λ p at. by_place p (same_or_not p plan.entered) (λ other. was.under_way.each p at);
@@ -228,7 +236,8 @@ one_entered last_proposer eras plan entries next is_next more was = record {
     low : suc plan.entered ≤ last_proposer
     low = omega (arith, was.under_way.some_left, more)
 
-    by_place : (p : ℕ) → (p ≡ plan.entered) ⊎ (p ≡ plan.entered → ⊥) → ((p ≡ plan.entered → ⊥) → WorksIn plan p (era_in eras p)) → WorksIn (record plan { entered = suc plan.entered }) p (era_in (slice_set eras plan.entered next) p)
+    by_place : (p : ℕ) → (p ≡ plan.entered) ⊎ (p ≡ plan.entered → ⊥) → ((p ≡ plan.entered → ⊥) → WorksIn plan p (era_in eras p))
+        → WorksIn (record plan { entered = suc plan.entered }) p (era_in (slice_set eras plan.entered next) p)
     by_place p (inl same) old = entered (is_next ∙ ap (λ (e : Era). Some e) (sym (ap (λ (q : ℕ). era_in (slice_set eras plan.entered next) q) same ∙ era_set eras plan.entered next (omega (arith, was.few, was.places, was.under_way.some_left)))))
     by_place p (inr other) old = subst (WorksIn (record plan { entered = suc plan.entered }) p) (sym (era_kept eras plan.entered p next other)) (elim (old other) [
       | not_yet few is ↦ not_yet (omega (arith, few, other)) is
@@ -237,7 +246,9 @@ one_entered last_proposer eras plan entries next is_next more was = record {
 
     by_number : (id : ℕ) → (id ≡ plan.entered) ⊎ (id ≡ plan.entered → ⊥) → id < suc plan.entered
         → Contains (entries ++ record { proposer = plan.entered; era = next.number } ∷ []) (record { proposer = id; era = suc plan.progress.era.number })
-    by_number id (inl same) under = contains_back entries _ (the_entry (ap (λ (n : ℕ). record { proposer = n; era = suc plan.progress.era.number }) same ∙ ap (λ (n : ℕ). record { proposer = plan.entered; era = n }) (sym leading.follows.number)))
+    by_number id (inl same) under =
+        contains_back entries _
+        (the_entry (ap (λ (n : ℕ). record { proposer = n; era = suc plan.progress.era.number }) same ∙ ap (λ (n : ℕ). record { proposer = plan.entered; era = n }) (sym leading.follows.number)))
     by_number id (inr other) under = contains_front entries _ (was.entries.led id (omega (arith, under, other)))
 
 -- the change ends where it was to end
@@ -246,6 +257,13 @@ last_behind era next [] is = absurd (cc is)
 last_behind era next (Enter e ∷ left) is = ap (λ (from : Era). last_era from (eras_in left)) (some_is is)
 last_behind era next (Settle ∷ left) is = absurd (cc is)
 last_behind era next (Finished ∷ left) is = absurd (cc is)
+
+-- and the eras that are left meet
+meets_behind : (era next : Era) (left : List PlanStep) → entering left ≡ Some next → NeighboursMeet (era ∷ eras_in left) → NeighboursMeet (next ∷ eras_in (rest_of left))
+meets_behind era next [] is meets = absurd (cc is)
+meets_behind era next (Enter e ∷ left) is meets = subst (λ (from : Era). NeighboursMeet (from ∷ eras_in left)) (some_is is) meets.2
+meets_behind era next (Settle ∷ left) is meets = absurd (cc is)
+meets_behind era next (Finished ∷ left) is meets = absurd (cc is)
 
 -- where it is the last one, the era is the one that all entered last
 last_entered : (last_proposer : ℕ) (eras : List Era) (plan : PlanView) (entries : List EraEntry) (next : Era) → entering plan.progress.left ≡ Some next → plan.entered ≡ last_proposer
@@ -258,6 +276,7 @@ last_entered last_proposer eras plan entries next is_next last was = record {
   under_way = record {
     start = path_starts next (rest_of plan.progress.left) (omega (arith, leading.follows.number)) leading.path;
     leads = subst (IsAskedEra plan.asked) (last_behind plan.progress.era next plan.progress.left is_next) was.under_way.leads;
+    meets = meets_behind plan.progress.era next plan.progress.left is_next was.under_way.meets;
     some_left = omega arith;
     none_entered = λ none. refl;
     each = λ p at. not_yet (omega arith) (by_place p at (same_or_not p plan.entered));
@@ -287,11 +306,14 @@ last_entered last_proposer eras plan entries next is_next last was = record {
     by_place p at (inl same) = ap (λ (q : ℕ). era_in (slice_set eras plan.entered next) q) same ∙ era_set eras plan.entered next (omega (arith, was.few, was.places, was.under_way.some_left))
     by_place p at (inr other) = era_kept eras plan.entered p next other ∙ in_next p (era_in eras p) (omega (arith, at, other, last)) (was.under_way.each p at)
 
-    by_number : (id : ℕ) → id ≤ last_proposer → (id ≡ plan.entered) ⊎ (id ≡ plan.entered → ⊥) → Contains (entries ++ record { proposer = plan.entered; era = next.number } ∷ []) (record { proposer = id; era = next.number })
+    by_number : (id : ℕ) → id ≤ last_proposer → (id ≡ plan.entered) ⊎ (id ≡ plan.entered → ⊥)
+        → Contains (entries ++ record { proposer = plan.entered; era = next.number } ∷ []) (record { proposer = id; era = next.number })
     by_number id at (inl same) = contains_back entries _ (the_entry (ap (λ (n : ℕ). record { proposer = n; era = next.number }) same))
-    by_number id at (inr other) = contains_front entries _ (subst (λ (n : ℕ). Contains entries (record { proposer = id; era = n })) (sym leading.follows.number) (was.entries.led id (omega (arith, at, other, last))))
+    by_number id at (inr other) =
+        contains_front entries _ (subst (λ (n : ℕ). Contains entries (record { proposer = id; era = n })) (sym leading.follows.number) (was.entries.led id (omega (arith, at, other, last))))
 
-pub course_entered : (last_proposer : ℕ) (eras : List Era) (plan : PlanView) (entries : List EraEntry) (next : Era) → entering plan.progress.left ≡ Some next → IsCourse (course last_proposer eras (Some plan) entries)
+pub course_entered : (last_proposer : ℕ) (eras : List Era) (plan : PlanView) (entries : List EraEntry) (next : Era) → entering plan.progress.left ≡ Some next
+    → IsCourse (course last_proposer eras (Some plan) entries)
     → IsCourse (course last_proposer (slice_set eras plan.entered next) (Some (plan_after last_proposer plan next)) (entries ++ record { proposer = plan.entered; era = next.number } ∷ []))
 course_entered last_proposer eras plan entries next is_next was = by_number (plan.entered == last_proposer) refl
   where
@@ -301,6 +323,22 @@ course_entered last_proposer eras plan entries next is_next was = by_number (pla
         (entries ++ record { proposer = plan.entered; era = next.number } ∷ []))
     by_number true is = last_entered last_proposer eras plan entries next is_next (nat_same is) was
     by_number false is = one_entered last_proposer eras plan entries next is_next (λ same. not_both (plan.entered == last_proposer) (nat_is same) is) was
+
+-- ---- quorums meet
+meets_first : (era : Era) (later : List Era) → NeighboursMeet (era ∷ later) → Meet era era
+meets_first era [] meet = meet
+meets_first era (next ∷ later) meet = meet.0
+
+-- whatever era a proposer works in, its own quorums meet
+pub course_meets : (c : Course) (id : ℕ) → id ≤ c.last_proposer → IsCourse c → Meet (era_in c.eras id) (era_in c.eras id)
+course_meets c id low is = by_plan c.plan is.under_way
+  where
+    by_plan : (plan : Option PlanView) → CourseIsUnderWay c plan → Meet (era_in c.eras id) (era_in c.eras id)
+    by_plan None settled = subst (λ (e : Era). Meet e e) (sym (settled.same id low)) settled.whole.one_set.meets
+    by_plan (Some plan) moving = elim (moving.each id low) [
+      | not_yet few same ↦ subst (λ (e : Era). Meet e e) (sym same) (meets_first plan.progress.era (eras_in plan.progress.left) moving.meets)
+      | entered is_next ↦ meets_first (era_in c.eras id) (eras_in (rest_of plan.progress.left)) (meets_behind plan.progress.era (era_in c.eras id) plan.progress.left is_next moving.meets)
+    ]
 
 -- ---- an era is settled
 -- what is so where the first step is to settle the era
@@ -325,6 +363,13 @@ last_settled era (Settle ∷ left) is = refl
 last_settled era (Enter next ∷ left) is = absurd (cc is)
 last_settled era (Finished ∷ left) is = absurd (cc is)
 
+-- by the same eras
+eras_settled : (left : List PlanStep) → next_of left ≡ Settle → eras_in left ≡ eras_in (drop 1 left)
+eras_settled [] is = absurd (cc is)
+eras_settled (Settle ∷ left) is = refl
+eras_settled (Enter next ∷ left) is = absurd (cc is)
+eras_settled (Finished ∷ left) is = absurd (cc is)
+
 settled_start : (era : Era) (left : List PlanStep) → next_of left ≡ Settle → IsStart era left → (0 < era.number) × IsStart era (drop 1 left)
 settled_start era [] is start = absurd (cc is)
 settled_start era (Settle ∷ []) is start = absurd start
@@ -334,7 +379,8 @@ settled_start era (Settle ∷ Enter next ∷ left) is start = (start.0, (start.1
 settled_start era (Enter next ∷ left) is start = absurd (cc is)
 settled_start era (Finished ∷ left) is start = absurd (cc is)
 
-pub at_settle : (last_proposer : ℕ) (eras : List Era) (plan : PlanView) (entries : List EraEntry) → next_of plan.progress.left ≡ Settle → IsCourse (course last_proposer eras (Some plan) entries) → AtSettle last_proposer eras plan entries
+pub at_settle : (last_proposer : ℕ) (eras : List Era) (plan : PlanView) (entries : List EraEntry) → next_of plan.progress.left ≡ Settle → IsCourse (course last_proposer eras (Some plan) entries)
+    → AtSettle last_proposer eras plan entries
 at_settle last_proposer eras plan entries is was = record {
   positive = begins.0;
   none_entered = was.under_way.none_entered none;
@@ -354,7 +400,8 @@ at_settle last_proposer eras plan entries is was = record {
 
 -- ---- the plan goes on, and all else stays
 -- other keys are listed or proposed anew
-pub course_relisted : (last_proposer : ℕ) (eras : List Era) (plan : PlanView) (entries : List EraEntry) (count : ℕ) (listing : Option ListingView) → IsCourse (course last_proposer eras (Some plan) entries)
+pub course_relisted : (last_proposer : ℕ) (eras : List Era) (plan : PlanView) (entries : List EraEntry) (count : ℕ) (listing : Option ListingView)
+    → IsCourse (course last_proposer eras (Some plan) entries)
     → IsCourse (course last_proposer eras (Some (record plan { rescanned = count; listing = listing })) entries)
 course_relisted last_proposer eras plan entries count listing was = record {
   few = was.few;
@@ -363,6 +410,7 @@ course_relisted last_proposer eras plan entries count listing was = record {
   under_way = record {
     start = was.under_way.start;
     leads = was.under_way.leads;
+    meets = was.under_way.meets;
     some_left = was.under_way.some_left;
     none_entered = was.under_way.none_entered;
     each = λ id low. elim (was.under_way.each id low) [
@@ -385,6 +433,7 @@ course_stepped last_proposer eras plan entries is was =
       under_way = record {
         start = at.start;
         leads = subst (IsAskedEra plan.asked) (last_settled plan.progress.era plan.progress.left is) was.under_way.leads;
+        meets = subst (λ (l : List Era). NeighboursMeet (plan.progress.era ∷ l)) (eras_settled plan.progress.left is) was.under_way.meets;
         some_left = was.under_way.some_left;
         none_entered = λ none. at.none_entered;
         each = λ id low. not_yet (omega (arith, at.none_entered)) (at.in_base id low);
@@ -392,7 +441,8 @@ course_stepped last_proposer eras plan entries is was =
       entries = record { all = was.entries.all; led = was.entries.led; none_beyond = was.entries.none_beyond; counted = was.entries.counted };
     }
 
-pub course_listed : (last_proposer : ℕ) (eras : List Era) (plan : PlanView) (entries : List EraEntry) (listing : ListingView) → next_of plan.progress.left ≡ Settle → IsCourse (course last_proposer eras (Some plan) entries)
+pub course_listed : (last_proposer : ℕ) (eras : List Era) (plan : PlanView) (entries : List EraEntry) (listing : ListingView) → next_of plan.progress.left ≡ Settle
+    → IsCourse (course last_proposer eras (Some plan) entries)
     → IsCourse (course last_proposer eras (Some (with_listing plan listing)) entries)
 course_listed last_proposer eras plan entries listing is was = by_test (listing.complete && (length listing.keys == 0))
   where

@@ -231,7 +231,8 @@ gather_in {S} {V} m of old new by was = in_case by.gathers
   where
     in_case : council.Gathers old by.at.exchange new → AreIn m of new.desks
     in_case (council.crashed down is) = none_changed m of (ap (λ (w : View S V). w.desks) is) was
-    in_case (council.probed key found up question keeps is) = none_changed m of (ap (λ (w : View S V). w.desks) is) was
+    in_case (council.probed key found up question plain keeps is) = none_changed m of (ap (λ (w : View S V). w.desks) is) was
+    in_case (council.read key era found marks up question reads keeps counts is) = none_changed m of (ap (λ (w : View S V). w.desks) is) was
     in_case (council.lists lists_for listing up enough on is) = none_changed m of (ap (λ (w : View S V). w.desks) is) was
     in_case (council.is_short lists_for short up missing is) = none_changed m of (ap (λ (w : View S V). w.desks) is) was
     in_case (council.no_memory up is) = none_changed m of (ap (λ (w : View S V). w.desks) is) was

@@ -1,7 +1,7 @@
 -- What calls leave the course of a cluster as it was: all but the restart of a proposer, and those by which the operator changes its
 -- members and has keys listed and proposed anew.
 use Rattle.std.proofs.Common.{◌≡◌, ℕ, List, [], ◌∷◌, ◌++◌, Option, refl, ap, ◌∙◌, inl, inr}
-use Rattle.std.specs.Prelude.{option_map, ⊤, ◌⊎◌, suc, Bool, true, false, if◌then◌else◌}
+use Rattle.std.specs.Prelude.{option_map, ⊤, ◌⊎◌, suc, Bool, true, false, if◌then◌else◌, map}
 use Rattle.cas_ballot.specs.Members.{has_member}
 use Rattle.cas_change.specs.declared.program.Clause.{Clause}
 use Rattle.cas_change.specs.declared.state.State.TheVariants.{Empty}
@@ -37,10 +37,14 @@ use Rattle.cas_model.specs.Exchanges.Step as council
 use Rattle.cas_model.specs.Exchanges.Step.{StepAskAll, StepTurnExchange}
 use Rattle.cas_model.specs.Calls.Desks.{Crashes, Renews, FailsToRenew}
 use Rattle.cas_model.specs.Frames.Step as frames
+use Rattle.cas_model.specs.Exchanges.Read.{holders_of, MarksRead, counted, nothing}
 use Rattle.cas_model.specs.Stops.Step as stops
 use Rattle.cas_model.specs.Stops.Step.{OpenCallAt, LeavesRound, GoesDown, closed_by, closed_by_crash}
 use Rattle.cas_model.specs.View.{Meaning, View, CallView, with_marks}
 use Rattle.cas_model.proofs.Eras.Rescanning.{undone_plan, refused_undone}
+use Rattle.cas_quorum.specs.declared.era.Era.{Era}
+use Rattle.cas_record.specs.declared.operator.Probe.{Probe as Answered}
+use Rattle.cas_ballot.specs.declared.ballot.Ballot.{Ballot}
 
 -- ---- marks that tell of no era
 pub entries_joined : (marks more : List Mark) → entries_in (marks ++ more) ≡ entries_in marks ++ entries_in more
@@ -70,6 +74,14 @@ no_harms false caller call down = refl
 no_votes : (acceptor : ℕ) (question : Ask) (answer : Tell) → entries_in (marks_of (votes_of acceptor question answer)) ≡ []
 no_votes acceptor (ask.Accept key ballot era ride state) tell.Accepted = refl
 no_votes acceptor question answer = refl
+
+no_holders : (key : List ℕ) (ballot : Ballot) (by : List ℕ) (more : List Mark) → entries_in (map (λ acceptor. Voted acceptor key ballot) by ++ more) ≡ entries_in more
+no_holders key ballot [] more = refl
+no_holders key ballot (one ∷ by) more = no_holders key ballot by more
+
+pub read_quietly : (era : Era) (key : List ℕ) (found : List Answered) (older marks : List Mark) → MarksRead era key found older marks → entries_in marks ≡ []
+read_quietly era key found older marks (counted accepted agree above is) = ap entries_in is ∙ no_holders key accepted.ballot (holders_of accepted.ballot found) _
+read_quietly era key found older marks (nothing none is) = ap entries_in is
 
 -- ---- calls
 begin_course : {S V : Type 0} (m : Meaning S V) (old new : View S V) (id : ℕ) (key : List ℕ) (program : List Clause) → StepBegin m old id key program new → course_of new ≡ course_of old

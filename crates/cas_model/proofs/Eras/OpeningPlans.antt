@@ -27,7 +27,7 @@ use Rattle.cas_model.proofs.Eras.Courses.{course, course_opened}
 use Rattle.cas_model.proofs.Frames.Harms.{member_low}
 use Rattle.cas_model.proofs.Eras.Plans.{Begins, planned_starts, planned_meets, start_next, IsMemberOfOne, IsMemberThen, already, joins, planned_members}
 use Rattle.cas_model.proofs.Eras.Steps.{entry_there}
-use Rattle.cas_model.proofs.Eras.Wider.{IsAhead, wider_logged}
+use Rattle.cas_model.proofs.Eras.Wider.{IsAhead, wider_exchange, wider_logged}
 use Rattle.cas_model.proofs.Eras.Widening.{IsWidening, widens}
 
 -- with no change under way all proposers work in the last era of the cluster
@@ -40,7 +40,8 @@ used_set (Join id) used set = IsMemberSet-members_where (λ n. n == id || has_me
 used_set other used set = set
 
 used_still : (asked : Asked) (used : List ℕ) (acceptor : ℕ) → IsMemberSet used → has_member used acceptor ≡ true → has_member (used_with asked used) acceptor ≡ true
-used_still (Join id) used acceptor set member = has-members_where (λ n. n == id || has_member used n) acceptor (member_low used acceptor set member) ∙ or_right (acceptor == id) (has_member used acceptor) member
+used_still (Join id) used acceptor set member =
+    has-members_where (λ n. n == id || has_member used n) acceptor (member_low used acceptor set member) ∙ or_right (acceptor == id) (has_member used acceptor) member
 used_still other used acceptor set member = member
 
 joined_used : (asked : Asked) (used : List ℕ) (acceptor : ℕ) → acceptor < 64 → asked ≡ Join acceptor → has_member (used_with asked used) acceptor ≡ true
@@ -48,18 +49,21 @@ joined_used asked used acceptor small is = subst (λ (a : Asked). has_member (us
     (has-members_where (λ n. n == acceptor || has_member used n) acceptor small ∙ or_left (acceptor == acceptor) (has_member used acceptor) (nat_is {a = acceptor} refl))
 
 pub plan_opened : {S V : Type 0} (m : Meaning S V) (old : View S V) (asked : Asked) (progress : Progress) (next : Council)
-    → next.exchange ≡ old.council.exchange → next.plan ≡ Some (new_plan asked progress) → next.used ≡ used_with asked old.council.used → next.collection ≡ None → old.council.plan ≡ None → IsPlanned (era_at old 0) old.council.used asked (Ok progress)
+    → next.exchange ≡ old.council.exchange → next.plan ≡ Some (new_plan asked progress) → next.used ≡ used_with asked old.council.used → next.collection ≡ None → old.council.plan ≡ None
+    → IsPlanned (era_at old 0) old.council.used asked (Ok progress)
     → IsFollowed m old → IsFollowed m (record old { council = next })
 plan_opened {S} {V} m old asked progress next same_exchange is_plan is_used none_collected none planned is = record {
   cluster = wider;
   logged = wider_logged m is.cluster wider progress.era later old next more low is.logged ahead (
-    λ exchange some. is.logged.agrees.council.0 exchange (sym same_exchange ∙ some),
+    λ exchange some. wider_exchange is.cluster wider progress.era later is.logged.global.log used exchange more ahead are is.logged.history.orderly (is.logged.agrees.council.0 exchange (sym same_exchange ∙ some)),
     subst (IsPlanTrue wider is.logged.global.log) (sym is_plan) (record { settled = λ era enters. inl (begins.first era enters); listing = λ listing none. absurd (cc none) }),
     subst (AreUsed wider) (sym is_used) used_then,
     subst (IsCollectingTrue wider is.logged.global.log) (sym none_collected) tt,
   );
   course = subst (λ (plan : Option PlanView). IsCourseOf wider (course old.last_proposer old.eras plan (entries_in old.marks))) (sym is_plan) (record {
-    is_course = course_opened old.last_proposer old.eras (entries_in old.marks) asked progress begins.era begins.start begins.leads on.is_course;
+    is_course =
+        course_opened old.last_proposer old.eras (entries_in old.marks) asked progress begins.era begins.start begins.leads
+        (planned_meets (era_at old 0) old.council.used asked progress settled.whole planned) on.is_course;
     later = more.has;
     none_beyond = more.none_beyond;
   });
@@ -88,7 +92,9 @@ plan_opened {S} {V} m old asked progress next same_exchange is_plan is_used none
     none_beyond number far = on.none_beyond number (omega (arith, far, ap (λ (e : Era). e.number) begins.era))
 
     widening : (wider : Cluster) × IsWidening is.cluster wider progress.era later
-    widening = widens is.cluster progress.era later is.logged.meets is_era none_beyond (start_next progress.era progress.left begins.start) (planned_meets (era_at old 0) used asked progress settled.whole planned)
+    widening =
+        widens is.cluster progress.era later is.logged.meets is_era none_beyond (start_next progress.era progress.left begins.start)
+        (planned_meets (era_at old 0) used asked progress settled.whole planned)
 
     wider : Cluster
     wider = widening.0

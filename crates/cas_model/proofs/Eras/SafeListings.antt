@@ -148,15 +148,15 @@ enters_safe under_way open_ last_proposer plan next is_plan is_next listings was
 
 -- ---- next keys are asked for
 -- the tag fits, and the listing that has it is as it is to be
-pub asked_safe : {V : Type 0} (m : DiskMeaning V) (members tos : List ℕ) (since : ℕ) (council : Council) (call : Option CallView) (asked : Asked) (question : Question) (desk now : DeskView V) (tag : Ballot) → IsForQuestion members council call asked question
-    → HasTag m (listing_for council question) desk now tag → IsCouncilSafe council → FitsBallot tag × IsCouncilSafe (record council { exchange = Some (new_exchange question tag tos since); plan = plan_asked question tag council.plan })
-asked_safe m members tos since council call asked (Probe key) desk now tag is_for drawn was = (drawn.fits, (was.0, λ exchange places is asks. absurd (cc (asks, ap (λ (e : ExchangeView). e.question) (some_is is)))))
-asked_safe m members tos since council call asked (NewAges key least) desk now tag is_for drawn was = absurd is_for
-asked_safe m members tos since council call asked (Removal key) desk now tag is_for drawn was = absurd is_for
-asked_safe {V} m members tos since council call asked (NextKeys places) desk now tag (none_open, due) has_tag was = subst Fits (sym due.is_plan) (by_listing due.plan.listing refl (subst (λ (o : Option PlanView). HasTag m (listing_in o) desk now tag) due.is_plan has_tag))
+pub asked_safe : {V : Type 0} (m : DiskMeaning V) (members tos : List ℕ) (since : ℕ) (reads : Option Era) (council : Council) (call : Option CallView) (asked : Asked) (question : Question) (desk now : DeskView V) (tag : Ballot) → IsForQuestion members council call asked question
+    → HasTag m (listing_for council question) desk now tag → IsCouncilSafe council → FitsBallot tag × IsCouncilSafe (record council { exchange = Some (new_exchange question tag tos since reads); plan = plan_asked question tag council.plan })
+asked_safe m members tos since reads council call asked (Probe key) desk now tag is_for drawn was = (drawn.fits, (was.0, λ exchange places is asks. absurd (cc (asks, ap (λ (e : ExchangeView). e.question) (some_is is)))))
+asked_safe m members tos since reads council call asked (NewAges key least) desk now tag is_for drawn was = absurd is_for
+asked_safe m members tos since reads council call asked (Removal key) desk now tag is_for drawn was = absurd is_for
+asked_safe {V} m members tos since reads council call asked (NextKeys places) desk now tag (none_open, due) has_tag was = subst Fits (sym due.is_plan) (by_listing due.plan.listing refl (subst (λ (o : Option PlanView). HasTag m (listing_in o) desk now tag) due.is_plan has_tag))
   where
     exchange : ExchangeView
-    exchange = new_exchange (NextKeys places) tag tos since
+    exchange = new_exchange (NextKeys places) tag tos since reads
 
     Fits : Option PlanView → Type 0
     Fits under_way = FitsBallot tag × (AreListingsSafe (option_map (listing_begun places tag) under_way) × IsAskingOf (option_map (listing_begun places tag) under_way) (Some exchange))

@@ -17,19 +17,20 @@ use Rattle.cas_record.specs.Logs.Happening.{Happening, Asked, marks_of}
 use Rattle.cas_record.specs.Logs.Lawful.{Cluster, IsWidened, AllEntered}
 use Rattle.cas_record.specs.Laws.{HistoryIsOpened}
 use Rattle.cas_record.specs.Logs.Orderly.{Orderly, MayAskFor, IsAgedOut, IsClear, IsRoundAsk, age_told, never_asked}
-use Rattle.cas_record.specs.Places.{Stands}
+use Rattle.cas_record.specs.Places.{Stands, IsOlderPart}
 use Rattle.cas_record.proofs.Logs.Clusters.{lawful_more, orderly_more}
-use Rattle.cas_record.proofs.Logs.Orders.{reason, round_asked}
-use Rattle.cas_record.proofs.PlaceLemmas.{stands_deeper}
-use Rattle.cas_model.specs.Council.{Council}
+use Rattle.cas_record.proofs.Logs.Orders.{reason, round_asked, orderly_older}
+use Rattle.cas_record.proofs.PlaceLemmas.{stands_deeper, stands_part, part_at}
+use Rattle.cas_model.specs.Council.{Council, ExchangeView}
 use Rattle.cas_model.specs.History.{AgreesWith, IsLogged}
 use Rattle.cas_model.specs.Eras.Listed.{AreUsed, IsCouncilTrue}
-use Rattle.cas_model.specs.Parties.{IsHeldReady, IsOpenTrue, IsDeskTrue}
+use Rattle.cas_model.specs.Parties.{IsHeldReady, IsOpenTrue, IsDeskTrue, IsExchangeTrue}
 use Rattle.cas_protocol.specs.Protocol.{Made, GlobalState, IsFloorClear, HasHistory}
 use Rattle.cas_model.specs.Exchanges.Step.{with_council}
 use Rattle.cas_model.specs.View.{Meaning, View, CallerView, era_at}
 use Rattle.cas_model.proofs.Eras.Plans.{IsMemberOfOne}
 use Rattle.cas_model.proofs.Eras.Widening.{IsWidening}
+use Rattle.cas_record.proofs.Logs.Listings.{marks_part}
 
 -- ---- floors
 -- all are in no era beyond the base, and who becomes a member was one in the base or was never used
@@ -38,7 +39,8 @@ pub record IsAhead (cluster : Cluster) (log : List Happening) (base : Era) (late
   pub joins : (acceptor : ℕ) → IsMemberOfOne later acceptor → (has_member (cluster.members base.number) acceptor ≡ true) ⊎ (has_member used acceptor ≡ false)
 
 -- who was never used was asked for no ballot
-unused_clear : (cluster : Cluster) (log : List Happening) (used : List ℕ) (acceptor : ℕ) (key : List ℕ) (floor : Ballot) → Orderly cluster log → AreUsed cluster used → has_member used acceptor ≡ false → IsClear log acceptor key floor
+unused_clear : (cluster : Cluster) (log : List Happening) (used : List ℕ) (acceptor : ℕ) (key : List ℕ) (floor : Ballot) → Orderly cluster log → AreUsed cluster used
+    → has_member used acceptor ≡ false → IsClear log acceptor key floor
 unused_clear cluster log used acceptor key floor orderly are unused =
     never_asked (λ request asked to round same. absurd (unasked request asked to round)) (λ ballot ride took. elim (reason cluster orderly took.at) [
       | inl by ↦ absurd (unasked by.request (stands_deeper by.was_asked.asked took.at) by.was_asked.to (subst IsRoundAsk (sym by.is) tt))
@@ -50,7 +52,8 @@ unused_clear cluster log used acceptor key floor orderly are unused =
         let may : MayAskFor cluster asked.older request (key_of request.ask) (tag_of request.ask) = round_asked cluster asked.older request request.ask round (reason cluster orderly asked.at) in
         not_both (has_member used acceptor) (subst (λ (a : ℕ). has_member used a ≡ true) to (are.members may.era request.to may.member)) unused
 
-unused_aged : (cluster : Cluster) (log : List Happening) (used : List ℕ) (acceptor : ℕ) (key : List ℕ) (floor : Ballot) → Orderly cluster log → AreUsed cluster used → has_member used acceptor ≡ false → IsAgedOut log acceptor key floor
+unused_aged : (cluster : Cluster) (log : List Happening) (used : List ℕ) (acceptor : ℕ) (key : List ℕ) (floor : Ballot) → Orderly cluster log → AreUsed cluster used
+    → has_member used acceptor ≡ false → IsAgedOut log acceptor key floor
 unused_aged cluster log used acceptor key floor orderly are unused = record { aged = λ request asked to round same low. none request asked to round }
   where
     none : (request : Request) → Stands (Asked request) log → request.to ≡ acceptor → IsRoundAsk request.ask → request.age < age_told log acceptor request.from
@@ -58,7 +61,8 @@ unused_aged cluster log used acceptor key floor orderly are unused = record { ag
         let may : MayAskFor cluster asked.older request (key_of request.ask) (tag_of request.ask) = round_asked cluster asked.older request request.ask round (reason cluster orderly asked.at) in
         absurd (not_both (has_member used acceptor) (subst (λ (a : ℕ). has_member used a ≡ true) to (are.members may.era request.to may.member)) unused)
 
-wider_clear : (cluster wider : Cluster) (base : Era) (later : List Era) (log : List Happening) (used : List ℕ) (key : List ℕ) (floor : Ballot) → IsWidening cluster wider base later → IsAhead cluster log base later used → AreUsed cluster used → Orderly cluster log
+wider_clear : (cluster wider : Cluster) (base : Era) (later : List Era) (log : List Happening) (used : List ℕ) (key : List ℕ) (floor : Ballot) → IsWidening cluster wider base later
+    → IsAhead cluster log base later used → AreUsed cluster used → Orderly cluster log
     → IsFloorClear cluster log key floor → IsFloorClear wider log key floor
 wider_clear cluster wider base later log used key floor more ahead are orderly was = record {
   era = was.era;
@@ -97,7 +101,8 @@ wider_opened w was = record {
   took = was.took;
 }
 
-wider_history : (cluster wider : Cluster) (base : Era) (later : List Era) (global : GlobalState) (used : List ℕ) → IsWidening cluster wider base later → IsAhead cluster global.log base later used → AreUsed cluster used
+wider_history : (cluster wider : Cluster) (base : Era) (later : List Era) (global : GlobalState) (used : List ℕ) → IsWidening cluster wider base later → IsAhead cluster global.log base later used
+    → AreUsed cluster used
     → HasHistory cluster global → HasHistory wider global
 wider_history cluster wider base later global used more ahead are was = record {
   lawful = lawful_more more.widened global.log was.lawful;
@@ -112,6 +117,36 @@ wider_history cluster wider base later global used more ahead are was = record {
     made = was.knows.made;
     floors = λ key floor has. elim (was.knows.floors key floor has) [ inl empty ↦ inl empty | inr opened ↦ inr (wider_opened more.widened opened) ];
     clear = λ key floor has. wider_clear cluster wider base later global.log used key floor more ahead are was.orderly (was.knows.clear key floor has);
+  };
+}
+
+-- ---- the exchange
+-- as the log was at an earlier time
+ahead_before : (cluster : Cluster) (log older : List Happening) (base : Era) (later : List Era) (used : List ℕ) → IsOlderPart older log → IsAhead cluster log base later used
+    → IsAhead cluster older base later used
+ahead_before cluster log older base later used part ahead = record { all_in = λ era entered. ahead.all_in era (λ proposer known. stands_part (entered proposer known) (marks_part part)); joins = ahead.joins }
+
+-- what a read knows of its floors and its quorums stays
+pub wider_exchange : (cluster wider : Cluster) (base : Era) (later : List Era) (log : List Happening) (used : List ℕ) (exchange : ExchangeView) → IsWidening cluster wider base later
+    → IsAhead cluster log base later used → AreUsed cluster used → Orderly cluster log
+    → IsExchangeTrue cluster log exchange → IsExchangeTrue wider log exchange
+wider_exchange cluster wider base later log used exchange more ahead are orderly was = record {
+  own = was.own;
+  era = was.era;
+  drawn = was.drawn;
+  told = was.told;
+  read = λ key era asks reads. let had = was.read key era asks reads in record {
+    older = had.older;
+    drawn = had.drawn;
+    behind = had.behind;
+    not_beyond = had.not_beyond;
+    floors = record {
+      empty = λ floor has. elim (had.floors.empty floor has) [ inl empty ↦ inl empty | inr opened ↦ inr (wider_opened more.widened opened) ];
+      clear = λ floor has. wider_clear cluster wider base later had.older used key floor more (ahead_before cluster log had.older base later used (part_at had.drawn) ahead) are (orderly_older cluster orderly had.drawn) (had.floors.clear floor has);
+    };
+    alone = had.alone;
+    prepares = λ by holds. more.widened.prepares era.number by (had.prepares by holds);
+    accepts = λ by holds. more.widened.accepts era.number by (had.accepts by holds);
   };
 }
 
@@ -160,8 +195,10 @@ wider_desk m cluster wider base later log all era id caller waiting desk more lo
 
 -- ---- the whole
 -- with what the operator has under way then
-wider_agrees : {S V : Type 0} (m : Meaning S V) (cluster wider : Cluster) (base : Era) (later : List Era) (global : GlobalState) (view : View S V) (next : Council) → IsWidening cluster wider base later
-    → ((id : ℕ) → id ≤ view.last_proposer → (era_at view id).number ≤ base.number) → IsCouncilTrue wider global.log next → AgreesWith m cluster global view → AgreesWith m wider global (with_council view next)
+wider_agrees : {S V : Type 0} (m : Meaning S V) (cluster wider : Cluster) (base : Era) (later : List Era) (global : GlobalState) (view : View S V) (next : Council)
+    → IsWidening cluster wider base later
+    → ((id : ℕ) → id ≤ view.last_proposer → (era_at view id).number ≤ base.number) → IsCouncilTrue wider global.log next → AgreesWith m cluster global view
+    → AgreesWith m wider global (with_council view next)
 wider_agrees m cluster wider base later global view next more low council was = record {
   marks = was.marks;
   last_proposer = more.widened.last_proposer ∙ was.last_proposer;
@@ -170,7 +207,8 @@ wider_agrees m cluster wider base later global view next more low council was = 
   acceptors = was.acceptors;
   desks = λ id desk caller at_desk at_caller.
       let of = was.desks id desk caller at_desk at_caller in
-      wider_desk m cluster wider base later global.log global.made (era_at view id).number id caller (queue_at view.flow id).messages desk more (low id (omega (arith, of.known, was.last_proposer))) of;
+      wider_desk m cluster wider base later global.log global.made (era_at view id).number id caller (queue_at view.flow id).messages desk more
+      (low id (omega (arith, of.known, was.last_proposer))) of;
   callers = was.callers;
   council = council;
   own = was.own;
@@ -178,7 +216,8 @@ wider_agrees m cluster wider base later global view next more low council was = 
 }
 
 pub wider_logged : {S V : Type 0} (m : Meaning S V) (cluster wider : Cluster) (base : Era) (later : List Era) (view : View S V) (next : Council) → IsWidening cluster wider base later
-    → ((id : ℕ) → id ≤ view.last_proposer → (era_at view id).number ≤ base.number) → (is : IsLogged m cluster view) → IsAhead cluster is.global.log base later view.council.used → IsCouncilTrue wider is.global.log next → IsLogged m wider (with_council view next)
+    → ((id : ℕ) → id ≤ view.last_proposer → (era_at view id).number ≤ base.number) → (is : IsLogged m cluster view) → IsAhead cluster is.global.log base later view.council.used
+    → IsCouncilTrue wider is.global.log next → IsLogged m wider (with_council view next)
 wider_logged m cluster wider base later view next more low is ahead council = record {
   meets = more.meets;
   global = is.global;

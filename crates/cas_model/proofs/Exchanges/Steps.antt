@@ -3,6 +3,7 @@
 use Rattle.std.proofs.Common.{◌≡◌, ◌<◌, ℕ, suc, Bool, true, false, List, [], ◌∷◌, ◌++◌, length, Option, None, Some, reverse, refl, sym, ap, subst, ◌∙◌, inl, inr, arith}
 use Rattle.std.specs.Prelude.{⊤, ◌⊎◌, ◌||◌, ◌&&◌, ◌==◌, not, if◌then◌else◌, zero, map, position, option_map, slice_get, slice_set}
 use Rattle.std.specs.Option.{option_map_or}
+use Rattle.std.proofs.lemmas.List.{length-reverse}
 use Rattle.cas_base.proofs.Bools.{or_cases, and_left, if_true, if_false}
 use Rattle.cas_ballot.specs.declared.ballot.Ballot.{Ballot}
 use Rattle.cas_ballot.specs.Members.{members_where, has_member, union_of}
@@ -31,10 +32,10 @@ use Rattle.cas_record.specs.declared.mark.Mark.TheVariants.{Told, Harmed}
 use Rattle.cas_record.specs.declared.operator.Asked.{Asked as OperatorAsked}
 use Rattle.cas_record.specs.declared.operator.OpAnswer.{OpAnswer}
 use Rattle.cas_record.specs.declared.operator.OpAnswer.TheVariants as told
-use Rattle.cas_record.specs.Logs.Happening.{Happening, Marked, Asked, Drew, marks_of}
+use Rattle.cas_record.specs.Logs.Happening.{Happening, Marked, Asked, Drew, Entered, marks_of}
 use Rattle.cas_record.specs.Logs.Lawful.{Cluster, AllEntered}
 use Rattle.cas_record.specs.Legal.{IsProposed, IsEnded}
-use Rattle.cas_record.specs.Logs.Orderly.{IsRoundAsk}
+use Rattle.cas_record.specs.Logs.Orderly.{Orderly, IsRoundAsk}
 use Rattle.cas_record.specs.Places.{Stands, here}
 use Rattle.cas_slot.specs.declared.ages.Ages.{Ages}
 use Rattle.cas_fate.specs.declared.fate.Verdict.{Verdict}
@@ -43,19 +44,20 @@ use Rattle.cas_model.specs.Calls.Step.{Sends}
 use Rattle.cas_model.specs.Frames.Step.{replied_flow, votes_marked}
 use Rattle.cas_model.proofs.Frames.Acceptors.{answered_global, answers, reply_made, stops_within}
 use Rattle.cas_model.proofs.Frames.Harms.{member_low, has_member_of}
-use Rattle.cas_protocol.specs.Acceptors.{IsElsewhere}
 use Rattle.cas_model.specs.Council.{Place, GoesOn, MemberPlace, ListingView, place_in, has_ended, Question, Probe, NextKeys, NewAges, Removal, tag_key, ask_of, IsReplyTo, ExchangeView, PlanView, Council, with_listing, complete_only, without_partial, at_rest, exchange_place, telling, broken_off, crashed_in}
-use Rattle.cas_model.specs.Collection.Logged.{AsksAboveFor, IsCollectingTrue}
+use Rattle.cas_model.specs.Collection.Logged.{IsCollectingTrue}
 use Rattle.cas_model.specs.Eras.Listed.{AreShown, IsListingTrue, IsPlanKnown, IsPlanTrue, AreUsed, IsCouncilTrue}
 use Rattle.cas_model.specs.History.{IsLogged}
-use Rattle.cas_model.specs.Parties.{AreMessagesTrue, IsEraOf, IsAged, IsExchangeTrue, IsOpenTrue, IsDeskTrue, IsMessageTrue, WasMade, WereTold}
-use Rattle.cas_protocol.specs.Protocol.{IsAskable, GlobalState, HasHistory, Harms, TellsOperator, with_mark}
+use Rattle.cas_model.specs.Parties.{AreMessagesTrue, IsEraOf, IsAged, IsReadTrue, IsExchangeTrue, IsOpenTrue, IsDeskTrue, IsMessageTrue, WasMade, WereTold}
+use Rattle.cas_protocol.specs.Protocol.{IsAskable, GlobalState, Harms, TellsOperator, with_mark}
 use Rattle.cas_model.specs.Calls.Desks.{MayHaveDrawn, HasDrawn, HasKept, LosesMemory, FailsToDraw}
 use Rattle.cas_model.specs.Exchanges.Step as council
 use Rattle.cas_model.specs.Eras.Listings.{ListsOn}
-use Rattle.cas_model.specs.Exchanges.Step.{asked_by, places_from, IsForQuestion, listing_in, listing_for, HasTag, begun_listing, listing_begun, plan_asked, ListsFor, listed_view, question_to, StepOrder, told_over, StepGather, Gathers, with_council, with_exchange, told_view, gathered, told_marks, harm_marks, harmed_exchange, questions_to, everyone, new_exchange, awaits, hears, harms, MayAskAll, AsksAll, StepAskAll, TurnsExchange, StepTurnExchange, StepRefuseTurnExchange}
+use Rattle.cas_model.specs.Exchanges.Read.{MarksRead}
+use Rattle.cas_model.proofs.Exchanges.Reads.{read_begun, marks_read}
+use Rattle.cas_model.specs.Exchanges.Step.{asked_by, places_from, IsForQuestion, listing_in, listing_for, HasTag, begun_listing, listing_begun, plan_asked, ListsFor, listed_view, question_to, StepOrder, told_over, StepGather, Gathers, with_council, with_exchange, told_view, gathered, told_marks, harm_marks, harmed_exchange, questions_to, everyone, new_exchange, read_era, reads_by, awaits, hears, harms, MayAskAll, AsksAll, StepAskAll, TurnsExchange, StepTurnExchange, StepRefuseTurnExchange}
 use Rattle.cas_model.specs.View.{DiskMeaning, Meaning, View, CallView, CallerView, IsAt, era_at, with_desk, with_acceptor}
-use Rattle.cas_model.proofs.Around.{Whole, whole_of, logged, around, settles, parties_more, Everyone, leaves_desk}
+use Rattle.cas_model.proofs.Around.{Whole, whole_of, whole_more, logged, around, settles, leaves_desk}
 use Rattle.cas_model.proofs.Collection.Renewing.{asks_by}
 use Rattle.cas_model.proofs.Calls.Asks.{IsOfNoKey, asked_log, asked_global, asked_around, asked_vault, asked_caller, asked_still, asked_later, asked_messages, asked_marks, asked_ready, asked_plan, asked_tag, IsTag, may_question, where_drawn, goes_same}
 use Rattle.cas_model.proofs.Calls.Draws.{drew, drew_in_hand, drew_marks}
@@ -63,12 +65,13 @@ use Rattle.cas_model.proofs.Calls.Ends.{lost, none_left, others_left, all_joined
 use Rattle.cas_protocol.proofs.Events.{keeps}
 use Rattle.cas_model.proofs.Frames.Steps.{marked, taken_flows, replied_flows, answer_marks, refuses_stray}
 use Rattle.cas_model.proofs.Calls.Rounds.{none_waits}
-use Rattle.cas_model.proofs.Others.{IsOfOthers, asks_nothing, no_floor_of, acceptor_still}
+use Rattle.cas_model.proofs.Others.{IsNoProbeIn, IsAskedApart}
 use Rattle.cas_model.proofs.Places.{same_or_not, some_is, at_one, contains_none, at_set, own_set, but_set, contains_append, contains_at}
 
 -- ---- what the operator has under way
 -- something else is under way, and is so
-pub counsels : {S V : Type 0} (m : Meaning S V) (cluster : Cluster) (global : GlobalState) (view : View S V) (next : Council) → IsCouncilTrue cluster global.log next → Whole m cluster global view → Whole m cluster global (with_council view next)
+pub counsels : {S V : Type 0} (m : Meaning S V) (cluster : Cluster) (global : GlobalState) (view : View S V) (next : Council) → IsCouncilTrue cluster global.log next → Whole m cluster global view
+    → Whole m cluster global (with_council view next)
 counsels m cluster global view next is whole = record {
   meets = whole.meets;
   history = whole.history;
@@ -91,7 +94,8 @@ pub record ReFlows (log : List Happening) (old new : FlowView) : Type 0 where
   pub own : AreMessagesTrue log (queue_at new exchange_place).messages
   pub late : AreMessagesTrue log new.late
 
-pub reflows : {S V : Type 0} (m : Meaning S V) (cluster : Cluster) (global : GlobalState) (old : View S V) (flow : FlowView) → ReFlows global.log old.flow flow → Whole m cluster global old → Whole m cluster global (record old { flow = flow })
+pub reflows : {S V : Type 0} (m : Meaning S V) (cluster : Cluster) (global : GlobalState) (old : View S V) (flow : FlowView) → ReFlows global.log old.flow flow → Whole m cluster global old
+    → Whole m cluster global (record old { flow = flow })
 reflows {S} {V} m cluster global old flow flows whole = record {
   meets = whole.meets;
   history = whole.history;
@@ -102,7 +106,8 @@ reflows {S} {V} m cluster global old flow flows whole = record {
     eras = whole.parties.eras;
     desks = λ p these desk caller at_desk at_caller.
         let of = whole.parties.desks p these desk caller at_desk at_caller in
-        subst (λ (l : List Message). IsDeskTrue m cluster global.log global.made (era_at old p).number p caller l desk) (sym (flows.others p (λ same. omega (arith, same, of.known, whole.parties.last_proposer, whole.parties.few)))) of;
+        subst (λ (l : List Message). IsDeskTrue m cluster global.log global.made (era_at old p).number p caller l desk)
+        (sym (flows.others p (λ same. omega (arith, same, of.known, whole.parties.last_proposer, whole.parties.few)))) of;
     callers = whole.parties.callers;
     council = whole.parties.council;
     own = λ p. own p (same_or_not p exchange_place);
@@ -115,22 +120,12 @@ reflows {S} {V} m cluster global old flow flows whole = record {
     own p (inr other) = subst (AreMessagesTrue global.log) (sym (flows.others p other)) (whole.parties.own p)
 
 -- its frames join the late ones
-pub abandoned_flows : (log : List Happening) (flow : FlowView) → AreMessagesTrue log (queue_at flow exchange_place).messages → AreMessagesTrue log flow.late → ReFlows log flow (abandoned flow exchange_place)
+pub abandoned_flows : (log : List Happening) (flow : FlowView) → AreMessagesTrue log (queue_at flow exchange_place).messages → AreMessagesTrue log flow.late
+    → ReFlows log flow (abandoned flow exchange_place)
 abandoned_flows log flow own late = record {
   others = others_left flow exchange_place;
   own = subst (AreMessagesTrue log) (sym (none_left flow exchange_place)) (λ each has_it. absurd (contains_none has_it));
   late = all_joined_true log (queue_at flow exchange_place).messages flow.late own late;
-}
-
--- ---- a mark of nobody's
--- the log goes on with what is no deed of any proposer or acceptor
-pub whole_more : {S V : Type 0} (m : Meaning S V) (cluster : Cluster) (global : GlobalState) (view : View S V) (h : Happening) → ((p : ℕ) → IsOfOthers p h) → ((a : ℕ) → IsElsewhere a h) → HasHistory cluster (with_mark global h)
-    → Whole m cluster global view → Whole m cluster (with_mark global h) view
-whole_more m cluster global view h others elsewhere history whole = record {
-  meets = whole.meets;
-  history = history;
-  acceptors = λ a acceptor at. acceptor_still m cluster h global.log a (global.kept a) history.lawful (elsewhere a) (whole.acceptors a acceptor at);
-  parties = parties_more m cluster global.log global.made view Everyone h history.lawful history.orderly (no_floor_of 0 (others 0)) (asks_nothing view.council.collection h others) (λ p these. others p) whole.parties;
 }
 
 -- ---- the operator's call
@@ -139,7 +134,8 @@ orders {cluster = cluster} m old asked new is by =
     subst (IsLogged m cluster) (sym by.view) (logged m cluster is.global _ (counsels m cluster is.global old _ is.agrees.council (whole_of m old is)) is.agrees.marks)
 
 -- it is told something
-pub tells_view : {S V : Type 0} (m : Meaning S V) (cluster : Cluster) (global : GlobalState) (view : View S V) (answer : OpAnswer) → Whole m cluster global view → Whole m cluster global (told_view view answer)
+pub tells_view : {S V : Type 0} (m : Meaning S V) (cluster : Cluster) (global : GlobalState) (view : View S V) (answer : OpAnswer) → Whole m cluster global view
+    → Whole m cluster global (told_view view answer)
 tells_view m cluster global view answer whole = counsels m cluster global view (telling view.council answer) whole.parties.council whole
 
 -- a listing that is not complete is dropped
@@ -151,14 +147,17 @@ partial_true cluster log (Some plan) was = record { settled = was.settled; listi
     by_complete true kept listing is = some_is is
     by_complete false kept listing is = absurd (cc is)
 
-    by_listing : (had : Option ListingView) → ((listing : ListingView) → had ≡ Some listing → IsListingTrue cluster log plan.progress.era.number listing) → (listing : ListingView) → complete_only had ≡ Some listing → IsListingTrue cluster log plan.progress.era.number listing
+    by_listing : (had : Option ListingView) → ((listing : ListingView) → had ≡ Some listing → IsListingTrue cluster log plan.progress.era.number listing) → (listing : ListingView)
+        → complete_only had ≡ Some listing → IsListingTrue cluster log plan.progress.era.number listing
     by_listing None were listing is = absurd (cc is)
     by_listing (Some kept) were listing is = were listing (ap (λ (l : ListingView). Some l) (by_complete kept.complete kept listing is))
 
 -- it is over, and so is an exchange
-closes : {S V : Type 0} (m : Meaning S V) (cluster : Cluster) (global : GlobalState) (old : View S V) → Whole m cluster global old → Whole m cluster global (record (with_council old (at_rest old.council)) { flow = abandoned old.flow exchange_place })
+closes : {S V : Type 0} (m : Meaning S V) (cluster : Cluster) (global : GlobalState) (old : View S V) → Whole m cluster global old
+    → Whole m cluster global (record (with_council old (at_rest old.council)) { flow = abandoned old.flow exchange_place })
 closes m cluster global old whole =
-    counsels m cluster global (record old { flow = abandoned old.flow exchange_place }) (at_rest old.council) (λ exchange open_. absurd (cc open_), partial_true cluster global.log old.council.plan whole.parties.council.1, whole.parties.council.2, tt)
+    counsels m cluster global (record old { flow = abandoned old.flow exchange_place }) (at_rest old.council)
+    (λ exchange open_. absurd (cc open_), partial_true cluster global.log old.council.plan whole.parties.council.1, whole.parties.council.2, tt)
     (reflows m cluster global old (abandoned old.flow exchange_place) (abandoned_flows global.log old.flow (whole.parties.own exchange_place) whole.parties.late) whole)
 
 -- the mark of what it was told, where it leaves one
@@ -167,7 +166,8 @@ record IsToldTo {S V : Type 0} (m : Meaning S V) (cluster : Cluster) (global : G
   pub whole : Whole m cluster after view
   pub marks_are : marks_of after.log ≡ reverse marks ++ marks_of global.log
 
-told_to : {S V : Type 0} (m : Meaning S V) (cluster : Cluster) (global : GlobalState) (view : View S V) (asked : OperatorAsked) (answer : OpAnswer) → Whole m cluster global view → IsToldTo m cluster global view (told_marks asked answer)
+told_to : {S V : Type 0} (m : Meaning S V) (cluster : Cluster) (global : GlobalState) (view : View S V) (asked : OperatorAsked) (answer : OpAnswer) → Whole m cluster global view
+    → IsToldTo m cluster global view (told_marks asked answer)
 told_to {S} {V} m cluster global view asked answer whole = by_case answer
   where
     marks : (answer : OpAnswer) → IsToldTo m cluster global view (Told asked answer ∷ [])
@@ -191,31 +191,44 @@ told_to {S} {V} m cluster global view asked answer whole = by_case answer
     by_case (told.Stopped answer) = marks (told.Stopped answer)
 
 -- it is over with that
-pub ends_told : {S V : Type 0} {cluster : Cluster} (m : Meaning S V) (old : View S V) (asked : OperatorAsked) (answer : OpAnswer) → IsLogged m cluster old → IsLogged m cluster (told_over old asked answer)
+pub ends_told : {S V : Type 0} {cluster : Cluster} (m : Meaning S V) (old : View S V) (asked : OperatorAsked) (answer : OpAnswer) → IsLogged m cluster old
+    → IsLogged m cluster (told_over old asked answer)
 ends_told {cluster = cluster} m old asked answer is =
     let told = told_to m cluster is.global _ asked answer (closes m cluster is.global old (whole_of m old is)) in
-    marked m cluster told.after (record (with_council old (at_rest old.council)) { flow = abandoned old.flow exchange_place }) (told_marks asked answer) (marks_of is.global.log) told.whole is.agrees.marks told.marks_are
+    marked m cluster told.after (record (with_council old (at_rest old.council)) { flow = abandoned old.flow exchange_place }) (told_marks asked answer)
+    (marks_of is.global.log) told.whole is.agrees.marks told.marks_are
 
 -- the rest of what is under way may change as it likes
-pub counsels_by : {S V : Type 0} {cluster : Cluster} (m : Meaning S V) (old : View S V) (next : Council) → next.exchange ≡ old.council.exchange → (is : IsLogged m cluster old) → IsPlanTrue cluster is.global.log next.plan → AreUsed cluster next.used → IsCollectingTrue cluster is.global.log next.collection
+pub counsels_by : {S V : Type 0} {cluster : Cluster} (m : Meaning S V) (old : View S V) (next : Council) → next.exchange ≡ old.council.exchange → (is : IsLogged m cluster old)
+    → IsPlanTrue cluster is.global.log next.plan → AreUsed cluster next.used → IsCollectingTrue cluster is.global.log next.collection
     → IsLogged m cluster (with_council old next)
 counsels_by {cluster = cluster} m old next same is plan used collecting =
-    logged m cluster is.global (with_council old next) (counsels m cluster is.global old next (λ exchange some. is.agrees.council.0 exchange (sym same ∙ some), plan, used, collecting) (whole_of m old is)) is.agrees.marks
+    logged m cluster is.global (with_council old next)
+    (counsels m cluster is.global old next (λ exchange some. is.agrees.council.0 exchange (sym same ∙ some), plan, used, collecting) (whole_of m old is)) is.agrees.marks
 
 -- ---- what was told is gathered
 -- what is known of the listing that goes on by what was told
 abbrev pub ListsKnown : {S V : Type 0} (cluster : Cluster) (log : List Happening) (old : View S V) (exchange : ExchangeView) → Type 0
-ListsKnown {S} {V} cluster log old exchange = (of : ListsFor old exchange) (listing : ListingView) → ListsOn (era_at old 0) exchange.told of.listing listing → IsPlanTrue cluster log (Some (with_listing of.plan listing))
+ListsKnown {S} {V} cluster log old exchange =
+    (of : ListsFor old exchange) (listing : ListingView) → ListsOn (era_at old 0) exchange.told of.listing listing → IsPlanTrue cluster log (Some (with_listing of.plan listing))
 
-pub gathers : {S V : Type 0} {cluster : Cluster} (m : Meaning S V) (old : View S V) (new : View S V) → (is : IsLogged m cluster old) → (by : StepGather old new) → ListsKnown cluster is.global.log old by.at.exchange → IsLogged m cluster new
+pub gathers : {S V : Type 0} {cluster : Cluster} (m : Meaning S V) (old : View S V) (new : View S V) → (is : IsLogged m cluster old) → (by : StepGather old new)
+    → ListsKnown cluster is.global.log old by.at.exchange → IsLogged m cluster new
 gathers {S} {V} {cluster} m old new is by lists = by_case by.gathers
   where
     over : (answer : OpAnswer) → IsLogged m cluster (gathered old answer)
-    over answer = logged m cluster is.global (gathered old answer) (counsels m cluster is.global old _ (λ exchange open_. absurd (cc open_), is.agrees.council.1, is.agrees.council.2, is.agrees.council.3) (whole_of m old is)) is.agrees.marks
+    over answer =
+        logged m cluster is.global (gathered old answer)
+        (counsels m cluster is.global old _ (λ exchange open_. absurd (cc open_), is.agrees.council.1, is.agrees.council.2, is.agrees.council.3) (whole_of m old is)) is.agrees.marks
 
     by_case : Gathers old by.at.exchange new → IsLogged m cluster new
     by_case (council.crashed crashed view) = subst (IsLogged m cluster) (sym view) (over _)
-    by_case (council.probed key found up question found_is view) = subst (IsLogged m cluster) (sym view) (over _)
+    by_case (council.probed key found up question plain found_is view) = subst (IsLogged m cluster) (sym view) (over _)
+    by_case (council.read key era found marks up question reads found_is counts view) =
+        let made = marks_read m cluster is.global old by.at.exchange key era marks (is.agrees.council.0 by.at.exchange by.at.is_open) question reads
+        (subst (λ (l : List Mark). MarksRead era key by.at.exchange.told l marks) (sym is.agrees.marks) counts) (whole_of m old is) in
+        subst (IsLogged m cluster) (sym view) (marked m cluster made.after (gathered old (told.Probed key found)) marks (marks_of is.global.log)
+        (counsels m cluster made.after old _ (λ exchange open_. absurd (cc open_), made.whole.parties.council.1, made.whole.parties.council.2, made.whole.parties.council.3) made.whole) is.agrees.marks made.marks_are)
     by_case (council.lists of listing up enough on view) = subst (IsLogged m cluster) (sym view)
         (logged m cluster is.global (listed_view old of.plan listing) (counsels m cluster is.global old _ (λ exchange open_. absurd (cc open_), lists of listing on, is.agrees.council.2, is.agrees.council.3) (whole_of m old is)) is.agrees.marks)
     by_case (council.is_short of short up missing view) = subst (IsLogged m cluster) (sym view) (over _)
@@ -223,9 +236,12 @@ gathers {S} {V} {cluster} m old new is by lists = by_case by.gathers
 
 -- ---- all members are asked
 -- a desk that drew a ballot for a tag, or none, is as one that lost its memory after a draw
-drew_only : {V : Type 0} (m : DiskMeaning V) (desk now : DeskView V) (tag : Option Ballot) → desk.round ≡ None → MayHaveDrawn m desk.id desk.vault now.vault tag → now ≡ record desk { vault = now.vault } → LosesMemory m [] desk now tag
+drew_only : {V : Type 0} (m : DiskMeaning V) (desk now : DeskView V) (tag : Option Ballot) → desk.round ≡ None → MayHaveDrawn m desk.id desk.vault now.vault tag
+    → now ≡ record desk { vault = now.vault } → LosesMemory m [] desk now tag
 drew_only {V} m desk now tag idle drawn is_now = record {
-  desk = is_now ∙ ap (λ (c : List (List ℕ × Ready)). record desk { vault = now.vault; cache = c }) (sym cache) ∙ ap (λ (r : Option Round). record desk { vault = now.vault; cache = now.cache; round = r }) idle;
+  desk =
+      is_now ∙ ap (λ (c : List (List ℕ × Ready)). record desk { vault = now.vault; cache = c }) (sym cache)
+      ∙ ap (λ (r : Option Round). record desk { vault = now.vault; cache = now.cache; round = r }) idle;
   cache = inl cache;
   middle = now.vault;
   drawn = drawn;
@@ -245,7 +261,8 @@ member_in cluster era to is has = elim (or_cases (has_member era.prep to) (has_m
 ]
 
 -- no question is to accept
-no_accept : (tag : Ballot) (to : ℕ) {ballot : Ballot} {key : List ℕ} {era : ℕ} {ride : Option Ballot} {state : State} (question : Question) → ask_of tag question to ≡ ask.Accept key ballot era ride state → ⊥
+no_accept : (tag : Ballot) (to : ℕ) {ballot : Ballot} {key : List ℕ} {era : ℕ} {ride : Option Ballot} {state : State} (question : Question)
+    → ask_of tag question to ≡ ask.Accept key ballot era ride state → ⊥
 no_accept tag to (Probe key) is = cc is
 no_accept tag to (NextKeys places) is = cc is
 no_accept tag to (NewAges key least) is = cc is
@@ -280,7 +297,8 @@ plain_key (Removal key) plain = absurd plain
 
 -- each of them is asked
 pub asks_each : {S V : Type 0} (m : Meaning S V) (cluster : Cluster) (global : GlobalState) (view : View S V) (age : ℕ) (tag : Ballot) (question : Question) (tos : List ℕ) (desk : DeskView V) (caller : CallerView) → IsAt view.desks 0 desk → IsAt view.callers 0 caller → desk.round ≡ None → IsAged m.disks age desk.vault
-    → ((rest : List ℕ) (to : ℕ) → Has to tos → IsAskable cluster (asked_global global (question_to age tag question) rest) (question_to age tag question to)) → ((to : ℕ) → AsksAboveFor view.council.collection (question_to age tag question to))
+    → ((rest : List ℕ) (to : ℕ) → Has to tos → IsAskable cluster (asked_global global (question_to age tag question) rest) (question_to age tag question to))
+    → ((to : ℕ) → IsAskedApart view.council (question_to age tag question to))
     → Whole m cluster global view → Whole m cluster (asked_global global (question_to age tag question) tos) view
 asks_each {S} {V} m cluster global view age tag question tos desk caller at_desk at_caller idle aged askable above whole =
     settles m cluster (asked_global global f tos) view view 0
@@ -320,18 +338,20 @@ asks_each {S} {V} m cluster global view age tag question tos desk caller at_desk
 
 -- where it is of no key's collection
 asks_whole : {S V : Type 0} (m : Meaning S V) (cluster : Cluster) (global : GlobalState) (view : View S V) (age : ℕ) (tag : Ballot) (question : Question) (tos : List ℕ) (desk : DeskView V) (caller : CallerView) → IsAt view.desks 0 desk → IsAt view.callers 0 caller → desk.round ≡ None → IsAged m.disks age desk.vault
-    → IsOfNoKey question → IsTag global.log (era_at view 0).number tag → ((to : ℕ) → Has to tos → (has_member (cluster.members (era_at view 0).number) to ≡ true) × (to < 64))
+    → IsOfNoKey question → view.council.exchange ≡ None → IsTag global.log (era_at view 0).number tag
+    → ((to : ℕ) → Has to tos → (has_member (cluster.members (era_at view 0).number) to ≡ true) × (to < 64))
     → Whole m cluster global view → Whole m cluster (asked_global global (question_to age tag question) tos) view
-asks_whole m cluster global view age tag question tos desk caller at_desk at_caller idle aged plain is_tag members whole =
+asks_whole m cluster global view age tag question tos desk caller at_desk at_caller idle aged plain none_open is_tag members whole =
     let f = question_to age tag question in
     let era = (era_at view 0).number in
     asks_each m cluster global view age tag question tos desk caller at_desk at_caller idle aged
     (λ rest to h. may_question cluster (asked_global global f rest) question age era tag to plain (members to h).0 (members to h).1 (asked_tag f rest global.log era tag is_tag))
-    (λ to. asks_by view.council.collection (f to) (λ one least is. plain_tells_none tag question to plain is) (λ c a is at round. absurd (plain_no_round tag question to plain round))) whole
+    (λ to. asks_by view.council (f to) (subst (λ (o : Option ExchangeView). IsNoProbeIn o (f to)) (sym none_open) tt) (λ one least is. plain_tells_none tag question to plain is) (λ c a is at round. absurd (plain_no_round tag question to plain round))) whole
 
 -- a desk without an open round that stays quiet
 quiets_desk : {S V : Type 0} (m : Meaning S V) (cluster : Cluster) (global : GlobalState) (old : View S V) (id : ℕ) (desk now : DeskView V) → IsAt old.desks id desk → desk.round ≡ None
-    → ((caller : CallerView) → IsAt old.callers id caller → IsQuiet m cluster global.log global.made id (era_at old id).number now) → Whole m cluster global old → Whole m cluster global (with_desk old id now)
+    → ((caller : CallerView) → IsAt old.callers id caller → IsQuiet m cluster global.log global.made id (era_at old id).number now) → Whole m cluster global old
+    → Whole m cluster global (with_desk old id now)
 quiets_desk {S} {V} m cluster global old id desk now at_desk idle quiet whole =
     settles m cluster global old (with_desk old id now) id (around m cluster global old id whole) (leaves_desk old id now old.flow (λ p other. refl))
     (record {
@@ -360,13 +380,15 @@ none_told (member ∷ members) zero answer told at is = cc (is, ap (λ (a : Answ
 none_told (member ∷ members) (suc place) answer told at is = none_told members place answer told at is
 
 -- all members are
-pub everyone_within : {S V : Type 0} (cluster : Cluster) (view : View S V) → IsEraOf cluster (era_at view 0) → (to : ℕ) → Has to (everyone view) → (has_member (cluster.members (era_at view 0).number) to ≡ true) × (to < 64)
+pub everyone_within : {S V : Type 0} (cluster : Cluster) (view : View S V) → IsEraOf cluster (era_at view 0) → (to : ℕ) → Has to (everyone view)
+    → (has_member (cluster.members (era_at view 0).number) to ≡ true) × (to < 64)
 everyone_within cluster view is to h =
     let has = has_member_of to (everyone view) h in
     (member_in cluster (era_at view 0) to is has, member_low (everyone view) to (IsMemberSet-members_where (λ n. has_member (era_at view 0).prep n || has_member (era_at view 0).acc n)) has)
 
 -- who is asked is a member
-asked_within : {S V : Type 0} (cluster : Cluster) (view : View S V) (question : Question) → IsEraOf cluster (era_at view 0) → (to : ℕ) → Has to (asked_by view question) → (has_member (cluster.members (era_at view 0).number) to ≡ true) × (to < 64)
+asked_within : {S V : Type 0} (cluster : Cluster) (view : View S V) (question : Question) → IsEraOf cluster (era_at view 0) → (to : ℕ) → Has to (asked_by view question)
+    → (has_member (cluster.members (era_at view 0).number) to ≡ true) × (to < 64)
 asked_within cluster view (Probe key) is to h = everyone_within cluster view is to h
 asked_within cluster view (NewAges key least) is to h = everyone_within cluster view is to h
 asked_within cluster view (Removal key) is to h = everyone_within cluster view is to h
@@ -410,14 +432,20 @@ begun_true cluster log era tag members is entered ended = record {
 }
 
 -- the tag that is used again, or was drawn, and the log with it
-record IsTagged {S V : Type 0} (m : Meaning S V) (cluster : Cluster) (global : GlobalState) (view : View S V) (tag : Ballot) (plan : Option PlanView) : Type 0 where
+record IsTagged {S V : Type 0} (m : Meaning S V) (cluster : Cluster) (global : GlobalState) (view : View S V) (tag : Ballot) (question : Question) (plan : Option PlanView) : Type 0 where
   after : GlobalState
+  drew_it : (key : List ℕ) → question ≡ Probe key → after.log ≡ Drew tag [] (era_at view 0).number ∷ global.log
   whole : Whole m cluster after view
   is_tag : IsTag after.log (era_at view 0).number tag
   plan_true : IsPlanTrue cluster after.log plan
   marks : marks_of after.log ≡ marks_of global.log
 
-pub asks_all : {S V : Type 0} {cluster : Cluster} (m : Meaning S V) (old : View S V) (question : Question) (new : View S V) → m.disks.tells → (is : IsLogged m cluster old) → ReadyToAsk cluster is.global.log old question → StepAskAll m old question new → IsLogged m cluster new
+era_read : (b : Bool) (era read : Era) → (if b then Some era else None) ≡ Some read → era ≡ read
+era_read true era read is = some_is is
+era_read false era read is = absurd (cc is)
+
+pub asks_all : {S V : Type 0} {cluster : Cluster} (m : Meaning S V) (old : View S V) (question : Question) (new : View S V) → m.disks.tells → (is : IsLogged m cluster old)
+    → ReadyToAsk cluster is.global.log old question → StepAskAll m old question new → IsLogged m cluster new
 asks_all {S} {V} {cluster} m old question new tells is ready by = by_case by.asks
   where
     may : MayAskAll old question by.desk
@@ -436,8 +464,10 @@ asks_all {S} {V} {cluster} m old question new tells is ready by = by_case by.ask
     of = whole.parties.desks 0 tt by.desk may.caller may.at_desk may.at_caller
 
     -- a tag is drawn, or none
-    drawn_whole : (now : DeskView V) (tag : Option Ballot) → MayHaveDrawn m.disks by.desk.id by.desk.vault now.vault tag → now ≡ record by.desk { vault = now.vault } → Whole m cluster (drew is.global tag [] era) (with_desk old 0 now)
-    drawn_whole now tag drawn is_now = lost m cluster is.global old 0 [] by.desk now tag tells may.at_desk may.idle (drew_only m.disks by.desk now tag may.idle drawn is_now) may.caller may.at_caller whole
+    drawn_whole : (now : DeskView V) (tag : Option Ballot) → MayHaveDrawn m.disks by.desk.id by.desk.vault now.vault tag → now ≡ record by.desk { vault = now.vault }
+        → Whole m cluster (drew is.global tag [] era) (with_desk old 0 now)
+    drawn_whole now tag drawn is_now =
+        lost m cluster is.global old 0 [] by.desk now tag tells may.at_desk may.idle (drew_only m.disks by.desk now tag may.idle drawn is_now) may.caller may.at_caller whole
 
     -- the open call is told something
     told_one : (view : View S V) (global : GlobalState) (answer : OpAnswer) → Whole m cluster global view → marks_of global.log ≡ reverse view.marks → IsLogged m cluster (told_view view answer)
@@ -448,16 +478,36 @@ asks_all {S} {V} {cluster} m old question new tells is ready by = by_case by.ask
         let hand = drew_in_hand m cluster is.global 0 era [] by.desk.vault now.vault tag of.known (subst (λ (i : ℕ). HasDrawn m.disks i by.desk.vault now.vault tag) of.same_id drawn) of.vault whole.history in
         record { own = hand.own; drawn = hand.drawn; above = hand.above_floors }
 
-    asked : (now : DeskView V) (tag : Ballot) (flow : FlowView) → now ≡ record by.desk { vault = now.vault } → IsAged m.disks (kept_of by.desk.vault).age now.vault → IsTagged m cluster is.global (with_desk old 0 now) tag (plan_asked question tag old.council.plan)
+    -- a read is of the era in which its tag was drawn
+    read_there : (now : DeskView V) (tag : Ballot) (key : List ℕ) (read : Era) (tos : List ℕ) → question ≡ Probe key → read_era old question ≡ Some read
+        → (tagged : IsTagged m cluster is.global (with_desk old 0 now) tag question (plan_asked question tag old.council.plan))
+        → IsReadTrue cluster (asked_log (question_to (kept_of by.desk.vault).age tag question) tos tagged.after.log) tag (length old.marks) key read
+    read_there now tag key read tos asks reads tagged =
+        let age : ℕ = (kept_of by.desk.vault).age in
+        let many : ℕ = length old.marks in
+        let its_era = whole.parties.eras 0 (omega arith) in
+        subst (λ (e : Era). IsReadTrue cluster (asked_log (question_to age tag question) tos tagged.after.log) tag many key e)
+        (era_read (reads_by old.council.order question) (era_at old 0) read reads)
+        (subst (λ (q : Question). IsReadTrue cluster (asked_log (question_to age tag q) tos tagged.after.log) tag many key (era_at old 0)) (sym asks)
+        (subst (λ (l : List Happening). IsReadTrue cluster (asked_log (question_to age tag (Probe key)) tos l) tag many key (era_at old 0)) (sym (tagged.drew_it key asks))
+        (read_begun cluster is.global.log age many tag key tos (era_at old 0) (subst (Orderly cluster) (tagged.drew_it key asks) tagged.whole.history.orderly)
+        (ap (λ (l : List Mark). length l) is.agrees.marks ∙ length-reverse old.marks)
+        (λ beyond. of.vault.not_beyond (subst (λ (p : ℕ). Stands (Entered p (suc era)) is.global.log) tagged.is_tag.own beyond))
+        (record { empty = λ floor has. is.history.knows.floors key floor has; clear = λ floor has. is.history.knows.clear key floor has })
+        (λ by holds. its_era.prepares by ∙ holds) (λ by holds. its_era.accepts by ∙ holds))))
+
+    asked : (now : DeskView V) (tag : Ballot) (flow : FlowView) → now ≡ record by.desk { vault = now.vault } → IsAged m.disks (kept_of by.desk.vault).age now.vault
+        → IsTagged m cluster is.global (with_desk old 0 now) tag question (plan_asked question tag old.council.plan)
         → Sends old.flow exchange_place (questions_to (kept_of by.desk.vault).age tag question (asked_by old question)) flow
-        → IsLogged m cluster (with_council (record (with_desk old 0 now) { flow = flow }) (record old.council { exchange = Some (new_exchange question tag (asked_by old question) (length old.marks)); plan = plan_asked question tag old.council.plan }))
+        → IsLogged m cluster (with_council (record (with_desk old 0 now) { flow = flow }) (record old.council { exchange = Some (new_exchange question tag (asked_by old question) (length old.marks) (read_era old question)); plan = plan_asked question tag old.council.plan }))
     asked now tag flow is_now aged tagged sends =
         let view : View S V = with_desk old 0 now in
         let age : ℕ = (kept_of by.desk.vault).age in
         let tos : List ℕ = asked_by old question in
         let f : ℕ → Request = question_to age tag question in
         let then_ : Whole m cluster (asked_global tagged.after f tos) view =
-        asks_whole m cluster tagged.after view age tag question tos now may.caller (at_set old.desks 0 by.desk now may.at_desk) may.at_caller (ap (λ (d : DeskView V). d.round) is_now ∙ may.idle) aged plain tagged.is_tag
+        asks_whole m cluster tagged.after view age tag question tos now may.caller (at_set old.desks 0 by.desk now may.at_desk) may.at_caller
+        (ap (λ (d : DeskView V). d.round) is_now ∙ may.idle) aged plain may.none_open tagged.is_tag
         (asked_within cluster old question (whole.parties.eras 0 (omega arith))) tagged.whole in
         let log : List Happening = asked_log f tos tagged.after.log in
         let flows : ReFlows log old.flow flow = record {
@@ -469,13 +519,15 @@ asks_all {S} {V} {cluster} m old question new tells is ready by = by_case by.ask
           late = subst (AreMessagesTrue log) (sym sends.late) then_.parties.late;
         } in
         let moved : View S V = record view { flow = flow } in
-        logged m cluster (asked_global tagged.after f tos) (with_council moved (record old.council { exchange = Some (new_exchange question tag tos (length old.marks)); plan = plan_asked question tag old.council.plan }))
+        logged m cluster (asked_global tagged.after f tos)
+        (with_council moved (record old.council { exchange = Some (new_exchange question tag tos (length old.marks) (read_era old question)); plan = plan_asked question tag old.council.plan }))
         (counsels m cluster (asked_global tagged.after f tos) moved _ (
-          λ exchange open_. subst (IsExchangeTrue log) (some_is open_) (record {
+          λ exchange open_. subst (IsExchangeTrue cluster log) (some_is open_) (record {
             own = tagged.is_tag.own;
             era = era;
             drawn = subst (λ (k : List ℕ). Stands (Drew tag k era) log) (sym (plain_key question plain)) (asked_later f tos tagged.after.log tagged.is_tag.drawn);
             told = λ place answer told at is_told. absurd (none_told tos place answer told at is_told);
+            read = λ key read asks reads. read_there now tag key read tos asks reads tagged;
           }),
           asked_plan cluster f tos tagged.after.log (plan_asked question tag old.council.plan) tagged.plan_true,
           is.agrees.council.2,
@@ -483,10 +535,12 @@ asks_all {S} {V} {cluster} m old question new tells is ready by = by_case by.ask
         ) (reflows m cluster (asked_global tagged.after f tos) view flow flows then_))
         (asked_marks f tos tagged.after.log ∙ tagged.marks ∙ is.agrees.marks)
 
-    tagged_by : (q : Question) (now : DeskView V) (tag : Ballot) → ReadyToAsk cluster is.global.log old q → HasTag m.disks (listing_for old.council q) by.desk now tag → now ≡ record by.desk { vault = now.vault }
-        → IsForQuestion (everyone old) old.council may.caller.call may.order.asked q → IsTagged m cluster is.global (with_desk old 0 now) tag (plan_asked q tag old.council.plan)
+    tagged_by : (q : Question) (now : DeskView V) (tag : Ballot) → ReadyToAsk cluster is.global.log old q → HasTag m.disks (listing_for old.council q) by.desk now tag
+        → now ≡ record by.desk { vault = now.vault }
+        → IsForQuestion (everyone old) old.council may.caller.call may.order.asked q → IsTagged m cluster is.global (with_desk old 0 now) tag q (plan_asked q tag old.council.plan)
     tagged_by (Probe key) now tag ready drawn is_now is_for = record {
       after = drew is.global (Some tag) [] era;
+      drew_it = λ k asks. refl;
       whole = drawn_whole now (Some tag) drawn is_now;
       is_tag = drawn_tag now tag drawn;
       plan_true = (drawn_whole now (Some tag) drawn is_now).parties.council.1;
@@ -494,7 +548,8 @@ asks_all {S} {V} {cluster} m old question new tells is ready by = by_case by.ask
     }
     tagged_by (NewAges key least) now tag ready has_tag is_now is_for = absurd is_for
     tagged_by (Removal key) now tag ready has_tag is_now is_for = absurd is_for
-    tagged_by (NextKeys places) now tag ready has_tag is_now (none_open, due) = subst (λ (o : Option PlanView). IsTagged m cluster is.global (with_desk old 0 now) tag (option_map (listing_begun places tag) o)) (sym due.is_plan)
+    tagged_by (NextKeys places) now tag ready has_tag is_now (none_open, due) =
+        subst (λ (o : Option PlanView). IsTagged m cluster is.global (with_desk old 0 now) tag (NextKeys places) (option_map (listing_begun places tag) o)) (sym due.is_plan)
         (by_listing due.plan.listing refl (subst (λ (o : Option PlanView). HasTag m.disks (listing_in o) by.desk now tag) due.is_plan has_tag))
       where
         on : IsReadyToList cluster is.global.log old due.plan
@@ -514,27 +569,33 @@ asks_all {S} {V} {cluster} m old question new tells is ready by = by_case by.ask
         begun listing = record due.plan { listing = Some (begun_listing places tag listing) }
 
         by_listing : (listing : Option ListingView) → due.plan.listing ≡ listing → HasTag m.disks listing by.desk now tag
-            → IsTagged m cluster is.global (with_desk old 0 now) tag (Some (record due.plan { listing = Some (begun_listing places tag due.plan.listing) }))
-        by_listing None is_listing drawn = subst (λ (l : Option ListingView). IsTagged m cluster is.global (with_desk old 0 now) tag (Some (record due.plan { listing = Some (begun_listing places tag l) }))) (sym is_listing) (record {
-          after = drew is.global (Some tag) [] era;
-          whole = drawn_whole now (Some tag) drawn is_now;
-          is_tag = drawn_tag now tag drawn;
-          plan_true = record {
-            settled = (known (Drew tag [] era ∷ is.global.log) (drawn_whole now (Some tag) drawn is_now).parties.council.1).settled;
-            listing = λ listing same. subst (IsListingTrue cluster (Drew tag [] era ∷ is.global.log) due.plan.progress.era.number) (some_is same)
-                (subst (λ (l : List MemberPlace). IsListingTrue cluster (Drew tag [] era ∷ is.global.log) due.plan.progress.era.number (record { tag = tag; places = l; keys = []; complete = false }))
-                (sym (due.goes_on ∙ ap (places_from (everyone old)) is_listing))
-                (subst (λ (e : ℕ). IsListingTrue cluster (Drew tag [] e ∷ is.global.log) due.plan.progress.era.number (record { tag = tag; places = places_from (everyone old) None; keys = []; complete = false })) (sym on.in_base)
-                (begun_true cluster is.global.log due.plan.progress.era.number tag (everyone old) (subst (λ (e : ℕ). IsTag (Drew tag [] e ∷ is.global.log) e tag) on.in_base (drawn_tag now tag drawn)) on.entered all_ended)));
-          };
-          marks = drew_marks is.global.log [] era (Some tag);
-        })
+            → IsTagged m cluster is.global (with_desk old 0 now) tag (NextKeys places) (Some (record due.plan { listing = Some (begun_listing places tag due.plan.listing) }))
+        by_listing None is_listing drawn =
+            subst (λ (l : Option ListingView). IsTagged m cluster is.global (with_desk old 0 now) tag (NextKeys places) (Some (record due.plan { listing = Some (begun_listing places tag l) })))
+            (sym is_listing) (record {
+              after = drew is.global (Some tag) [] era;
+              drew_it = λ k asks. absurd (cc asks);
+              whole = drawn_whole now (Some tag) drawn is_now;
+              is_tag = drawn_tag now tag drawn;
+              plan_true = record {
+                settled = (known (Drew tag [] era ∷ is.global.log) (drawn_whole now (Some tag) drawn is_now).parties.council.1).settled;
+                listing = λ listing same. subst (IsListingTrue cluster (Drew tag [] era ∷ is.global.log) due.plan.progress.era.number) (some_is same)
+                    (subst (λ (l : List MemberPlace). IsListingTrue cluster (Drew tag [] era ∷ is.global.log) due.plan.progress.era.number (record { tag = tag; places = l; keys = []; complete = false }))
+                    (sym (due.goes_on ∙ ap (places_from (everyone old)) is_listing))
+                    (subst (λ (e : ℕ). IsListingTrue cluster (Drew tag [] e ∷ is.global.log) due.plan.progress.era.number (record { tag = tag; places = places_from (everyone old) None; keys = []; complete = false })) (sym on.in_base)
+                    (begun_true cluster is.global.log due.plan.progress.era.number tag (everyone old) (subst (λ (e : ℕ). IsTag (Drew tag [] e ∷ is.global.log) e tag) on.in_base (drawn_tag now tag drawn)) on.entered all_ended)));
+              };
+              marks = drew_marks is.global.log [] era (Some tag);
+            })
         by_listing (Some listing) is_listing (same_tag, same_vault) =
-            let kept : Whole m cluster is.global (with_desk old 0 now) = drawn_whole now None (subst (λ (v : Vault V). HasKept m.disks by.desk.vault v) (sym same_vault) (goes_same m.disks by.desk.vault)) is_now in
+            let kept : Whole m cluster is.global (with_desk old 0 now) =
+            drawn_whole now None (subst (λ (v : Vault V). HasKept m.disks by.desk.vault v) (sym same_vault) (goes_same m.disks by.desk.vault)) is_now in
             let was : IsPlanKnown cluster is.global.log due.plan = known is.global.log whole.parties.council.1 in
             let listing_true : IsListingTrue cluster is.global.log due.plan.progress.era.number listing = was.listing listing is_listing in
-            subst (λ (l : Option ListingView). IsTagged m cluster is.global (with_desk old 0 now) tag (Some (record due.plan { listing = Some (begun_listing places tag l) }))) (sym is_listing) (record {
+            subst (λ (l : Option ListingView). IsTagged m cluster is.global (with_desk old 0 now) tag (NextKeys places) (Some (record due.plan { listing = Some (begun_listing places tag l) })))
+            (sym is_listing) (record {
               after = is.global;
+              drew_it = λ k asks. absurd (cc asks);
               whole = kept;
               is_tag = subst (λ (e : ℕ). IsTag is.global.log e tag) (sym on.in_base) (subst (IsTag is.global.log due.plan.progress.era.number) (sym same_tag)
                   (record { own = listing_true.own; drawn = listing_true.drawn; above = listing_true.above_floors }));
@@ -543,7 +604,8 @@ asks_all {S} {V} {cluster} m old question new tells is ready by = by_case by.ask
             })
 
     by_case : AsksAll m old question by.desk new → IsLogged m cluster new
-    by_case (council.asks now tag flow up room tagged is_now sends view) = subst (IsLogged m cluster) (sym view) (asked now tag flow is_now (tagged.aged tells) (tagged_by question now tag ready tagged.has_tag is_now may.is_for) sends)
+    by_case (council.asks now tag flow up room tagged is_now sends view) =
+        subst (IsLogged m cluster) (sym view) (asked now tag flow is_now (tagged.aged tells) (tagged_by question now tag ready tagged.has_tag is_now may.is_for) sends)
     by_case (council.is_down down view) = subst (IsLogged m cluster) (sym view) (told_one old is.global _ whole is.agrees.marks)
     by_case (council.is_full up full view) = subst (IsLogged m cluster) (sym view) (told_one old is.global _ whole is.agrees.marks)
     by_case (council.is_spent now up spent kept is_now view) = subst (IsLogged m cluster) (sym view) (told_one (with_desk old 0 now) is.global _ (drawn_whole now None kept is_now) is.agrees.marks)
@@ -555,7 +617,8 @@ asks_all {S} {V} {cluster} m old question new tells is ready by = by_case by.ask
 
 -- ---- a turn of the exchange
 -- a reply that was made tells what its sender told
-heard_told : (log : List Happening) (tag : Ballot) (question : Question) (reply : Reply) (told : List Answered) (place : Option ℕ) → WasMade log reply → IsReplyTo tag question reply → WereTold log tag question told
+heard_told : (log : List Happening) (tag : Ballot) (question : Question) (reply : Reply) (told : List Answered) (place : Option ℕ) → WasMade log reply → IsReplyTo tag question reply
+    → WereTold log tag question told
     → WereTold log tag question (option_map_or (λ at. slice_set told at (record { acceptor = reply.from; told = Some reply.tell })) place told)
 heard_told log tag question reply told None made to_it were place answer tell at is = were place answer tell at is
 heard_told log tag question reply told (Some spot) made to_it were place answer tell at is = elim (but_set told spot (record { acceptor = reply.from; told = Some reply.tell }) place answer at) [
@@ -569,7 +632,8 @@ record IsHarmedBy {S V : Type 0} (m : Meaning S V) (cluster : Cluster) (global :
   pub whole : Whole m cluster after view
   pub marks : marks_of after.log ≡ reverse (harm_marks exchange member down) ++ marks_of global.log
 
-harms_by : {S V : Type 0} (m : Meaning S V) (cluster : Cluster) (global : GlobalState) (view : View S V) (exchange : ExchangeView) (member : ℕ) (down : Bool) → Whole m cluster global view → IsHarmedBy m cluster global view exchange member down
+harms_by : {S V : Type 0} (m : Meaning S V) (cluster : Cluster) (global : GlobalState) (view : View S V) (exchange : ExchangeView) (member : ℕ) (down : Bool) → Whole m cluster global view
+    → IsHarmedBy m cluster global view exchange member down
 harms_by {S} {V} m cluster global view exchange member down whole = by_test (has_member exchange.harmed member) refl
   where
     by_test : (b : Bool) → has_member exchange.harmed member ≡ b → IsHarmedBy m cluster global view exchange member down
@@ -581,11 +645,13 @@ harms_by {S} {V} m cluster global view exchange member down whole = by_test (has
     }
 
 -- the first frame is taken
-taken_reflows : (log : List Happening) (flow : FlowView) (verdict : Verdict) {front : Message} → slice_get (queue_at flow exchange_place).messages 0 ≡ Some front → AreMessagesTrue log (queue_at flow exchange_place).messages → AreMessagesTrue log flow.late
+taken_reflows : (log : List Happening) (flow : FlowView) (verdict : Verdict) {front : Message} → slice_get (queue_at flow exchange_place).messages 0 ≡ Some front
+    → AreMessagesTrue log (queue_at flow exchange_place).messages → AreMessagesTrue log flow.late
     → ReFlows log flow (taken flow exchange_place verdict)
 taken_reflows log flow verdict e own late = let flows = taken_flows log flow exchange_place verdict e own late in record { others = flows.others; own = flows.own; late = flows.late }
 
-harmed_turn : {S V : Type 0} (m : Meaning S V) (cluster : Cluster) (global : GlobalState) (view : View S V) (verdict : Verdict) (front : Message) (exchange : ExchangeView) (member : ℕ) (down : Bool) → view.council.exchange ≡ Some exchange
+harmed_turn : {S V : Type 0} (m : Meaning S V) (cluster : Cluster) (global : GlobalState) (view : View S V) (verdict : Verdict) (front : Message) (exchange : ExchangeView) (member : ℕ) (down : Bool)
+    → view.council.exchange ≡ Some exchange
     → slice_get (queue_at view.flow exchange_place).messages 0 ≡ Some front → marks_of global.log ≡ reverse view.marks → Whole m cluster global view
     → IsLogged m cluster (harms (record view { flow = taken view.flow exchange_place verdict }) exchange member down)
 harmed_turn m cluster global view verdict front exchange member down is_open in_front marks whole =
@@ -593,11 +659,12 @@ harmed_turn m cluster global view verdict front exchange member down is_open in_
     let was = is.whole.parties.council.0 exchange is_open in
     let moved = record view { flow = taken view.flow exchange_place verdict } in
     marked m cluster is.after (with_exchange moved (harmed_exchange exchange member)) (harm_marks exchange member down) (marks_of global.log)
-    (counsels m cluster is.after moved _ (λ other open_. subst (IsExchangeTrue is.after.log) (some_is open_) (record { own = was.own; era = was.era; drawn = was.drawn; told = was.told }), is.whole.parties.council.1, is.whole.parties.council.2, is.whole.parties.council.3)
+    (counsels m cluster is.after moved _ (λ other open_. subst (IsExchangeTrue cluster is.after.log) (some_is open_) (record { own = was.own; era = was.era; drawn = was.drawn; told = was.told; read = was.read }), is.whole.parties.council.1, is.whole.parties.council.2, is.whole.parties.council.3)
     (reflows m cluster is.after view (taken view.flow exchange_place verdict) (taken_reflows is.after.log view.flow verdict in_front (is.whole.parties.own exchange_place) is.whole.parties.late) is.whole))
     marks is.marks
 
-pub turns_exchange : {S V : Type 0} {cluster : Cluster} (m : Meaning S V) (old : View S V) (verdict : Verdict) (new : View S V) → m.shelves.tells → IsLogged m cluster old → StepTurnExchange m old verdict new → IsLogged m cluster new
+pub turns_exchange : {S V : Type 0} {cluster : Cluster} (m : Meaning S V) (old : View S V) (verdict : Verdict) (new : View S V) → m.shelves.tells → IsLogged m cluster old
+    → StepTurnExchange m old verdict new → IsLogged m cluster new
 turns_exchange {S} {V} {cluster} m old verdict new tells is step = by_turn step.turn
   where
     exchange : ExchangeView
@@ -635,11 +702,12 @@ turns_exchange {S} {V} {cluster} m old verdict new tells is step = by_turn step.
         subst (IsLogged m cluster) (sym view)
         (logged m cluster is.global (with_exchange moved (record exchange { told = hears reply exchange.told }))
         (counsels m cluster is.global moved _ (
-          λ other open_. subst (IsExchangeTrue is.global.log) (some_is open_) (record {
+          λ other open_. subst (IsExchangeTrue cluster is.global.log) (some_is open_) (record {
             own = was.own;
             era = was.era;
             drawn = was.drawn;
             told = heard_told is.global.log exchange.tag exchange.question reply exchange.told (position (awaits reply.from) exchange.told) (front_true front) to_it was.told;
+            read = was.read;
           }),
           whole.parties.council.1,
           whole.parties.council.2,
@@ -652,19 +720,21 @@ pub told_remembered : {S V : Type 0} {cluster : Cluster} (m : Meaning S V) (view
 told_remembered {cluster = cluster} m view answer is = logged m cluster is.global (told_view view answer) (tells_view m cluster is.global view answer (whole_of m view is)) is.agrees.marks
 
 -- no memory was found for one
-pub refuses_exchange : {S V : Type 0} {cluster : Cluster} (m : Meaning S V) (old : View S V) (new : View S V) → m.shelves.tells → IsLogged m cluster old → StepRefuseTurnExchange m old new → IsLogged m cluster new
+pub refuses_exchange : {S V : Type 0} {cluster : Cluster} (m : Meaning S V) (old : View S V) (new : View S V) → m.shelves.tells → IsLogged m cluster old → StepRefuseTurnExchange m old new
+    → IsLogged m cluster new
 refuses_exchange {cluster = cluster} m old new tells is step =
     subst (IsLogged m cluster) (sym step.view) (told_remembered m step.middle _ (refuses_stray m old step.middle tells is step.refuses))
 
 -- ---- proposer 0 crashes within it
-broken_true : (log : List Happening) (open_ : Option ExchangeView) → ((exchange : ExchangeView) → open_ ≡ Some exchange → IsExchangeTrue log exchange) → (exchange : ExchangeView) → option_map broken_off open_ ≡ Some exchange → IsExchangeTrue log exchange
-broken_true log None were exchange e = absurd (cc e)
-broken_true log (Some was) were exchange e = let is = were was refl in subst (IsExchangeTrue log) (some_is e) (record { own = is.own; era = is.era; drawn = is.drawn; told = is.told })
+broken_true : (cluster : Cluster) (log : List Happening) (open_ : Option ExchangeView) → ((exchange : ExchangeView) → open_ ≡ Some exchange → IsExchangeTrue cluster log exchange)
+    → (exchange : ExchangeView) → option_map broken_off open_ ≡ Some exchange → IsExchangeTrue cluster log exchange
+broken_true cluster log None were exchange e = absurd (cc e)
+broken_true cluster log (Some was) were exchange e = let is = were was refl in subst (IsExchangeTrue cluster log) (some_is e) (record { own = is.own; era = is.era; drawn = is.drawn; told = is.told; read = is.read })
 
 pub breaks_off : {S V : Type 0} {cluster : Cluster} (m : Meaning S V) (old : View S V) → IsLogged m cluster old → IsLogged m cluster (broken_off_view old)
 breaks_off {cluster = cluster} m old is =
     let whole = whole_of m old is in
     logged m cluster is.global (broken_off_view old)
-    (counsels m cluster is.global (record old { flow = abandoned old.flow exchange_place }) (crashed_in old.council) (broken_true is.global.log old.council.exchange whole.parties.council.0, whole.parties.council.1, whole.parties.council.2, whole.parties.council.3)
+    (counsels m cluster is.global (record old { flow = abandoned old.flow exchange_place }) (crashed_in old.council) (broken_true cluster is.global.log old.council.exchange whole.parties.council.0, whole.parties.council.1, whole.parties.council.2, whole.parties.council.3)
     (reflows m cluster is.global old (abandoned old.flow exchange_place) (abandoned_flows is.global.log old.flow (whole.parties.own exchange_place) whole.parties.late) whole))
     is.agrees.marks

@@ -38,7 +38,7 @@ IsQuiet h = (p : ℕ) → IsOfOthers p h
 
 quiet_step : {S V : Type 0} (m : Meaning S V) (cluster : Cluster) (all : List Made) (view : View S V) (h : Happening) (log : List Happening) → Lawful cluster (h ∷ log) → Orderly cluster (h ∷ log) → IsQuiet h
     → Parties m cluster log all view Everyone → Parties m cluster (h ∷ log) all view Everyone
-quiet_step m cluster all view h log lawful orderly quiet was = parties_more m cluster log all view Everyone h lawful orderly (no_floor_of 0 (quiet 0)) (asks_nothing view.council.collection h quiet) (λ p these. quiet p) was
+quiet_step m cluster all view h log lawful orderly quiet was = parties_more m cluster log all view Everyone h lawful orderly (no_floor_of 0 (quiet 0)) (asks_nothing view.council h quiet) (λ p these. quiet p) was
 
 -- all parties stay as they were where an acceptor does something
 parties_done : {S V : Type 0} (m : Meaning S V) (cluster : Cluster) (log : List Happening) (all : List Made) (view : View S V) (to : ℕ) (old : Contents) (request : Request) (tell : Tell)

@@ -9,7 +9,9 @@ use Rattle.cas_quorum.specs.Era.{majority_era}
 use Rattle.cas_ballot.proofs.CountLemmas.{union_within, IsWithin-same}
 use Rattle.cas_model.specs.Council.{Council, exchange_place, reserved_by}
 use Rattle.cas_model.specs.Eras.Course.{HasFewMembers}
+use Rattle.cas_model.specs.Exchanges.Tellings.{AreToldAnswers, StopsUndone, WasToldSo}
 use Rattle.cas_model.specs.Safe.{IsAskingSafe, IsCouncilSafe, IsCollectingIn, IsSound}
+use Rattle.cas_model.proofs.Exchanges.Tellings.{floor_marks}
 use Rattle.cas_model.proofs.Eras.SafeListings.{no_listings, none_asks}
 use Rattle.cas_model.specs.SafeLaws.{OpeningsAreSafe, OpeningsOnAreSafe}
 use Rattle.cas_model.specs.View.{Meaning, CallerView, IsAt, new_caller, reserved_in, reserved_of, era_at, era_in}
@@ -47,6 +49,7 @@ opens_on_are_safe {S} {V} m members used floors view is places = record {
   sound = sound;
   course = is_on_course m members used floors view is;
   collection = subst (λ (c : Council). IsCollectingIn c (era_at view 0) view.last_proposer) (sym is.council) (record { each = λ collection none. absurd (cc none); exchange = λ exchange none asks. absurd (cc none) });
+  tellings = record { marked = subst AreToldAnswers (sym is.marks) (floor_marks floors); last = subst (λ (c : Council). WasToldSo StopsUndone c.order) (sym is.council) tt };
 }
   where
     sound : IsSound view

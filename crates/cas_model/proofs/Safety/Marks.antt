@@ -3,13 +3,14 @@ use Rattle.std.proofs.Common.{◌≡◌, ◌≤◌, ℕ, zero, suc, List, [], �
 use Rattle.std.specs.Prelude.{◌+◌, ◌*◌, length, slice_set}
 use Rattle.cas_flow.specs.Flow.{queue_at}
 use Rattle.cas_flow.specs.Queue.{QueueView}
+use Rattle.cas_quorum.specs.declared.era.Era.{Era}
 use Rattle.cas_record.proofs.Logs.Eras.{le_or_lt}
 use Rattle.cas_model.specs.Collection.State.{CollectionView, reserved_for_collection}
-use Rattle.cas_model.specs.Council.{ExchangeView, OrderView, exchange_place, reserved_for_order, reserved_for_exchange, reserved_by}
+use Rattle.cas_model.specs.Council.{ExchangeView, OrderView, exchange_place, reserved_for_order, marks_of_read, reserved_for_exchange, reserved_by}
 use Rattle.cas_model.specs.Safe.{IsAskingSafe, IsSafe, IsSound}
 use Rattle.cas_model.specs.SafeLaws.{LittleIsReserved, FullForRounds, FullForExchanges}
 use Rattle.cas_model.specs.Calls.Step.{most_marks}
-use Rattle.cas_model.specs.Exchanges.Step.{asked_by}
+use Rattle.cas_model.specs.Exchanges.Step.{asked_by, read_era}
 use Rattle.cas_model.specs.View.{View, CallerView, IsAt, new_caller, reserved_in, reserved_of, reserved_in_all, era_at}
 use Rattle.cas_model.proofs.Exchanges.Safe.{asked_few}
 use Rattle.cas_model.proofs.Safety.Parts.{at_low, low_at, few_round}
@@ -39,15 +40,19 @@ few_order : (order : Option OrderView) → reserved_for_order order ≤ 1
 few_order None = omega arith
 few_order (Some order) = omega arith
 
-few_asking : (exchange : Option ExchangeView) (queue : QueueView) → IsAskingSafe exchange queue → reserved_for_exchange exchange ≤ 9
+few_read : (reads : Option Era) (members : List ℕ) → length members ≤ 9 → marks_of_read reads members ≤ 10
+few_read None members few = omega arith
+few_read (Some era) members few = omega (arith, few)
+
+few_asking : (exchange : Option ExchangeView) (queue : QueueView) → IsAskingSafe exchange queue → reserved_for_exchange exchange ≤ 19
 few_asking None queue is = omega arith
-few_asking (Some exchange) queue is = is.few
+few_asking (Some exchange) queue is = omega (arith, is.few, few_read exchange.reads exchange.members is.few_members)
 
 few_collecting : (collection : Option CollectionView) → ((each : CollectionView) → collection ≡ Some each → each.reserved ≤ 1) → reserved_for_collection collection ≤ 1
 few_collecting None few = omega arith
 few_collecting (Some collection) few = few collection refl
 
-few_by : {S V : Type 0} (view : View S V) → IsSafe view → reserved_by view.council ≤ 11
+few_by : {S V : Type 0} (view : View S V) → IsSafe view → reserved_by view.council ≤ 21
 few_by view is =
     omega (
       arith,
@@ -64,7 +69,7 @@ pub full_for_rounds : {S V : Type 0} → FullForRounds S V
 full_for_rounds view id is full = omega (arith, full, freed view.callers id, few_calls view is.sound, few_by view is, few_round (era_at view id) (is.sound.few_members id))
 
 pub full_for_exchanges : {S V : Type 0} → FullForExchanges S V
-full_for_exchanges view question is full = elim (le_or_lt (length view.marks + reserved_in_all view + length (asked_by view question)) most_marks) [
+full_for_exchanges view question is full = elim (le_or_lt (length view.marks + reserved_in_all view + length (asked_by view question) + marks_of_read (read_era view question) (asked_by view question)) most_marks) [
   | inl low ↦ absurd (full low)
-  | inr more ↦ omega (arith, more, few_calls view is.sound, few_by view is, asked_few view question (is.sound.few_members 0))
+  | inr more ↦ omega (arith, more, few_calls view is.sound, few_by view is, asked_few view question (is.sound.few_members 0), few_read (read_era view question) (asked_by view question) (asked_few view question (is.sound.few_members 0)))
 ]

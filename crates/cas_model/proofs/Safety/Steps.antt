@@ -1,5 +1,5 @@
 -- Whatever is called on a cluster that is safe, it is safe then.
-use Rattle.std.proofs.Common.{◌≡◌, ℕ, Option, None, Some, refl, sym, ap, subst, ◌∙◌}
+use Rattle.std.proofs.Common.{◌≡◌, ℕ, Option, None, Some, refl, sym, ap, subst, ◌∙◌, arith}
 use Rattle.std.specs.Prelude.{◌==◌, Bool, true, false, if◌then◌else◌}
 use Rattle.cas_ballot.specs.Members.{IsMemberSet}
 use Rattle.cas_proposer.specs.Desk.{DeskView}
@@ -10,6 +10,7 @@ use Rattle.cas_record.specs.declared.operator.OpAnswer.{OpAnswer}
 use Rattle.cas_model.specs.Council.{PlanView}
 use Rattle.cas_model.specs.Eras.Course.{HasFewMembers, course_of, next_era, shown_era, era_shown, CourseIsUnderWay, IsCourse}
 use Rattle.cas_model.specs.Exchanges.Step.{told_view}
+use Rattle.cas_model.specs.Exchanges.Tellings.{StopsUndone}
 use Rattle.cas_model.specs.Calls.Desks.{Crashes}
 use Rattle.cas_model.specs.Stops.Step.{CrashesDesk, broken_off_view, closed_by_crash}
 use Rattle.cas_model.specs.Safe.{IsSound, IsCollectingSafe, IsSafe}
@@ -23,10 +24,11 @@ use Rattle.cas_model.proofs.Collection.Safe as collect
 use Rattle.cas_model.proofs.Collection.SafeCollecting.{frame_of, same_collecting, told_collecting, begin_frame, refuse_collecting, turn_frame, no_room_frame, propose_frame, count_frame, end_collecting, stray_frame, stop_frame, start_frame, left_frame, broken_collecting, down_collecting, restart_collecting, order_collecting, tell_collecting, ask_collecting, turn_collecting, gather_collecting, open_collecting, enter_collecting}
 use Rattle.cas_model.proofs.Collection.SafeCollections as steps
 use Rattle.cas_model.proofs.Exchanges.Safe as council
+use Rattle.cas_model.proofs.Exchanges.Tellings.{tellings_safe, crashed_desk_tellings, broken_off_tellings, told_tellings}
 use Rattle.cas_model.proofs.Eras.Safe.{open_safe, enter_safe}
 use Rattle.cas_model.proofs.Frames.Safe.{turns_safe}
 use Rattle.cas_model.proofs.Eras.CourseSteps.{stays_on_course}
-use Rattle.cas_model.proofs.Eras.Courses.{leads}
+use Rattle.cas_model.proofs.Eras.Courses.{course_meets, leads}
 use Rattle.cas_model.proofs.Eras.OnCourse.{left_course}
 
 -- the members of the next era are sets
@@ -67,7 +69,7 @@ sound m old (step.RestartProposer id) new is by = restarts_proposer_safe m old i
 sound m old (step.Order asked) new is by = council.order_safe old asked new is.sound by
 sound m old step.RefuseOrder new is by = subst IsSound (sym by) is.sound
 sound m old (step.Tell answer) new is by = council.tell_safe old answer new is.sound by
-sound m old (step.AskAll question) new is by = council.ask_safe m old question new is.sound by
+sound m old (step.AskAll question) new is by = council.ask_safe m old question new (is.course.sized 0 (omega arith)) (course_meets (course_of old) 0 (omega arith) is.course) is.sound by
 sound m old (step.TurnExchange verdict) new is by = council.turn_exchange_safe m old verdict new is.sound by
 sound m old step.RefuseTurnExchange new is by = council.refuse_exchange_safe m old new is.sound by
 sound m old step.Gather new is by = council.gather_safe old new is.sound by
@@ -104,7 +106,8 @@ collection {S} {V} m old step.RefuseOrder new is by = same_collecting old new (a
 collection m old (step.Tell answer) new is by = tell_collecting old new answer by
 collection m old (step.AskAll question) new is by = ask_collecting m old new question by is.collection
 collection m old (step.TurnExchange verdict) new is by = turn_collecting m old new verdict by is.collection
-collection {S} {V} m old step.RefuseTurnExchange new is by = same_collecting (told_view by.middle _) new (ap frame_of by.view) (told_collecting by.middle _ (same_collecting old by.middle (no_room_frame m old by.middle by.refuses) is.collection))
+collection {S} {V} m old step.RefuseTurnExchange new is by =
+    same_collecting (told_view by.middle _) new (ap frame_of by.view) (told_collecting by.middle _ (same_collecting old by.middle (no_room_frame m old by.middle by.refuses) is.collection))
 collection m old step.Gather new is by = gather_collecting old new by is.collection
 collection {S} {V} m old step.RefuseKey new is by = same_collecting (told_view old _) new (ap frame_of by.view) (told_collecting old _ is.collection)
 collection m old step.OpenPlan new is by = open_collecting m old new by is.collection
@@ -120,7 +123,7 @@ collection m old step.GatherCollect new is by = steps.gather_collect_collecting 
 collection m old step.MakeFloor new is by = steps.floor_collecting old new by is.collection
 
 pub steps_are_safe : {S V : Type 0} (m : Meaning S V) → StepsAreSafe m
-steps_are_safe m old event new was by = record { sound = sound m old event new was by; course = stays_on_course m old new event by was.course; collection = collection m old event new was by }
+steps_are_safe m old event new was by = record { sound = sound m old event new was by; course = stays_on_course m old new event by was.course; collection = collection m old event new was by; tellings = tellings_safe m old event new by was.tellings }
 
 -- ---- parts of calls
 -- a desk crashes
@@ -130,12 +133,13 @@ crashed_desk_safe {S} {V} m old id new was by = record {
       (λ desk now crash. (ap (λ (d : DeskView V). d.id) crash.crashed, ap (λ (d : DeskView V). d.round) crash.crashed, crashed_fit desk now (ap (λ (d : DeskView V). d.cache) crash.crashed))) was.sound by;
   course = subst IsCourse (sym (left_course (Crashes m.disks) closed_by_crash old new id by)) was.course;
   collection = same_collecting old new (left_frame (Crashes m.disks) closed_by_crash old new id by) was.collection;
+  tellings = crashed_desk_tellings m old id new by was.tellings;
 }
 
 -- an exchange, if one is open, is broken off
 pub broken_safe : {S V : Type 0} (old : View S V) → IsSafe old → IsSafe (broken_off_view old)
-broken_safe old was = record { sound = broken_off_safe old was.sound; course = was.course; collection = broken_collecting old was.collection }
+broken_safe old was = record { sound = broken_off_safe old was.sound; course = was.course; collection = broken_collecting old was.collection; tellings = broken_off_tellings old was.tellings }
 
 -- the open call is told something
-pub told_safe : {S V : Type 0} (old : View S V) (answer : OpAnswer) → IsSafe old → IsSafe (told_view old answer)
-told_safe old answer was = record { sound = council.told_view_safe old answer was.sound; course = was.course; collection = told_collecting old answer was.collection }
+pub told_safe : {S V : Type 0} (old : View S V) (answer : OpAnswer) → StopsUndone answer → IsSafe old → IsSafe (told_view old answer)
+told_safe old answer undone was = record { sound = council.told_view_safe old answer was.sound; course = was.course; collection = told_collecting old answer was.collection; tellings = told_tellings old answer undone was.tellings }

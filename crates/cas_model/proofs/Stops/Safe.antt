@@ -335,6 +335,9 @@ broken_safe (Some exchange) queue was = record {
   harmed_within = was.harmed_within;
   reserved = was.reserved;
   few = was.few;
+  few_members = was.few_members;
+  tellers = was.tellers;
+  read = was.read;
   room = omega arith;
 }
 

@@ -208,7 +208,7 @@ pub record MayAskCollect {S V : Type 0} (old : View S V) (desk : DeskView V) : T
 pub data AsksCollect {S V : Type 0} (m : Meaning S V) (old : View S V) (at : CollectingAt old.council) (desk : DeskView V) (new : View S V) : Type 0 where
   asks : (question : Question) (flow : FlowView) → desk.down ≡ false → IsQuestionOf at.collection question → HasRoomToAsk old question → (m.disks.tells → IsAged m.disks (kept_of desk.vault).age desk.vault)
       → Sends old.flow exchange_place (questions_to (kept_of desk.vault).age (tomb_of at.collection.tombstone) question (everyone old)) flow
-      → new ≡ with_council (record old { flow = flow }) (record old.council { exchange = Some (new_exchange question (tomb_of at.collection.tombstone) (everyone old) (length old.marks)) }) → AsksCollect m old at desk new
+      → new ≡ with_council (record old { flow = flow }) (record old.council { exchange = Some (new_exchange question (tomb_of at.collection.tombstone) (everyone old) (length old.marks) None) }) → AsksCollect m old at desk new
   is_down : desk.down ≡ true → new ≡ told_view old (told.Stopped answer.Down) → AsksCollect m old at desk new
   is_full : (question : Question) → desk.down ≡ false → IsQuestionOf at.collection question → (HasRoomToAsk old question → ⊥) → new ≡ told_view old (told.Stopped answer.RecordFull) → AsksCollect m old at desk new
   no_memory : desk.down ≡ false → new ≡ told_view old (told.Stopped (answer.NoMemory false)) → AsksCollect m old at desk new

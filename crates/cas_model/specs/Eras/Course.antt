@@ -6,7 +6,7 @@ use Rattle.cas_members.specs.declared.plan.PlanStep.{PlanStep}
 use Rattle.cas_members.specs.declared.plan.PlanStep.TheVariants.{Settle, Enter}
 use Rattle.cas_members.specs.Plan.{HasOneSet, eras_in}
 use Rattle.cas_quorum.specs.declared.era.Era.{Era}
-use Rattle.cas_quorum.specs.Era.{IsSized}
+use Rattle.cas_quorum.specs.Era.{IsSized, NeighboursMeet}
 use Rattle.cas_record.specs.declared.mark.Mark.{Mark}
 use Rattle.cas_record.specs.declared.mark.Mark.TheVariants.{EraEntered}
 use Rattle.cas_record.specs.declared.operator.Asked.{Asked}
@@ -132,11 +132,12 @@ pub data WorksIn (plan : PlanView) (id : ℕ) (era : Era) : Type 0 where
   not_yet : plan.entered ≤ id → era ≡ plan.progress.era → WorksIn plan id era
   entered : entering plan.progress.left ≡ Some era → WorksIn plan id era
 
--- With one, its steps are a path from the era that all entered last to one as it was asked for. Some proposers may work in the next one,
--- but not all are marked so.
+-- With one, its steps are a path from the era that all entered last to one as it was asked for, and quorums of these eras meet. Some
+-- proposers may work in the next one, but not all are marked so.
 pub record EraIsMoving (course : Course) (plan : PlanView) : Type 0 where
   pub start : IsStart plan.progress.era plan.progress.left
   pub leads : IsAskedEra plan.asked (last_era plan.progress.era (eras_in plan.progress.left))
+  pub meets : NeighboursMeet (plan.progress.era ∷ eras_in plan.progress.left)
   pub some_left : plan.entered ≤ course.last_proposer
   pub none_entered : entering plan.progress.left ≡ None → plan.entered ≡ 0
   pub each : (id : ℕ) → id ≤ course.last_proposer → WorksIn plan id (era_in course.eras id)

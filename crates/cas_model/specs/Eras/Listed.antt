@@ -54,8 +54,8 @@ IsPlanTrue cluster log None = ⊤
 IsPlanTrue cluster log (Some plan) = IsPlanKnown cluster log plan
 
 -- ---- all of it
-abbrev pub IsAskingTrue : List Happening → Option ExchangeView → Type 0
-IsAskingTrue log open_ = (exchange : ExchangeView) → open_ ≡ Some exchange → IsExchangeTrue log exchange
+abbrev pub IsAskingTrue : Cluster → List Happening → Option ExchangeView → Type 0
+IsAskingTrue cluster log open_ = (exchange : ExchangeView) → open_ ≡ Some exchange → IsExchangeTrue cluster log exchange
 
 -- who is a member of an era of the cluster is among those who were used
 pub record AreUsed (cluster : Cluster) (used : List ℕ) : Type 0 where
@@ -63,4 +63,4 @@ pub record AreUsed (cluster : Cluster) (used : List ℕ) : Type 0 where
   pub members : (era acceptor : ℕ) → has_member (cluster.members era) acceptor ≡ true → has_member used acceptor ≡ true
 
 abbrev pub IsCouncilTrue : Cluster → List Happening → Council → Type 0
-IsCouncilTrue cluster log council = IsAskingTrue log council.exchange × IsPlanTrue cluster log council.plan × AreUsed cluster council.used × IsCollectingTrue cluster log council.collection
+IsCouncilTrue cluster log council = IsAskingTrue cluster log council.exchange × IsPlanTrue cluster log council.plan × AreUsed cluster council.used × IsCollectingTrue cluster log council.collection

@@ -1,6 +1,6 @@
 -- What the operator's calls do to a cluster, and the exchange in which proposer 0 asks all members.
 use Rattle.std.specs.Option.{option_map_or}
-use Rattle.std.specs.Prelude.{◌≡◌, ℕ, ◌&&◌, not, is_none, position, slice_set, ◌+◌, ◌-◌, ◌^◌, ◌<◌, ◌≤◌, ◌==◌, Bool, true, false, if◌then◌else◌, List, [], ◌∷◌, length, map, Option, None, Some, option_map, slice_get}
+use Rattle.std.specs.Prelude.{◌≡◌, ℕ, ◌&&◌, not, is_none, position, slice_set, ◌+◌, ◌-◌, ◌^◌, ◌<◌, ◌≤◌, ◌==◌, Bool, true, false, if◌then◌else◌, List, [], ◌∷◌, length, map, Option, None, Some, option_map, reverse, slice_get}
 use Rattle.cas_ballot.specs.declared.ballot.Ballot.{Ballot}
 use Rattle.cas_ballot.specs.Members.{members_where, has_member, with_member, union_of}
 use Rattle.cas_fate.specs.declared.fate.Verdict.{Verdict}
@@ -15,6 +15,7 @@ use Rattle.cas_collect.specs.declared.collect.CollectStep.TheVariants.{End}
 use Rattle.cas_members.specs.declared.plan.PlanStep.TheVariants.{Settle}
 use Rattle.cas_members.specs.Plan.{next_of}
 use Rattle.cas_proposer.specs.Desk.{DeskView}
+use Rattle.cas_quorum.specs.declared.era.Era.{Era}
 use Rattle.cas_slot.specs.declared.message.Reply.{Reply}
 use Rattle.cas_slot.specs.declared.message.Request.{Request}
 use Rattle.cas_vault.specs.Vault.{counter_of, kept_of}
@@ -29,8 +30,9 @@ use Rattle.cas_record.specs.declared.operator.OpAnswer.TheVariants as told
 use Rattle.cas_record.specs.declared.operator.Probe.{Probe as ProbeOf}
 use Rattle.cas_record.specs.declared.operator.Probes.{Probes}
 use Rattle.cas_model.specs.Collection.State.{CollectionView, tomb_of}
-use Rattle.cas_model.specs.Council.{GoesOn, MemberPlace, ListingView, place_in, has_ended, Question, Probe, NextKeys, NewAges, Removal, ask_of, IsReplyTo, ExchangeView, OrderView, PlanView, Council, with_listing, at_rest, exchange_place, telling, hushed}
+use Rattle.cas_model.specs.Council.{GoesOn, MemberPlace, ListingView, place_in, has_ended, Question, Probe, NextKeys, NewAges, Removal, ask_of, IsReplyTo, ExchangeView, OrderView, PlanView, Council, with_listing, at_rest, exchange_place, marks_of_read, telling, hushed}
 use Rattle.cas_model.specs.Eras.Listings.{counted, ListsOn, missing, why_short}
+use Rattle.cas_model.specs.Exchanges.Read.{MarksRead}
 use Rattle.cas_model.specs.Parties.{IsAged}
 use Rattle.cas_model.specs.Frames.Acceptors.{AnswersByTable, StopsWithin}
 use Rattle.cas_model.specs.Calls.Step.{Sends, most_marks}
@@ -122,9 +124,10 @@ question_to age tag question to = record { to = to; from = 0; age = age; ask = a
 abbrev pub questions_to : ℕ → Ballot → Question → List ℕ → List Message
 questions_to age tag question members = map (λ to. message.Request (question_to age tag question to)) members
 
--- the probe of the key was asked for
+-- the probe of the key was asked for, or its read
 abbrev pub IsProbeOf : Asked → List ℕ → Type 0
 IsProbeOf (asked.Probe key) k = key ≡ k
+IsProbeOf (asked.Read key) k = key ≡ k
 IsProbeOf other k = ⊥
 
 -- where a listing of these members begins, and where it goes on
@@ -147,13 +150,26 @@ IsForQuestion members council call asked (Probe key) = IsProbeOf asked key
 IsForQuestion members council call asked (NextKeys places) = (call ≡ None) × IsDueToList members council asked places
 IsForQuestion members council call asked other = ⊥
 
--- the marks of its harms fit
+-- whether the open call is to read the key of that probe
+abbrev pub asks_to_read : Asked → Bool
+asks_to_read (asked.Read key) = true
+asks_to_read other = false
+
+abbrev pub reads_by : Option OrderView → Question → Bool
+reads_by (Some order) (Probe key) = asks_to_read order.asked
+reads_by order question = false
+
+-- the era in which it is read
+abbrev pub read_era : {S V : Type 0} → View S V → Question → Option Era
+read_era view question = if reads_by view.council.order question then Some (era_at view 0) else None
+
+-- the marks of its harms fit, and those of a read
 abbrev pub HasRoomToAsk : {S V : Type 0} → View S V → Question → Type 0
-HasRoomToAsk view question = length view.marks + reserved_in_all view + length (asked_by view question) ≤ most_marks
+HasRoomToAsk view question = length view.marks + reserved_in_all view + length (asked_by view question) + marks_of_read (read_era view question) (asked_by view question) ≤ most_marks
 
 -- what the exchange is at first, which is asked behind so many marks
-abbrev pub new_exchange : Question → Ballot → List ℕ → ℕ → ExchangeView
-new_exchange question tag members since = record { question = question; tag = tag; members = members; since = since; told = map (λ member. record { acceptor = member; told = None }) members; harmed = []; reserved = length members; crashed = false }
+abbrev pub new_exchange : Question → Ballot → List ℕ → ℕ → Option Era → ExchangeView
+new_exchange question tag members since reads = record { question = question; tag = tag; members = members; since = since; told = map (λ member. record { acceptor = member; told = None }) members; harmed = []; reserved = length members; crashed = false; reads = reads }
 
 -- the listing that goes on, where one does
 abbrev pub listing_in : Option PlanView → Option ListingView
@@ -205,7 +221,7 @@ pub record MayAskAll {S V : Type 0} (old : View S V) (question : Question) (desk
 pub data AsksAll {S V : Type 0} (m : Meaning S V) (old : View S V) (question : Question) (desk : DeskView V) (new : View S V) : Type 0 where
   asks : (now : DeskView V) (tag : Ballot) (flow : FlowView) → desk.down ≡ false → HasRoomToAsk old question → TagsAll m.disks (listing_for old.council question) desk now tag → now ≡ record desk { vault = now.vault }
       → Sends old.flow exchange_place (questions_to (kept_of desk.vault).age tag question (asked_by old question)) flow
-      → new ≡ with_council (record (with_desk old 0 now) { flow = flow }) (record old.council { exchange = Some (new_exchange question tag (asked_by old question) (length old.marks)); plan = plan_asked question tag old.council.plan }) → AsksAll m old question desk new
+      → new ≡ with_council (record (with_desk old 0 now) { flow = flow }) (record old.council { exchange = Some (new_exchange question tag (asked_by old question) (length old.marks) (read_era old question)); plan = plan_asked question tag old.council.plan }) → AsksAll m old question desk new
   is_down : desk.down ≡ true → new ≡ told_view old (told.Stopped answer.Down) → AsksAll m old question desk new
   is_full : desk.down ≡ false → (HasRoomToAsk old question → ⊥) → new ≡ told_view old (told.Stopped answer.RecordFull) → AsksAll m old question desk new
   is_spent : (now : DeskView V) → desk.down ≡ false → WhereDrawn (listing_for old.council question) (counter_of desk.vault ≡ 2 ^ 48) → HasKept m.disks desk.vault now.vault → now ≡ record desk { vault = now.vault }
@@ -295,11 +311,13 @@ abbrev pub listed_view : {S V : Type 0} → View S V → PlanView → ListingVie
 listed_view view plan listing = with_council view (record (hushed view.council) { exchange = None; plan = Some (with_listing plan listing) })
 
 -- ---- what it told
--- Proposer 0 crashed within it, or each member was asked; or no memory is found for what it told, and it stays. A listing goes on, or so
--- few members count that a quorum is missing.
+-- Proposer 0 crashed within it, or each member was asked; or no memory is found for what it told, and it stays. What a read found may be
+-- acknowledged. A listing goes on, or so few members count that a quorum is missing.
 pub data Gathers {S V : Type 0} (old : View S V) (exchange : ExchangeView) (new : View S V) : Type 0 where
   crashed : exchange.crashed ≡ true → new ≡ gathered old (told.Stopped answer.Crashed) → Gathers old exchange new
-  probed : (key : List ℕ) (found : Probes) → exchange.crashed ≡ false → exchange.question ≡ Probe key → found.probes.items ≡ exchange.told → new ≡ gathered old (told.Probed key found) → Gathers old exchange new
+  probed : (key : List ℕ) (found : Probes) → exchange.crashed ≡ false → exchange.question ≡ Probe key → exchange.reads ≡ None → found.probes.items ≡ exchange.told → new ≡ gathered old (told.Probed key found) → Gathers old exchange new
+  read : (key : List ℕ) (era : Era) (found : Probes) (marks : List Mark) → exchange.crashed ≡ false → exchange.question ≡ Probe key → exchange.reads ≡ Some era → found.probes.items ≡ exchange.told → MarksRead era key exchange.told (reverse old.marks) marks
+      → new ≡ with_marks (gathered old (told.Probed key found)) marks → Gathers old exchange new
   lists : (of : ListsFor old exchange) (listing : ListingView) → exchange.crashed ≡ false → missing (era_at old 0) (counted exchange.told of.listing.places) ≡ None → ListsOn (era_at old 0) exchange.told of.listing listing
       → new ≡ listed_view old of.plan listing → Gathers old exchange new
   is_short : (of : ListsFor old exchange) (short : Answer) → exchange.crashed ≡ false → missing (era_at old 0) (counted exchange.told of.listing.places) ≡ Some short

@@ -206,7 +206,8 @@ gather_passes {S} {V} old new id by = in_gather by.gathers
   where
     in_gather : council.Gathers old by.at.exchange new → Something old new id
     in_gather (council.crashed crashed is) = same_desks old new id (ap (λ (w : View S V). w.desks) is)
-    in_gather (council.probed key found up question found_is is) = same_desks old new id (ap (λ (w : View S V). w.desks) is)
+    in_gather (council.probed key found up question plain found_is is) = same_desks old new id (ap (λ (w : View S V). w.desks) is)
+    in_gather (council.read key era found marks up question reads found_is counts is) = same_desks old new id (ap (λ (w : View S V). w.desks) is)
     in_gather (council.lists of listing up enough on is) = same_desks old new id (ap (λ (w : View S V). w.desks) is)
     in_gather (council.is_short of short up missing is) = same_desks old new id (ap (λ (w : View S V). w.desks) is)
     in_gather (council.no_memory up is) = same_desks old new id (ap (λ (w : View S V). w.desks) is)

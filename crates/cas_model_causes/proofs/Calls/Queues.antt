@@ -280,7 +280,8 @@ gather_stays {S} {V} old new id by = in_gather by.gathers
   where
     in_gather : council.Gathers old by.at.exchange new → Stays old new id
     in_gather (council.crashed crashed is) = stays_same old new id (ap (λ (w : View S V). w.flow) is) (ap (λ (w : View S V). w.callers) is)
-    in_gather (council.probed key found up question found_is is) = stays_same old new id (ap (λ (w : View S V). w.flow) is) (ap (λ (w : View S V). w.callers) is)
+    in_gather (council.probed key found up question plain found_is is) = stays_same old new id (ap (λ (w : View S V). w.flow) is) (ap (λ (w : View S V). w.callers) is)
+    in_gather (council.read key era found marks up question reads found_is counts is) = stays_same old new id (ap (λ (w : View S V). w.flow) is) (ap (λ (w : View S V). w.callers) is)
     in_gather (council.lists of listing up enough on is) = stays_same old new id (ap (λ (w : View S V). w.flow) is) (ap (λ (w : View S V). w.callers) is)
     in_gather (council.is_short of short up missing is) = stays_same old new id (ap (λ (w : View S V). w.flow) is) (ap (λ (w : View S V). w.callers) is)
     in_gather (council.no_memory up is) = stays_same old new id (ap (λ (w : View S V). w.flow) is) (ap (λ (w : View S V). w.callers) is)

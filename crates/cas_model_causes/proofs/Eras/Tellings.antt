@@ -13,14 +13,15 @@ use Rattle.cas_model.specs.Collection.Laws.{HasItsFloor}
 use Rattle.cas_model.specs.History.{IsRemembered}
 use Rattle.cas_model.specs.Safe.{IsSafe}
 use Rattle.cas_model.specs.SafeLaws.{HaveAllEntered, HaveEnteredIts}
+use Rattle.cas_model.specs.Exchanges.Tellings.{WasToldSo}
 use Rattle.cas_model.specs.Step.{Event, Step}
 use Rattle.cas_model.specs.Exchanges.Step as council
 use Rattle.cas_model.specs.Exchanges.Step.{StepTell, SaysTheSame, told_marks}
 use Rattle.cas_model.specs.View.{Meaning, View}
 use Rattle.cas_model.proofs.Collection.Laws.{collected_floors}
 use Rattle.cas_model.proofs.Eras.Finishing.{finished_have_entered}
-use Rattle.cas_model_causes.specs.Eras.Tellings.{HaveAllMoved, IsSo, AreTellingsSo, IsPassing, IsPassingBy, TellingsAreTrue, StepsTellTruly}
-use Rattle.cas_model_causes.proofs.Marks.{IsPlain, ArePlain, Adds, adds_by, tells_or_not}
+use Rattle.cas_model_causes.specs.Eras.Tellings.{HaveAllMoved, IsSo, AreTellingsSo, IsPassing, TellingsAreTrue, StepsTellTruly}
+use Rattle.cas_model.proofs.Marks.{IsPlain, ArePlain, Adds, adds_by, tells_or_not}
 
 -- ---- marks
 -- it is the newest one, or stands behind it
@@ -114,12 +115,12 @@ module _ {S V : Type 0} (m : Meaning S V) (old new : View S V) (were : TellingsA
   tells_so asks answer so last_proposer none marks = elim (told_more old.marks asks answer) [
     | inl unmarked ↦ let same : new.marks ≡ old.marks = marks ∙ ap (λ (l : List Mark). old.marks ++ l) unmarked ∙ append-nil old.marks in record {
       tellings = as_many last_proposer (subst (λ (l : List Mark). AreTellingsSo P (reverse l)) (sym same) were.tellings);
-      passing = subst IsPassingBy (sym none) tt;
+      passing = subst (WasToldSo IsPassing) (sym none) tt;
     }
     | inr marked ↦ let more : reverse new.marks ≡ Told asks answer ∷ reverse old.marks = ap (λ (l : List Mark). reverse l) (marks ∙ ap (λ (l : List Mark). old.marks ++ l) marked) ∙ pushed old.marks (Told asks answer) in record {
       tellings = as_many last_proposer
           (subst (AreTellingsSo P) (sym more) (so_pushed P (reverse old.marks) (Told asks answer) (λ asked_ answer_ is. subst (λ (a : OpAnswer). IsSo P a (reverse old.marks)) (answer_of is) so) were.tellings));
-      passing = subst IsPassingBy (sym none) tt;
+      passing = subst (WasToldSo IsPassing) (sym none) tt;
     }
   ]
     where
@@ -146,7 +147,7 @@ module _ {S V : Type 0} (m : Meaning S V) (old new : View S V) (were : TellingsA
 
   told_then : (answer : OpAnswer) → IsSafe old → IsRemembered m old → StepTell old answer new → TellingsAreTrue new
   told_then answer safe remembered (council.tells order said is_open was says is) =
-      tells_so order.asked answer (passing_so P answer (reverse old.marks) (same_passing said answer says (subst (λ (o : Option OpAnswer). IfSome o IsPassing) was (subst IsPassingBy is_open were.passing))))
+      tells_so order.asked answer (passing_so P answer (reverse old.marks) (same_passing said answer says (subst (λ (o : Option OpAnswer). IfSome o IsPassing) was (subst (WasToldSo IsPassing) is_open were.passing))))
       (ap (λ (v : View S V). v.last_proposer) is) (ap (λ (v : View S V). v.council.order) is) (ap (λ (v : View S V). v.marks) is)
   told_then answer safe remembered (council.finishes order is_open by is) =
       tells_so order.asked answer (finished_so order.asked answer by.plan.progress.era.number by.plan.rescanned by.tells (finished_have_entered old order answer safe by))
@@ -155,7 +156,7 @@ module _ {S V : Type 0} (m : Meaning S V) (old new : View S V) (were : TellingsA
       tells_so order.asked answer (subst (λ (a : OpAnswer). IsSo P a (reverse old.marks)) (sym by.tells) (subst (λ (a : OpAnswer). HasItsFloor a (reverse old.marks)) by.tells (collected_floors m old order answer remembered by)))
       (ap (λ (v : View S V). v.last_proposer) is) (ap (λ (v : View S V). v.council.order) is) (ap (λ (v : View S V). v.marks) is)
 
-  added_then : Adds old new → TellingsAreTrue new
+  added_then : Adds IsPassing old new → TellingsAreTrue new
   added_then adds = record {
     tellings = as_many adds.last_proposer (subst (λ (l : List Mark). AreTellingsSo P (reverse l)) (sym adds.marks) (plain_so P old.marks adds.more adds.plain were.tellings));
     passing = adds.passing were.passing;
@@ -165,5 +166,5 @@ module _ {S V : Type 0} (m : Meaning S V) (old new : View S V) (were : TellingsA
 pub steps_tell_truly : {S V : Type 0} (m : Meaning S V) → StepsTellTruly m
 steps_tell_truly m old event new safe remembered by were = elim (tells_or_not event) [
   | inl tells ↦ told_then m old new were tells.0 safe remembered (subst (λ (e : Event). Step m old e new) tells.1 by)
-  | inr untold ↦ added_then m old new were (adds_by m old event new untold by)
+  | inr untold ↦ added_then m old new were (adds_by IsPassing (λ answer passing undone. passing) m old event new untold by)
 ]

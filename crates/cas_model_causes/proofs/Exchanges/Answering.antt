@@ -48,6 +48,7 @@ use Rattle.cas_model.proofs.Safety.Parts.{desk_low, caller_low}
 use Rattle.cas_model_causes.specs.Exchanges.Answering.{IsAwaited, waits, was_harmed, IsHeardOut, IsHearing, IsAnswering, ClustersAnswer, SilentAreHarmed}
 use Rattle.cas_model_causes.proofs.Calls.Queues.{begin_stays, no_begin_stays, propose_stays, count_stays, end_stays, left_stays, turn_waits, no_room_stays, no_turn_stays, stray_stays, restart_stays}
 use Rattle.cas_model_causes.proofs.Exchanges.Tellers.{tellers_stay, silent_before, asked_tellers, asked_at, silent_within}
+use Rattle.cas_quorum.specs.declared.era.Era.{Era}
 
 -- ---- where neither the exchange nor its frames change
 pub record IsUntouched {S V : Type 0} (old new : View S V) : Type 0 where
@@ -93,7 +94,8 @@ refuse_same {S} {V} m old new id key by = record { exchange = by_case by; waits 
   where
     by_case : calls.RefusesCall m old id key new → new.council.exchange ≡ old.council.exchange
     by_case (calls.stays told next why rescan is) = ap (λ (w : View S V). w.council.exchange) is ∙ rescans_same old.council id key told next rescan
-    by_case (calls.loses caller desk now ballot next at_caller at_desk none up loses rescan is) = ap (λ (w : View S V). w.council.exchange) is ∙ rescans_same old.council id key (answer.NoMemory false) next rescan
+    by_case (calls.loses caller desk now ballot next at_caller at_desk none up loses rescan is) =
+        ap (λ (w : View S V). w.council.exchange) is ∙ rescans_same old.council id key (answer.NoMemory false) next rescan
 
 pub turn_same : {S V : Type 0} (m : Meaning S V) (old new : View S V) (id : ℕ) (v : Verdict) → IsSound old → StepTurn m old id v new → IsUntouched old new
 turn_same m old new id v sound by = record {
@@ -132,11 +134,13 @@ stray_same m old new index by = record { exchange = framed old new (stray_frame 
 pub start_same : {S V : Type 0} (m : Meaning S V) (old new : View S V) (id : ℕ) → StepRestartAcceptor m old id new → IsUntouched old new
 start_same m old new id by = record { exchange = framed old new (start_frame m old new id by); waits = (restart_stays m old new exchange_place id by).waits }
 
-leaves_low : {S V : Type 0} (DeskTurns : DeskView V → DeskView V → Type 0) (closed : CallView → CallView) (old new : View S V) (id : ℕ) → IsSound old → LeavesRound DeskTurns closed old id new → id ≤ 16
+leaves_low : {S V : Type 0} (DeskTurns : DeskView V → DeskView V → Type 0) (closed : CallView → CallView) (old new : View S V) (id : ℕ) → IsSound old → LeavesRound DeskTurns closed old id new
+    → id ≤ 16
 leaves_low DeskTurns closed old new id sound (stops.idle desk now at none turns is) = desk_low old id desk sound at
 leaves_low DeskTurns closed old new id sound (stops.closes desk now round of_call at is_round turns is) = desk_low old id desk sound at
 
-pub left_same : {S V : Type 0} (DeskTurns : DeskView V → DeskView V → Type 0) (closed : CallView → CallView) (old new : View S V) (id : ℕ) → IsSound old → LeavesRound DeskTurns closed old id new → IsUntouched old new
+pub left_same : {S V : Type 0} (DeskTurns : DeskView V → DeskView V → Type 0) (closed : CallView → CallView) (old new : View S V) (id : ℕ) → IsSound old → LeavesRound DeskTurns closed old id new
+    → IsUntouched old new
 left_same DeskTurns closed old new id sound by = record {
   exchange = framed old new (left_frame DeskTurns closed old new id by);
   waits = (left_stays DeskTurns closed old new exchange_place id (elsewhere id (leaves_low DeskTurns closed old new id sound by)) by).waits;
@@ -186,7 +190,8 @@ enter_answers {S} {V} m old new id sound by was = by_case by.enters
     by_case (plans.no_memory now room up kept now_is is) = still old new (alike old _ new is refl refl) was
 
 -- ---- collections
-pub begin_collect_same : {S V : Type 0} (m : Meaning S V) (old new : View S V) (key : List ℕ) → IsSound old → StepBeginCollect m (λ before after. StepBegin m before 0 key keep_always after) old key new → IsUntouched old new
+pub begin_collect_same : {S V : Type 0} (m : Meaning S V) (old new : View S V) (key : List ℕ) → IsSound old
+    → StepBeginCollect m (λ before after. StepBegin m before 0 key keep_always after) old key new → IsUntouched old new
 begin_collect_same {S} {V} m old new key sound by = by_case by.begins
   where
     by_case : collect.BeginsCollection m (λ before after. StepBegin m before 0 key keep_always after) old key by.may.order by.desk by.caller new → IsUntouched old new
@@ -217,25 +222,29 @@ renew_answers {S} {V} m old new id sound by was = by_case by.renews
     by_case (collect.no_memory now up finds is) = still old new (alike old _ new is refl refl) was
 
 -- ---- all members are asked
-asked_hears : (age : ℕ) (tag : Ballot) (question : Question) (tos : List ℕ) (since : ℕ) (waiting : List Message) → waiting ≡ questions_to age tag question tos → IsHeardOut (new_exchange question tag tos since) waiting
-asked_hears age tag question tos since waiting are = record {
+asked_hears : (age : ℕ) (tag : Ballot) (question : Question) (tos : List ℕ) (since : ℕ) (reads : Option Era) (waiting : List Message) → waiting ≡ questions_to age tag question tos
+    → IsHeardOut (new_exchange question tag tos since reads) waiting
+asked_hears age tag question tos since reads waiting are = record {
   tellers = asked_tellers tos;
   silent = λ up place one at none. waits (message.Request (question_to age tag question one.acceptor))
       (subst (λ (l : List Message). Contains l (message.Request (question_to age tag question one.acceptor))) (sym are) (asked_at (λ (to : ℕ). message.Request (question_to age tag question to)) tos place one at)) refl;
 }
 
 -- its queue was empty before
-sent_hears : {S V : Type 0} (old : View S V) (flow : FlowView) (age : ℕ) (tag : Ballot) (question : Question) (tos : List ℕ) → IsSound old → old.council.exchange ≡ None → calls.Sends old.flow exchange_place (questions_to age tag question tos) flow
-    → IsHeardOut (new_exchange question tag tos (length old.marks)) (queue_at flow exchange_place).messages
-sent_hears old flow age tag question tos sound none sends =
-    asked_hears age tag question tos (length old.marks) (queue_at flow exchange_place).messages (sends.own ∙ ap (λ (l : List Message). l ++ questions_to age tag question tos) (none_waiting old sound none))
+sent_hears : {S V : Type 0} (old : View S V) (flow : FlowView) (age : ℕ) (tag : Ballot) (question : Question) (tos : List ℕ) (reads : Option Era) → IsSound old → old.council.exchange ≡ None
+    → calls.Sends old.flow exchange_place (questions_to age tag question tos) flow
+    → IsHeardOut (new_exchange question tag tos (length old.marks) reads) (queue_at flow exchange_place).messages
+sent_hears old flow age tag question tos reads sound none sends =
+    asked_hears age tag question tos (length old.marks) reads (queue_at flow exchange_place).messages
+    (sends.own ∙ ap (λ (l : List Message). l ++ questions_to age tag question tos) (none_waiting old sound none))
 
 ask_answers : {S V : Type 0} (m : Meaning S V) (old new : View S V) (question : Question) → IsSound old → StepAskAll m old question new → IsAnswering old → IsAnswering new
 ask_answers {S} {V} m old new question sound by was = by_case by.asks
   where
     by_case : AsksAll m old question by.desk new → IsAnswering new
     by_case (council.asks now tag flow up room tagged is_now sends is) =
-        subst (λ (w : View S V). IsAnswering w) (sym is) (sent_hears old flow (kept_of by.desk.vault).age tag question (council.asked_by old question) sound by.may.none_open sends)
+        subst (λ (w : View S V). IsAnswering w) (sym is)
+        (sent_hears old flow (kept_of by.desk.vault).age tag question (council.asked_by old question) (council.read_era old question) sound by.may.none_open sends)
     by_case (council.is_down down is) = still old new (alike old _ new is refl refl) was
     by_case (council.is_full up full is) = still old new (alike old _ new is refl refl) was
     by_case (council.is_spent now up spent kept is_now is) = still old new (alike old _ new is refl refl) was
@@ -247,14 +256,16 @@ ask_collect_answers {S} {V} m old new sound by was = by_case by.asks
   where
     by_case : collect.AsksCollect m old by.may.at by.desk new → IsAnswering new
     by_case (collect.asks question flow up asks room aged sends is) =
-        subst (λ (w : View S V). IsAnswering w) (sym is) (sent_hears old flow (kept_of by.desk.vault).age (tomb_of by.may.at.collection.tombstone) question (council.everyone old) sound by.may.none_asked sends)
+        subst (λ (w : View S V). IsAnswering w) (sym is)
+        (sent_hears old flow (kept_of by.desk.vault).age (tomb_of by.may.at.collection.tombstone) question (council.everyone old) None sound by.may.none_asked sends)
     by_case (collect.is_down down is) = still old new (alike old _ new is refl refl) was
     by_case (collect.is_full question up asks full is) = still old new (alike old _ new is refl refl) was
     by_case (collect.no_memory up is) = still old new (alike old _ new is refl refl) was
 
 -- ---- a turn of the exchange
 -- who was harmed counts as harmed from then on
-harmed_then : (exchange : ExchangeView) (member a : ℕ) → IsMemberSet exchange.harmed → member < 64 → (has_member exchange.harmed a ≡ true) ⊎ (a ≡ member) → has_member (harmed_exchange exchange member).harmed a ≡ true
+harmed_then : (exchange : ExchangeView) (member a : ℕ) → IsMemberSet exchange.harmed → member < 64 → (has_member exchange.harmed a ≡ true) ⊎ (a ≡ member)
+    → has_member (harmed_exchange exchange member).harmed a ≡ true
 harmed_then exchange member a set low known = by_test (has_member exchange.harmed member) refl
   where
     in_set : has_member exchange.harmed member ≡ true → (has_member exchange.harmed a ≡ true) ⊎ (a ≡ member) → has_member exchange.harmed a ≡ true
@@ -274,7 +285,8 @@ harmed_then exchange member a set low known = by_test (has_member exchange.harme
     by_test false e = has-members_where (λ n. (n == member) || has_member exchange.harmed n) a (is_low known) ∙ passes known
 
 -- the frame in front was harmed
-harmed_hears : (exchange : ExchangeView) (waiting rest : List Message) (member : ℕ) → IsMemberSet exchange.harmed → member < 64 → Thins waiting rest member → IsHeardOut exchange waiting → IsHeardOut (harmed_exchange exchange member) rest
+harmed_hears : (exchange : ExchangeView) (waiting rest : List Message) (member : ℕ) → IsMemberSet exchange.harmed → member < 64 → Thins waiting rest member → IsHeardOut exchange waiting
+    → IsHeardOut (harmed_exchange exchange member) rest
 harmed_hears exchange waiting rest member set low thins was = record {
   tellers = was.tellers;
   silent = λ up place one at none. by_case one.acceptor (was.silent up place one at none);
@@ -288,7 +300,8 @@ harmed_hears exchange waiting rest member set low thins was = record {
     by_case a (was_harmed has) = was_harmed (harmed_then exchange member a set low (inl has))
 
 -- the request in front was answered, and its reply waits behind the others
-answered_hears : (exchange : ExchangeView) (waiting rest : List Message) (member : ℕ) (reply : Reply) → reply.from ≡ member → Thins waiting rest member → IsHeardOut exchange waiting → IsHeardOut exchange (rest ++ message.Reply reply ∷ [])
+answered_hears : (exchange : ExchangeView) (waiting rest : List Message) (member : ℕ) (reply : Reply) → reply.from ≡ member → Thins waiting rest member → IsHeardOut exchange waiting
+    → IsHeardOut exchange (rest ++ message.Reply reply ∷ [])
 answered_hears exchange waiting rest member reply from thins was = record {
   tellers = was.tellers;
   silent = λ up place one at none. by_case one.acceptor (was.silent up place one at none);
@@ -302,7 +315,8 @@ answered_hears exchange waiting rest member reply from thins was = record {
     by_case a (was_harmed has) = was_harmed has
 
 -- a reply arrives
-arrived_hears : (exchange : ExchangeView) (waiting rest : List Message) (reply : Reply) → IsMemberSet exchange.members → Thins waiting rest reply.from → IsHeardOut exchange waiting → IsHeardOut (record exchange { told = hears reply exchange.told }) rest
+arrived_hears : (exchange : ExchangeView) (waiting rest : List Message) (reply : Reply) → IsMemberSet exchange.members → Thins waiting rest reply.from → IsHeardOut exchange waiting
+    → IsHeardOut (record exchange { told = hears reply exchange.told }) rest
 arrived_hears exchange waiting rest reply set thins was = record {
   tellers = tellers_stay reply exchange.told ∙ was.tellers;
   silent = λ up place one at none.
@@ -370,7 +384,8 @@ gather_answers {S} {V} old new by was = by_case by.gathers
   where
     by_case : Gathers old by.at.exchange new → IsAnswering new
     by_case (council.crashed crashed is) = subst (λ (w : View S V). IsAnswering w) (sym is) tt
-    by_case (council.probed key found up question found_is is) = subst (λ (w : View S V). IsAnswering w) (sym is) tt
+    by_case (council.probed key found up question plain found_is is) = subst (λ (w : View S V). IsAnswering w) (sym is) tt
+    by_case (council.read key era found marks up question reads found_is counts is) = subst (λ (w : View S V). IsAnswering w) (sym is) tt
     by_case (council.lists of listing up enough on is) = subst (λ (w : View S V). IsAnswering w) (sym is) tt
     by_case (council.is_short of short up missing is) = subst (λ (w : View S V). IsAnswering w) (sym is) tt
     by_case (council.no_memory up is) = still old new (alike old _ new is refl refl) was
@@ -439,7 +454,8 @@ pub silent_are_harmed : {S V : Type 0} → SilentAreHarmed S V
 silent_are_harmed {S} {V} view exchange safe was is_open up none =
     let asking : IsExchangeSafe exchange (queue_at view.flow exchange_place) = subst (λ (e : Option ExchangeView). IsAskingSafe e (queue_at view.flow exchange_place)) is_open safe.sound.asking in
     let hearing : IsHeardOut exchange (queue_at view.flow exchange_place).messages = subst (λ (e : Option ExchangeView). IsHearing e (queue_at view.flow exchange_place).messages) is_open was in
-    silent_within exchange.members exchange.harmed exchange.told asking.member_set asking.harmed_set hearing.tellers (λ place one at silent. by_case one.acceptor (hearing.silent up place one at silent))
+    silent_within exchange.members exchange.harmed exchange.told asking.member_set asking.harmed_set hearing.tellers
+    (λ place one at silent. by_case one.acceptor (hearing.silent up place one at silent))
   where
     by_case : (a : ℕ) → IsAwaited exchange.harmed (queue_at view.flow exchange_place).messages a → has_member exchange.harmed a ≡ true
     by_case a (waits each has about) = absurd (contains_none (subst (λ (l : List Message). Contains l each) none has))

@@ -54,64 +54,72 @@ listed_same plan listing = by_test (listing.complete && (length listing.keys == 
     by_test true = record { asked = refl; entered = refl; era = refl }
     by_test false = record { asked = refl; entered = refl; era = refl }
 
-same_mapped : (f : PlanView → PlanView) → ((plan : PlanView) → IsSamePlan plan (f plan)) → (was : Option PlanView) (now : PlanView) → option_map f was ≡ Some now → (plan : PlanView) × (was ≡ Some plan) × IsSamePlan plan now
+same_mapped : (f : PlanView → PlanView) → ((plan : PlanView) → IsSamePlan plan (f plan)) → (was : Option PlanView) (now : PlanView) → option_map f was ≡ Some now
+    → (plan : PlanView) × (was ≡ Some plan) × IsSamePlan plan now
 same_mapped f same None now is = absurd (cc is)
 same_mapped f same (Some plan) now is = (plan, refl, subst (IsSamePlan plan) (some_is is) (same plan))
 
 -- ---- what goes on
 -- each change of membership that is under way, each exchange and the open call ask what they asked
 record GoesOn (old new : Council) : Type 0 where
-  exchange : (now : ExchangeView) → new.exchange ≡ Some now → (before : ExchangeView) × (old.exchange ≡ Some before) × (now.question ≡ before.question) × (now.members ≡ before.members)
+  exchange : (now : ExchangeView) → new.exchange ≡ Some now
+      → (before : ExchangeView) × (old.exchange ≡ Some before) × (now.question ≡ before.question) × (now.members ≡ before.members) × (now.reads ≡ before.reads)
   order : (before : OrderView) → old.order ≡ Some before → (now : OrderView) × (new.order ≡ Some now) × (now.asked ≡ before.asked)
   plan : (now : PlanView) → new.plan ≡ Some now → (before : PlanView) × (old.plan ≡ Some before) × (now.asked ≡ before.asked)
 
 goes_same : (council : Council) → GoesOn council council
-goes_same council = record { exchange = λ now is. (now, is, refl, refl); order = λ before is. (before, is, refl); plan = λ now is. (now, is, refl) }
+goes_same council = record { exchange = λ now is. (now, is, refl, refl, refl); order = λ before is. (before, is, refl); plan = λ now is. (now, is, refl) }
 
 goes_both : (a b c : Council) → GoesOn a b → GoesOn b c → GoesOn a c
 goes_both a b c first second = record {
-  exchange = λ now is. let mid = second.exchange now is in let had = first.exchange mid.0 mid.1 in (had.0, had.1, mid.2 ∙ had.2, mid.3 ∙ had.3);
+  exchange = λ now is. let mid = second.exchange now is in let had = first.exchange mid.0 mid.1 in (had.0, had.1, mid.2 ∙ had.2, mid.3 ∙ had.3, mid.4 ∙ had.4);
   order = λ before is. let mid = first.order before is in let then_ = second.order mid.0 mid.1 in (then_.0, then_.1, then_.2 ∙ mid.2);
   plan = λ now is. let mid = second.plan now is in let had = first.plan mid.0 mid.1 in (had.0, had.1, mid.2 ∙ had.2);
 }
 
 goes_told : (council : Council) (told : OpAnswer) → GoesOn council (telling council told)
-goes_told council told = record { exchange = λ now is. (now, is, refl, refl); order = λ before is. (told_so told before, ap (option_map (told_so told)) is, refl); plan = λ now is. (now, is, refl) }
+goes_told council told = record { exchange = λ now is. (now, is, refl, refl, refl); order = λ before is. (told_so told before, ap (option_map (told_so told)) is, refl); plan = λ now is. (now, is, refl) }
 
 goes_broken : (council : Council) → GoesOn council (crashed_in council)
 goes_broken council = record { exchange = λ now is. by_exchange council.exchange refl now is; order = λ before is. (before, is, refl); plan = λ now is. (now, is, refl) }
   where
-    by_exchange : (open_ : Option ExchangeView) → council.exchange ≡ open_ → (now : ExchangeView) → option_map broken_off open_ ≡ Some now → (before : ExchangeView) × (council.exchange ≡ Some before) × (now.question ≡ before.question) × (now.members ≡ before.members)
+    by_exchange : (open_ : Option ExchangeView) → council.exchange ≡ open_ → (now : ExchangeView) → option_map broken_off open_ ≡ Some now
+        → (before : ExchangeView) × (council.exchange ≡ Some before) × (now.question ≡ before.question) × (now.members ≡ before.members) × (now.reads ≡ before.reads)
     by_exchange None none now is = absurd (cc is)
-    by_exchange (Some before) has now is = (before, has, ap (λ (e : ExchangeView). e.question) (sym (some_is is)), ap (λ (e : ExchangeView). e.members) (sym (some_is is)))
+    by_exchange (Some before) has now is =
+        (before, has, ap (λ (e : ExchangeView). e.question) (sym (some_is is)), ap (λ (e : ExchangeView). e.members) (sym (some_is is)), ap (λ (e : ExchangeView). e.reads) (sym (some_is is)))
 
 -- a collection goes on
-goes_collecting : (council : Council) (order : OrderView) (told : Option OpAnswer) (collection : Option CollectionView) → council.order ≡ Some order → GoesOn council (record council { order = Some (record order { told = told }); collection = collection })
+goes_collecting : (council : Council) (order : OrderView) (told : Option OpAnswer) (collection : Option CollectionView) → council.order ≡ Some order
+    → GoesOn council (record council { order = Some (record order { told = told }); collection = collection })
 goes_collecting council order told collection is_open = record {
-  exchange = λ now is. (now, is, refl, refl);
+  exchange = λ now is. (now, is, refl, refl, refl);
   order = λ before is. (record order { told = told }, refl, ap (λ (o : OrderView). o.asked) (some_is (sym is_open ∙ is)));
   plan = λ now is. (now, is, refl);
 }
 
 -- its exchange goes on
-goes_asking : (council : Council) (before now : ExchangeView) → council.exchange ≡ Some before → now.question ≡ before.question → now.members ≡ before.members → GoesOn council (record council { exchange = Some now })
-goes_asking council before now is_open question members = record {
-  exchange = λ next is. (before, is_open, ap (λ (e : ExchangeView). e.question) (sym (some_is is)) ∙ question, ap (λ (e : ExchangeView). e.members) (sym (some_is is)) ∙ members);
+goes_asking : (council : Council) (before now : ExchangeView) → council.exchange ≡ Some before → now.question ≡ before.question → now.members ≡ before.members → now.reads ≡ before.reads
+    → GoesOn council (record council { exchange = Some now })
+goes_asking council before now is_open question members reads = record {
+  exchange = λ next is. (before, is_open, ap (λ (e : ExchangeView). e.question) (sym (some_is is)) ∙ question, ap (λ (e : ExchangeView). e.members) (sym (some_is is)) ∙ members, ap (λ (e : ExchangeView). e.reads) (sym (some_is is)) ∙ reads);
   order = λ order is. (order, is, refl);
   plan = λ plan is. (plan, is, refl);
 }
 
-rescans_plan : (old : Council) (id : ℕ) (key : List ℕ) (told : Answer) (next : Council) → calls.Rescans old id key told next → (plan : PlanView) → next.plan ≡ Some plan → (before : PlanView) × (old.plan ≡ Some before) × IsSamePlan before plan
+rescans_plan : (old : Council) (id : ℕ) (key : List ℕ) (told : Answer) (next : Council) → calls.Rescans old id key told next → (plan : PlanView) → next.plan ≡ Some plan
+    → (before : PlanView) × (old.plan ≡ Some before) × IsSamePlan before plan
 rescans_plan old id key told next (calls.is_none none same) plan is = (plan, sym (ap (λ (c : Council). c.plan) same) ∙ is, record { asked = refl; entered = refl; era = refl })
 rescans_plan old id key told next (calls.stops of undone same) plan is = (plan, sym (ap (λ (c : Council). c.plan) same) ∙ is, record { asked = refl; entered = refl; era = refl })
 rescans_plan old id key told next (calls.rescans of done same) plan is =
     let counted : PlanView = record of.plan { rescanned = calls.one_more of.plan.rescanned } in
-    let now : IsSamePlan counted plan = subst (IsSamePlan counted) (some_is (sym (ap (λ (c : Council). c.plan) same) ∙ is)) (listed_same counted (record of.listing { keys = drop 1 of.listing.keys })) in
+    let now : IsSamePlan counted plan =
+    subst (IsSamePlan counted) (some_is (sym (ap (λ (c : Council). c.plan) same) ∙ is)) (listed_same counted (record of.listing { keys = drop 1 of.listing.keys })) in
     (of.plan, of.is_plan, record { asked = now.asked; entered = now.entered; era = now.era })
 
 goes_rescan : (old : Council) (id : ℕ) (key : List ℕ) (told : Answer) (next : Council) → calls.Rescans old id key told next → GoesOn old next
 goes_rescan old id key told next by = record {
-  exchange = λ now is. (now, sym (rescan_asks old id key told next by) ∙ is, refl, refl);
+  exchange = λ now is. (now, sym (rescan_asks old id key told next by) ∙ is, refl, refl, refl);
   order = λ before is. order by before is;
   plan = λ now is. let had = rescans_plan old id key told next by now is in (had.0, had.1, had.2.asked);
 }
@@ -130,25 +138,31 @@ goes_to {S} {V} old changed new is goes = subst (λ (w : View S V). GoesOn old.c
 
 goes_down : {S V : Type 0} (DeskTurns : DeskView V → DeskView V → Type 0) (old new : View S V) (id : ℕ) → GoesDown DeskTurns old id new → GoesOn old.council new.council
 goes_down DeskTurns old new id (stops.of_client client leaves) = goes_framed old new (left_frame DeskTurns closed_by_crash old new id leaves)
-goes_down DeskTurns old new id (stops.of_operator middle operator leaves is) = goes_both old.council middle.council new.council (goes_framed old middle (left_frame DeskTurns closed_by_crash old middle id leaves)) (goes_to middle _ new is (goes_broken middle.council))
+goes_down DeskTurns old new id (stops.of_operator middle operator leaves is) =
+    goes_both old.council middle.council new.council (goes_framed old middle (left_frame DeskTurns closed_by_crash old middle id leaves)) (goes_to middle _ new is (goes_broken middle.council))
 
 -- ---- whom a probe asks
+abbrev members_of : Era → List ℕ
+members_of era = union_of era.prep era.acc
+
 record IsAsked {S V : Type 0} (view : View S V) : Type 0 where
   changes : (plan : PlanView) → view.council.plan ≡ Some plan → is_change plan.asked ≡ true
-  asks : (exchange : ExchangeView) (key : List ℕ) → view.council.exchange ≡ Some exchange → exchange.question ≡ Probe key → IsForProbe view.council key × (exchange.members ≡ everyone view)
+  asks : (exchange : ExchangeView) (key : List ℕ) → view.council.exchange ≡ Some exchange → exchange.question ≡ Probe key
+      → IsForProbe view.council key × (exchange.members ≡ everyone view) × ((era : Era) → exchange.reads ≡ Some era → era ≡ era_at view 0)
 
-asked_then : {S V : Type 0} (old new : View S V) → GoesOn old.council new.council → everyone new ≡ everyone old → IsAsked old → IsAsked new
+asked_then : {S V : Type 0} (old new : View S V) → GoesOn old.council new.council → era_at new 0 ≡ era_at old 0 → IsAsked old → IsAsked new
 asked_then old new goes same was = record {
   changes = λ plan is. let had = goes.plan plan is in ap is_change had.2 ∙ was.changes had.0 had.1;
   asks = λ exchange key is_open asks.
       let had = goes.exchange exchange is_open in
       let before = was.asks had.0 key had.1 (sym had.2 ∙ asks) in
       let now = goes.order before.0.order before.0.is_open in
-      (record { order = now.0; is_open = now.1; is_for = subst (λ (a : Asked). IsProbeOf a key) (sym now.2) before.0.is_for }, had.3 ∙ before.1 ∙ sym same);
+      (record { order = now.0; is_open = now.1; is_for = subst (λ (a : Asked). IsProbeOf a key) (sym now.2) before.0.is_for }, had.3 ∙ before.1 ∙ ap members_of (sym same), λ era reads. before.2 era (sym had.4 ∙ reads) ∙ sym same);
 }
 
 -- with no exchange nobody is asked
-asked_none : {S V : Type 0} (old new : View S V) → ((plan : PlanView) → new.council.plan ≡ Some plan → (before : PlanView) × (old.council.plan ≡ Some before) × (plan.asked ≡ before.asked)) → new.council.exchange ≡ None → IsAsked old → IsAsked new
+asked_none : {S V : Type 0} (old new : View S V) → ((plan : PlanView) → new.council.plan ≡ Some plan → (before : PlanView) × (old.council.plan ≡ Some before) × (plan.asked ≡ before.asked))
+    → new.council.exchange ≡ None → IsAsked old → IsAsked new
 asked_none old new plans none was = record {
   changes = λ plan is. let had = plans plan is in ap is_change had.2 ∙ was.changes had.0 had.1;
   asks = λ exchange key is_open asks. absurd (cc (sym none ∙ is_open));
@@ -163,7 +177,12 @@ no_change (asked.Leave id) key is_for change = is_for
 no_change (asked.Resize need_prep need_acc) key is_for change = is_for
 no_change (asked.Collect k) key is_for change = is_for
 
-ask_asked : {S V : Type 0} (m : Meaning S V) (old new : View S V) (question : Question) → everyone new ≡ everyone old → council.StepAskAll m old question new → IsAsked old → IsAsked new
+-- a key is read in the era of proposer 0
+read_in : (b : Bool) (now era : Era) → (if b then Some now else None) ≡ Some era → era ≡ now
+read_in true now era is = sym (some_is is)
+read_in false now era is = absurd (cc is)
+
+ask_asked : {S V : Type 0} (m : Meaning S V) (old new : View S V) (question : Question) → era_at new 0 ≡ era_at old 0 → council.StepAskAll m old question new → IsAsked old → IsAsked new
 ask_asked {S} {V} m old new question same by was = by_case by.asks
   where
     told : (changed : View S V) → new ≡ changed → GoesOn old.council changed.council → IsAsked new
@@ -190,9 +209,10 @@ ask_asked {S} {V} m old new question same by was = by_case by.asks
     by_case (council.asks now tag flow up room tagged is_now sends view) = record {
       changes = λ plan is. plans_then tag plan (sym (ap (λ (w : View S V). w.council.plan) view) ∙ is);
       asks = λ exchange key is_open asks.
-          let it : council.new_exchange question tag (council.asked_by old question) (length old.marks) ≡ exchange = some_is (sym (ap (λ (w : View S V). w.council.exchange) view) ∙ is_open) in
+          let it : council.new_exchange question tag (council.asked_by old question) (length old.marks) (council.read_era old question) ≡ exchange =
+          some_is (sym (ap (λ (w : View S V). w.council.exchange) view) ∙ is_open) in
           let question_is : question ≡ Probe key = ap (λ (e : ExchangeView). e.question) it ∙ asks in
-          (record { order = by.may.order; is_open = ap (λ (w : View S V). w.council.order) view ∙ by.may.is_open; is_for = is_for_probe key question_is }, ap (λ (e : ExchangeView). e.members) (sym it) ∙ probe_members question key question_is ∙ sym same);
+          (record { order = by.may.order; is_open = ap (λ (w : View S V). w.council.order) view ∙ by.may.is_open; is_for = is_for_probe key question_is }, ap (λ (e : ExchangeView). e.members) (sym it) ∙ probe_members question key question_is ∙ ap members_of (sym same), λ era reads. read_in (council.reads_by old.council.order question) (era_at old 0) era (ap (λ (e : ExchangeView). e.reads) it ∙ reads) ∙ sym same);
     }
     by_case (council.is_down down view) = told _ view (goes_told old.council _)
     by_case (council.is_full up full view) = told _ view (goes_told old.council _)
@@ -200,7 +220,7 @@ ask_asked {S} {V} m old new question same by was = by_case by.asks
     by_case (council.fails now up fault view) = told _ view (goes_told old.council _)
     by_case (council.no_memory now tag up loss view) = told _ view (goes_told old.council _)
 
-ask_collect_asked : {S V : Type 0} (m : Meaning S V) (old new : View S V) → everyone new ≡ everyone old → collect.StepAskCollect m old new → IsAsked old → IsAsked new
+ask_collect_asked : {S V : Type 0} (m : Meaning S V) (old new : View S V) → era_at new 0 ≡ era_at old 0 → collect.StepAskCollect m old new → IsAsked old → IsAsked new
 ask_collect_asked {S} {V} m old new same by was = by_case by.asks
   where
     no_probe : (q : Question) (key : List ℕ) → collect.IsQuestionOf by.may.at.collection q → q ≡ Probe key → ⊥
@@ -210,7 +230,8 @@ ask_collect_asked {S} {V} m old new same by was = by_case by.asks
     by_case : collect.AsksCollect m old by.may.at by.desk new → IsAsked new
     by_case (collect.asks question flow up asks_it room aged sends view) = record {
       changes = λ plan is. was.changes plan (sym (ap (λ (w : View S V). w.council.plan) view) ∙ is);
-      asks = λ exchange key is_open asks. absurd (no_probe question key asks_it (ap (λ (e : ExchangeView). e.question) (some_is (sym (ap (λ (w : View S V). w.council.exchange) view) ∙ is_open)) ∙ asks));
+      asks =
+          λ exchange key is_open asks. absurd (no_probe question key asks_it (ap (λ (e : ExchangeView). e.question) (some_is (sym (ap (λ (w : View S V). w.council.exchange) view) ∙ is_open)) ∙ asks));
     }
     by_case (collect.is_down down view) = asked_then old new (goes_to old _ new view (goes_told old.council _)) same was
     by_case (collect.is_full question up asks full view) = asked_then old new (goes_to old _ new view (goes_told old.council _)) same was
@@ -221,13 +242,13 @@ turn_goes {S} {V} m old new v by = by_turn by.turn
   where
     by_turn : council.TurnsExchange m old v by.front by.at.exchange new → GoesOn old.council new.council
     by_turn (council.held fall view) = goes_to old old new view (goes_same old.council)
-    by_turn (council.gone fall view) = goes_to old _ new view (goes_asking old.council by.at.exchange _ by.at.is_open refl refl)
+    by_turn (council.gone fall view) = goes_to old _ new view (goes_asking old.council by.at.exchange _ by.at.is_open refl refl refl)
     by_turn (council.answers request acceptor now reply fall front at table view) = goes_to old _ new view (goes_same old.council)
-    by_turn (council.finds_down request acceptor fall front at down view) = goes_to old _ new view (goes_asking old.council by.at.exchange _ by.at.is_open refl refl)
-    by_turn (council.brings_down request acceptor now fall front at stops_it view) = goes_to old _ new view (goes_asking old.council by.at.exchange _ by.at.is_open refl refl)
-    by_turn (council.arrives reply fall front to_it view) = goes_to old _ new view (goes_asking old.council by.at.exchange _ by.at.is_open refl refl)
+    by_turn (council.finds_down request acceptor fall front at down view) = goes_to old _ new view (goes_asking old.council by.at.exchange _ by.at.is_open refl refl refl)
+    by_turn (council.brings_down request acceptor now fall front at stops_it view) = goes_to old _ new view (goes_asking old.council by.at.exchange _ by.at.is_open refl refl refl)
+    by_turn (council.arrives reply fall front to_it view) = goes_to old _ new view (goes_asking old.council by.at.exchange _ by.at.is_open refl refl refl)
 
-gather_asked : {S V : Type 0} (old new : View S V) → everyone new ≡ everyone old → council.StepGather old new → IsAsked old → IsAsked new
+gather_asked : {S V : Type 0} (old new : View S V) → era_at new 0 ≡ era_at old 0 → council.StepGather old new → IsAsked old → IsAsked new
 gather_asked {S} {V} old new same by was = by_case by.gathers
   where
     over : (changed : View S V) → new ≡ changed → changed.council.plan ≡ old.council.plan → changed.council.exchange ≡ None → IsAsked new
@@ -235,7 +256,8 @@ gather_asked {S} {V} old new same by was = by_case by.gathers
 
     by_case : council.Gathers old by.at.exchange new → IsAsked new
     by_case (council.crashed crashed view) = over _ view refl refl
-    by_case (council.probed key found up question found_is view) = over _ view refl refl
+    by_case (council.probed key found up question plain found_is view) = over _ view refl refl
+    by_case (council.read key era found marks up question reads found_is counts view) = over _ view refl refl
     by_case (council.is_short of short up missing view) = over _ view refl refl
     by_case (council.lists of listing up enough on view) = asked_none old new (λ p is.
         let now : IsSamePlan of.plan p = subst (IsSamePlan of.plan) (some_is (sym (ap (λ (w : View S V). w.council.plan) view) ∙ is)) (listed_same of.plan listing) in
@@ -260,12 +282,15 @@ tell_asked : {S V : Type 0} (old new : View S V) (told : OpAnswer) → council.S
 tell_asked {S} {V} old new told by was = by_case by
   where
     kept : (changed : View S V) → new ≡ changed → changed.council.plan ≡ option_map without_partial old.council.plan → changed.council.exchange ≡ None → IsAsked new
-    kept changed view plan none = asked_none old new (λ p is. let had = partial_plan old.council.plan p (sym (ap (λ (w : View S V). w.council.plan) view ∙ plan) ∙ is) in (had.0, had.1, had.2.asked)) (ap (λ (w : View S V). w.council.exchange) view ∙ none) was
+    kept changed view plan none =
+        asked_none old new (λ p is. let had = partial_plan old.council.plan p (sym (ap (λ (w : View S V). w.council.plan) view ∙ plan) ∙ is) in (had.0, had.1, had.2.asked))
+        (ap (λ (w : View S V). w.council.exchange) view ∙ none) was
 
     by_case : council.StepTell old told new → IsAsked new
     by_case (council.tells order said is_open is_told same view) = kept _ view refl refl
     by_case (council.collects order is_open of view) = kept _ view refl refl
-    by_case (council.finishes order is_open of view) = asked_none old new (λ p is. absurd (cc (sym (ap (λ (w : View S V). w.council.plan) view) ∙ is))) (ap (λ (w : View S V). w.council.exchange) view) was
+    by_case (council.finishes order is_open of view) =
+        asked_none old new (λ p is. absurd (cc (sym (ap (λ (w : View S V). w.council.plan) view) ∙ is))) (ap (λ (w : View S V). w.council.exchange) view) was
 
 -- ---- changes of membership
 planned_change : (era : Era) (used : List ℕ) (of : Asked) {planned : Result Progress PlanFault} → plans.IsPlanned era used of planned → is_change of ≡ true
@@ -279,7 +304,7 @@ welcome_council {S} {V} m old new of (plans.fails id acceptor now joins at fails
 welcome_council {S} {V} m old new of (plans.is_up id acceptor joins at up view) = ap (λ (w : View S V). w.council) view
 welcome_council {S} {V} m old new of (plans.stays joins_none view) = ap (λ (w : View S V). w.council) view
 
-open_asked : {S V : Type 0} (m : Meaning S V) (old new : View S V) → everyone new ≡ everyone old → plans.StepOpenPlan m old new → IsAsked old → IsAsked new
+open_asked : {S V : Type 0} (m : Meaning S V) (old new : View S V) → era_at new 0 ≡ era_at old 0 → plans.StepOpenPlan m old new → IsAsked old → IsAsked new
 open_asked {S} {V} m old new same by was = by_case by.opens
   where
     told : (middle : View S V) (answer_is : OpAnswer) → GoesOn old.council middle.council → new ≡ council.told_view middle answer_is → IsAsked new
@@ -322,8 +347,11 @@ enter_asked {S} {V} m old new id by was = by_case by.enters
     by_case (plans.enters middle room leaves view) =
         let frame = left_frame (EntersEra m.disks by.next) (closed_by (answer.Moved by.next.number) (cause.Moved by.next.number)) old middle by.plan.entered leaves in
         record {
-          changes = λ plan is. ap (λ (p : PlanView). is_change p.asked) (sym (some_is (sym (ap (λ (w : View S V). w.council.plan) view) ∙ is))) ∙ ap is_change (after_asked middle.last_proposer) ∙ was.changes by.plan by.may.is_plan;
-          asks = λ exchange key is_open asks. absurd (none_probes exchange key (sym (ap (λ (f : Frame). f.council.exchange) frame) ∙ sym (ap (λ (w : View S V). w.council.exchange) view) ∙ is_open) asks);
+          changes =
+              λ plan is. ap (λ (p : PlanView). is_change p.asked) (sym (some_is (sym (ap (λ (w : View S V). w.council.plan) view) ∙ is))) ∙ ap is_change (after_asked middle.last_proposer)
+              ∙ was.changes by.plan by.may.is_plan;
+          asks =
+              λ exchange key is_open asks. absurd (none_probes exchange key (sym (ap (λ (f : Frame). f.council.exchange) frame) ∙ sym (ap (λ (w : View S V). w.council.exchange) view) ∙ is_open) asks);
         }
       where
         after_asked : (last_proposer : ℕ) → (plans.plan_after last_proposer by.plan by.next).asked ≡ by.plan.asked
@@ -334,27 +362,33 @@ enter_asked {S} {V} m old new id by was = by_case by.enters
             by_test false = refl
     by_case (plans.is_full full view) = goes (goes_to old _ new view (goes_told old.council _))
     by_case (plans.is_down room down view) = goes (goes_to old _ new view (goes_told old.council _))
-    by_case (plans.fails middle room down view) = goes (goes_both old.council middle.council new.council (goes_down (FailsToEnter m.disks by.next) old middle by.plan.entered down) (goes_to middle _ new view (goes_told middle.council _)))
+    by_case (plans.fails middle room down view) =
+        goes (goes_both old.council middle.council new.council (goes_down (FailsToEnter m.disks by.next) old middle by.plan.entered down) (goes_to middle _ new view (goes_told middle.council _)))
     by_case (plans.no_memory now room up kept now_is view) = goes (goes_to old _ new view (goes_told old.council _))
 
 -- ---- collections
 refuse_goes : {S V : Type 0} (m : Meaning S V) (old new : View S V) (id : ℕ) (key : List ℕ) → calls.RefusesCall m old id key new → GoesOn old.council new.council
 refuse_goes m old new id key (calls.stays told next why rescan view) = goes_to old _ new view (goes_rescan old.council id key told next rescan)
-refuse_goes m old new id key (calls.loses caller desk now ballot next at_caller at_desk none up loses rescan view) = goes_to old _ new view (goes_rescan old.council id key (answer.NoMemory false) next rescan)
+refuse_goes m old new id key (calls.loses caller desk now ballot next at_caller at_desk none up loses rescan view) =
+    goes_to old _ new view (goes_rescan old.council id key (answer.NoMemory false) next rescan)
 
-begin_collect_goes : {S V : Type 0} (m : Meaning S V) (old new : View S V) (key : List ℕ) → collect.StepBeginCollect m (λ before after. step.StepBegin m before 0 key collect.keep_always after) old key new → GoesOn old.council new.council
+begin_collect_goes : {S V : Type 0} (m : Meaning S V) (old new : View S V) (key : List ℕ)
+    → collect.StepBeginCollect m (λ before after. step.StepBegin m before 0 key collect.keep_always after) old key new → GoesOn old.council new.council
 begin_collect_goes {S} {V} m old new key by = by_case by.begins
   where
-    goes_on : (middle : View S V) (collection : CollectionView) → step.StepBegin m old 0 key collect.keep_always middle → new ≡ collect.collecting middle by.may.order None collection → GoesOn old.council new.council
+    goes_on : (middle : View S V) (collection : CollectionView) → step.StepBegin m old 0 key collect.keep_always middle → new ≡ collect.collecting middle by.may.order None collection
+        → GoesOn old.council new.council
     goes_on middle collection begins view =
         let frame = begin_frame m old middle 0 key collect.keep_always begins in
-        goes_both old.council middle.council new.council (goes_framed old middle frame) (goes_to middle _ new view (goes_collecting middle.council by.may.order None (Some collection) (ap (λ (f : Frame). f.council.order) frame ∙ by.may.is_open)))
+        goes_both old.council middle.council new.council (goes_framed old middle frame)
+        (goes_to middle _ new view (goes_collecting middle.council by.may.order None (Some collection) (ap (λ (f : Frame). f.council.order) frame ∙ by.may.is_open)))
 
     by_case : collect.BeginsCollection m (λ before after. step.StepBegin m before 0 key collect.keep_always after) old key by.may.order by.desk by.caller new → GoesOn old.council new.council
     by_case (collect.is_down none down view) = goes_to old _ new view (goes_told old.council _)
     by_case (collect.is_busy plan none up planned view) = goes_to old _ new view (goes_told old.council _)
     by_case (collect.is_full none up unplanned full view) = goes_to old _ new view (goes_told old.council _)
-    by_case (collect.no_memory middle none up unplanned refuses view) = goes_both old.council middle.council new.council (refuse_goes m old middle 0 key refuses) (goes_to middle _ new view (goes_told middle.council _))
+    by_case (collect.no_memory middle none up unplanned refuses view) =
+        goes_both old.council middle.council new.council (refuse_goes m old middle 0 key refuses) (goes_to middle _ new view (goes_told middle.council _))
     by_case (collect.begins middle none unplanned begins view) = goes_on middle _ begins view
     by_case (collect.goes_on middle call of open_ begins view) = goes_on middle _ begins view
 
@@ -375,9 +409,11 @@ renew_goes {S} {V} m old new id by = by_case by.renews
     by_case : collect.RenewsNext m old by.at id by.desk new → GoesOn old.council new.council
     by_case (collect.renews age middle leaves view) =
         let frame = left_frame (Renews m.disks by.at.collection.course.key (tomb_of by.at.collection.tombstone) age) (closed_by (answer.Aged age) (cause.Aged age)) old middle id leaves in
-        goes_both old.council middle.council new.council (goes_framed old middle frame) (goes_to middle _ new view (goes_collecting middle.council by.at.order None _ (ap (λ (f : Frame). f.council.order) frame ∙ by.at.is_open)))
+        goes_both old.council middle.council new.council (goes_framed old middle frame)
+        (goes_to middle _ new view (goes_collecting middle.council by.at.order None _ (ap (λ (f : Frame). f.council.order) frame ∙ by.at.is_open)))
     by_case (collect.is_down down view) = goes_to old _ new view (goes_told old.council _)
-    by_case (collect.fails middle down view) = goes_both old.council middle.council new.council (goes_down (FailsToRenew m.disks _) old middle id down) (goes_to middle _ new view (goes_told middle.council _))
+    by_case (collect.fails middle down view) =
+        goes_both old.council middle.council new.council (goes_down (FailsToRenew m.disks _) old middle id down) (goes_to middle _ new view (goes_told middle.council _))
     by_case (collect.is_spent up spent view) = goes_to old _ new view (goes_told old.council _)
     by_case (collect.no_memory now up finds view) = goes_to old _ new view (goes_told old.council _)
 
@@ -394,10 +430,11 @@ end_collect_goes {S} {V} m old new told by =
 count_collect_goes : {S V : Type 0} (m : Meaning S V) (old new : View S V) → step.Step m old step.CountCollect new → GoesOn old.council new.council
 count_collect_goes m old new by =
     let frame = count_frame m old by.middle 0 by.counts in
-    goes_both old.council by.middle.council new.council (goes_framed old by.middle frame) (goes_to by.middle _ new by.view (goes_collecting by.middle.council by.is.at.order None _ (ap (λ (f : Frame). f.council.order) frame ∙ by.is.at.is_open)))
+    goes_both old.council by.middle.council new.council (goes_framed old by.middle frame)
+    (goes_to by.middle _ new by.view (goes_collecting by.middle.council by.is.at.order None _ (ap (λ (f : Frame). f.council.order) frame ∙ by.is.at.is_open)))
 
 -- ---- all of them
-asked_by_step : {S V : Type 0} (m : Meaning S V) (old : View S V) (event : step.Event) (new : View S V) → everyone new ≡ everyone old → IsAsked old → Step m old event new → IsAsked new
+asked_by_step : {S V : Type 0} (m : Meaning S V) (old : View S V) (event : step.Event) (new : View S V) → era_at new 0 ≡ era_at old 0 → IsAsked old → Step m old event new → IsAsked new
 asked_by_step m old (step.Begin id key program) new same was by = asked_then old new (goes_framed old new (begin_frame m old new id key program by)) same was
 asked_by_step m old (step.RefuseBegin id key) new same was by = asked_then old new (refuse_goes m old new id key by) same was
 asked_by_step m old (step.Turn id v) new same was by = asked_then old new (goes_framed old new (turn_frame m old new id v by)) same was
@@ -437,32 +474,34 @@ asked_by_step m old step.MakeFloor new same was by = asked_then old new (goes_to
 
 -- ---- where proposer 0 works
 -- the eras as they were, and each change of membership that goes on
-unled_same : {S V : Type 0} (old new : View S V) → new.eras ≡ old.eras → ((plan : PlanView) → new.council.plan ≡ Some plan → (before : PlanView) × (old.council.plan ≡ Some before) × IsSamePlan before plan) → IsUnled (course_of old) → IsUnled (course_of new)
+unled_same : {S V : Type 0} (old new : View S V) → new.eras ≡ old.eras
+    → ((plan : PlanView) → new.council.plan ≡ Some plan → (before : PlanView) × (old.council.plan ≡ Some before) × IsSamePlan before plan) → IsUnled (course_of old) → IsUnled (course_of new)
 unled_same old new eras goes unled plan is none = let had = goes plan is in ap (λ (l : List Era). era_in l 0) eras ∙ unled had.0 had.1 (sym had.2.entered ∙ none) ∙ sym had.2.era
 
 same_plan : (plan : PlanView) → IsSamePlan plan plan
 same_plan plan = record { asked = refl; entered = refl; era = refl }
 
--- and so does everyone stay
+-- and so does the era of proposer 0
 record IsLed {S V : Type 0} (old new : View S V) : Type 0 where
   unled : IsUnled (course_of new)
-  everyone_then : everyone new ≡ everyone old
+  era_then : era_at new 0 ≡ era_at old 0
 
-in_eras : {S V : Type 0} (old new : View S V) → new.eras ≡ old.eras → everyone new ≡ everyone old
-in_eras old new same = ap (λ (l : List Era). union_of (era_in l 0).prep (era_in l 0).acc) same
+in_eras : {S V : Type 0} (old new : View S V) → new.eras ≡ old.eras → era_at new 0 ≡ era_at old 0
+in_eras old new same = ap (λ (l : List Era). era_in l 0) same
 
 led : {S V : Type 0} (old changed new : View S V) → new ≡ changed → changed.eras ≡ old.eras → changed.council.plan ≡ old.council.plan → IsUnled (course_of old) → IsLed old new
 led {S} {V} old changed new view eras plan unled =
     let same : new.eras ≡ old.eras = ap (λ (w : View S V). w.eras) view ∙ eras in
     record {
       unled = unled_same old new same (λ p is. (p, sym (ap (λ (w : View S V). w.council.plan) view ∙ plan) ∙ is, same_plan p)) unled;
-      everyone_then = in_eras old new same;
+      era_then = in_eras old new same;
     }
 
-led_by_plan : {S V : Type 0} (old changed new : View S V) → new ≡ changed → changed.eras ≡ old.eras → ((p : PlanView) → changed.council.plan ≡ Some p → (before : PlanView) × (old.council.plan ≡ Some before) × IsSamePlan before p) → IsUnled (course_of old) → IsLed old new
+led_by_plan : {S V : Type 0} (old changed new : View S V) → new ≡ changed → changed.eras ≡ old.eras
+    → ((p : PlanView) → changed.council.plan ≡ Some p → (before : PlanView) × (old.council.plan ≡ Some before) × IsSamePlan before p) → IsUnled (course_of old) → IsLed old new
 led_by_plan {S} {V} old changed new view eras goes unled =
     let same : new.eras ≡ old.eras = ap (λ (w : View S V). w.eras) view ∙ eras in
-    record { unled = unled_same old new same (λ p is. goes p (sym (ap (λ (w : View S V). w.council.plan) view) ∙ is)) unled; everyone_then = in_eras old new same }
+    record { unled = unled_same old new same (λ p is. goes p (sym (ap (λ (w : View S V). w.council.plan) view) ∙ is)) unled; era_then = in_eras old new same }
 
 end_led : {S V : Type 0} (m : Meaning S V) (old new : View S V) (id : ℕ) (told : Answer) → StepEnd m old id told new → IsUnled (course_of old) → IsLed old new
 end_led m old new id told by unled = led_by_plan old _ new by.ends.view refl (rescans_plan old.council id by.of_call.call.key told by.ends.council by.ends.rescans) unled
@@ -476,7 +515,8 @@ ask_led : {S V : Type 0} (m : Meaning S V) (old new : View S V) (places : List M
 ask_led {S} {V} m old new places by unled = by_case by.asks
   where
     by_case : council.AsksAll m old (NextKeys places) by.desk new → IsLed old new
-    by_case (council.asks now tag flow up room tagged is_now sends view) = led_by_plan old _ new view refl (λ p is. same_mapped (council.listing_begun places tag) (λ plan. record { asked = refl; entered = refl; era = refl }) old.council.plan p is) unled
+    by_case (council.asks now tag flow up room tagged is_now sends view) =
+        led_by_plan old _ new view refl (λ p is. same_mapped (council.listing_begun places tag) (λ plan. record { asked = refl; entered = refl; era = refl }) old.council.plan p is) unled
     by_case (council.is_down down view) = led old _ new view refl refl unled
     by_case (council.is_full up full view) = led old _ new view refl refl unled
     by_case (council.is_spent now up spent kept is_now view) = led old _ new view refl refl unled
@@ -488,7 +528,8 @@ gather_led {S} {V} old new by unled = by_case by.gathers
   where
     by_case : council.Gathers old by.at.exchange new → IsLed old new
     by_case (council.crashed crashed view) = led old _ new view refl refl unled
-    by_case (council.probed key found up question found_is view) = led old _ new view refl refl unled
+    by_case (council.probed key found up question plain found_is view) = led old _ new view refl refl unled
+    by_case (council.read key era found marks up question reads found_is counts view) = led old _ new view refl refl unled
     by_case (council.is_short of short up missing view) = led old _ new view refl refl unled
     by_case (council.lists of listing up enough on view) = led_by_plan old _ new view refl (λ p is. (of.plan, of.is_plan, subst (IsSamePlan of.plan) (some_is is) (listed_same of.plan listing))) unled
     by_case (council.no_memory up view) = led old _ new view refl refl unled
@@ -509,9 +550,10 @@ open_led {S} {V} m old new safe by unled = by_case by.opens
         let same : new.eras ≡ old.eras = ap (λ (w : View S V). w.eras) view ∙ welcomed middle welcomes in
         record {
           unled = λ plan is none_led. ap (λ (l : List Era). era_in l 0) same ∙ sym begins.era ∙ ap (λ (p : PlanView). p.progress.era) (some_is (sym (ap (λ (w : View S V). w.council.plan) view) ∙ is));
-          everyone_then = in_eras old new same;
+          era_then = in_eras old new same;
         }
-    by_case (plans.no_memory progress middle up none planned welcomes view) = led old _ new view (welcomed middle welcomes) (ap (λ (c : Council). c.plan) (welcome_council m old middle by.order.asked welcomes)) unled
+    by_case (plans.no_memory progress middle up none planned welcomes view) =
+        led old _ new view (welcomed middle welcomes) (ap (λ (c : Council). c.plan) (welcome_council m old middle by.order.asked welcomes)) unled
 
 enter_unled : {S V : Type 0} (m : Meaning S V) (old new : View S V) (id : ℕ) → IsSafe old → plans.StepEnterEra m old id new → IsUnled (course_of old) → IsUnled (course_of new)
 enter_unled {S} {V} m old new id safe by unled = by_case by.enters
@@ -551,16 +593,19 @@ enter_unled {S} {V} m old new id safe by unled = by_case by.enters
     by_case (plans.no_memory now room up kept now_is view) = (led old _ new view refl refl unled).unled
 
 -- ---- the laws
-joins : {S V : Type 0} (old new : View S V) (led_is : IsLed old new) → (everyone new ≡ everyone old → IsAsked new) → IsAskingAll new
-joins old new led_is asked_it = let now = asked_it led_is.everyone_then in record { unled = led_is.unled; changes = now.changes; asks = now.asks }
+joins : {S V : Type 0} (old new : View S V) (led_is : IsLed old new) → (era_at new 0 ≡ era_at old 0 → IsAsked new) → IsAskingAll new
+joins old new led_is asked_it = let now = asked_it led_is.era_then in record { unled = led_is.unled; changes = now.changes; asks = now.asks }
 
 asked_of : {S V : Type 0} (view : View S V) → IsAskingAll view → IsAsked view
 asked_of view is = record { changes = is.changes; asks = is.asks }
 
-led_on : {S V : Type 0} (m : Meaning S V) (old : View S V) (event : step.Event) (new : View S V) → ((id : ℕ) → event ≡ step.RestartProposer id → ⊥) → Leads event → IsSafe old → IsAskingAll old → Step m old event new → IsAskingAll new
+led_on : {S V : Type 0} (m : Meaning S V) (old : View S V) (event : step.Event) (new : View S V) → ((id : ℕ) → event ≡ step.RestartProposer id → ⊥) → Leads event → IsSafe old → IsAskingAll old
+    → Step m old event new → IsAskingAll new
 led_on m old (step.RestartProposer id) new no_restart leads safe was by = absurd (no_restart id refl)
-led_on m old (step.End id told) new no_restart leads safe was by = joins old new (end_led m old new id told by was.unled) (λ same. asked_by_step m old (step.End id told) new same (asked_of old was) by)
-led_on m old (step.AskAll (NextKeys places)) new no_restart leads safe was by = joins old new (ask_led m old new places by was.unled) (λ same. asked_by_step m old (step.AskAll (NextKeys places)) new same (asked_of old was) by)
+led_on m old (step.End id told) new no_restart leads safe was by =
+    joins old new (end_led m old new id told by was.unled) (λ same. asked_by_step m old (step.End id told) new same (asked_of old was) by)
+led_on m old (step.AskAll (NextKeys places)) new no_restart leads safe was by =
+    joins old new (ask_led m old new places by was.unled) (λ same. asked_by_step m old (step.AskAll (NextKeys places)) new same (asked_of old was) by)
 led_on m old step.Gather new no_restart leads safe was by = joins old new (gather_led old new by was.unled) (λ same. asked_by_step m old step.Gather new same (asked_of old was) by)
 led_on m old (step.Tell told) new no_restart leads safe was by = joins old new (tell_led old new told by was.unled) (λ same. asked_by_step m old (step.Tell told) new same (asked_of old was) by)
 led_on m old step.OpenPlan new no_restart leads safe was by = joins old new (open_led m old new safe by was.unled) (λ same. asked_by_step m old step.OpenPlan new same (asked_of old was) by)
@@ -568,15 +613,16 @@ led_on m old (step.EnterEra id) new no_restart leads safe was by = let now = ent
 led_on {S} {V} m old (step.EndCollect told) new no_restart leads safe was by =
     let first = end_led m old by.middle 0 told by.ends was.unled in
     let second = led by.middle _ new by.view refl refl first.unled in
-    joins old new (record { unled = second.unled; everyone_then = second.everyone_then ∙ first.everyone_then }) (λ same. asked_by_step m old (step.EndCollect told) new same (asked_of old was) by)
+    joins old new (record { unled = second.unled; era_then = second.era_then ∙ first.era_then }) (λ same. asked_by_step m old (step.EndCollect told) new same (asked_of old was) by)
 led_on m old event new no_restart none safe was by = absurd none
 
-pub asking_then : {S V : Type 0} (m : Meaning S V) (old : View S V) (event : step.Event) (new : View S V) → ((id : ℕ) → event ≡ step.RestartProposer id → ⊥) → IsSafe old → IsAskingAll old → Step m old event new → IsAskingAll new
+pub asking_then : {S V : Type 0} (m : Meaning S V) (old : View S V) (event : step.Event) (new : View S V) → ((id : ℕ) → event ≡ step.RestartProposer id → ⊥) → IsSafe old → IsAskingAll old
+    → Step m old event new → IsAskingAll new
 asking_then m old event new no_restart safe was by = elim (on_course m old new event by) [
   | inl leads_on ↦ led_on m old event new no_restart leads_on safe was by
   | inr same ↦
       let eras : new.eras ≡ old.eras = ap (λ (c : Course). c.eras) same in
-      joins old new (record { unled = subst IsUnled (sym same) was.unled; everyone_then = in_eras old new eras }) (λ alike. asked_by_step m old event new alike (asked_of old was) by)
+      joins old new (record { unled = subst IsUnled (sym same) was.unled; era_then = in_eras old new eras }) (λ alike. asked_by_step m old event new alike (asked_of old was) by)
 ]
 
 -- with nothing under way it is so

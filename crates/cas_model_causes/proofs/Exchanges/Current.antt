@@ -37,7 +37,7 @@ use Rattle.cas_model.specs.Exchanges.Step.{TurnsExchange}
 use Rattle.cas_protocol.proofs.Held.{held_by}
 use Rattle.cas_model.proofs.Places.{some_is, contains_take, contains_none, contains_new, contains_older, newest_or_older}
 use Rattle.cas_model_causes.specs.Exchanges.Current.{IsCurrentTell, AreProbesCurrent, ProbesAreCurrent}
-use Rattle.cas_model_causes.proofs.Marks.{IsLater, record_goes_on}
+use Rattle.cas_model.proofs.Marks.{IsLater, record_goes_on}
 use Rattle.cas_model_causes.proofs.Exchanges.Touched.{Touched, is_same, is_over, is_broken, is_asked, turned, touched, broken_told, IsSameExchange, AnswersFirst, AreTellsSo, tells_then}
 
 -- ---- marks
@@ -143,7 +143,7 @@ module _ {S V : Type 0} (m : Meaning S V) (old new : View S V) (later : IsLater 
   asked_since (is_same same) = inr (exchange, sym same.exchange ∙ is_open, record { question = refl; since = refl })
   asked_since (is_over none) = absurd (cc (sym none ∙ is_open))
   asked_since (is_broken middle same exchange_is none) = let broke = broken_told middle.council.exchange exchange (sym exchange_is ∙ is_open) in inr (broke.0, sym same.exchange ∙ broke.1, broke.2)
-  asked_since (is_asked desk tag question tos at opens waiting) = inl (ap (λ (e : ExchangeView). e.since) (sym (some_is (sym opens ∙ is_open))))
+  asked_since (is_asked desk tag question tos reads at opens waiting) = inl (ap (λ (e : ExchangeView). e.since) (sym (some_is (sym opens ∙ is_open))))
   asked_since (turned v turns) = by_turn turns.turn
     where
       goes : (now : ExchangeView) → new.council.exchange ≡ Some now → IsSameExchange turns.at.exchange now → (exchange.since ≡ length old.marks) ⊎ ((was : ExchangeView) × (old.council.exchange ≡ Some was) × IsSameExchange was exchange)

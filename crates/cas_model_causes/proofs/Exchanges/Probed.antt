@@ -27,7 +27,7 @@ use Rattle.cas_model.specs.View.{Meaning, View, IsAt}
 use Rattle.cas_protocol.proofs.Growing.{accepted_grows}
 use Rattle.cas_model.proofs.ViewLaws as laws
 use Rattle.cas_model_causes.specs.Exchanges.Probed.{IsToldOf, IsProbing, ProbesTellSo}
-use Rattle.cas_model_causes.proofs.Marks.{IsLater, record_goes_on}
+use Rattle.cas_model.proofs.Marks.{IsLater, record_goes_on}
 use Rattle.cas_model_causes.proofs.Exchanges.Touched.{IsSameExchange, AnswersFirst, AreTellsSo, tells_then, touched}
 
 -- ---- as marks are made

@@ -1,5 +1,5 @@
 -- Whatever is called on a cluster, no member finds a probe too old.
-use Rattle.std.proofs.Common.{◌≡◌, ◌≤◌, ◌<◌, ℕ, zero, suc, List, [], ◌∷◌, ◌++◌, length, None, Some, Ok, reverse, refl, sym, ap, subst, ◌∙◌, inl, inr, arith}
+use Rattle.std.proofs.Common.{◌≡◌, ◌≤◌, ◌<◌, ℕ, zero, suc, List, [], ◌∷◌, ◌++◌, length, Option, None, Some, Ok, reverse, refl, sym, ap, subst, ◌∙◌, inl, inr, arith}
 use Rattle.std.specs.Prelude.{replicate, slice_index_or, Contains}
 use Rattle.cas_base.proofs.Bools.{true_or_false}
 use Rattle.cas_flow.specs.Flow.{queue_at, taken, empty_flow}
@@ -44,6 +44,7 @@ use Rattle.cas_model.proofs.Places.{some_is, contains_at, contains_append, conta
 use Rattle.cas_model_causes.proofs.Exchanges.Answering.{replied_messages}
 use Rattle.cas_model_causes.proofs.Exchanges.Tellers.{told_before}
 use Rattle.cas_model_causes.proofs.Exchanges.Touched.{Touched, is_same, is_over, is_broken, is_asked, turned, touched, tells_none, no_reply, broken_told}
+use Rattle.cas_quorum.specs.declared.era.Era.{Era}
 
 -- no frame waits in queues that are empty
 all_empty : (size place : ℕ) → (slice_index_or (replicate size empty_queue) place empty_queue).messages ≡ []
@@ -118,8 +119,8 @@ module _ {S V : Type 0} (m : Meaning S V) where
   not_too_old age kept new request tell.Kept from same low row = tt
   not_too_old age kept new request (tell.Listed after keys more) from same low row = tt
 
-  asked_fresh : (new : View S V) (age : ℕ) (tag : Ballot) (question : Question) (tos : List ℕ) (since : ℕ) (exchange : ExchangeView) → new_exchange question tag tos since ≡ exchange → (queue_at new.flow exchange_place).messages ≡ questions_to age tag question tos → AreWithin m (λ n. n ≤ age) new → IsOldEnough m new exchange
-  asked_fresh new age tag question tos since exchange it waiting within = record {
+  asked_fresh : (new : View S V) (age : ℕ) (tag : Ballot) (question : Question) (tos : List ℕ) (since : ℕ) (reads : Option Era) (exchange : ExchangeView) → new_exchange question tag tos since reads ≡ exchange → (queue_at new.flow exchange_place).messages ≡ questions_to age tag question tos → AreWithin m (λ n. n ≤ age) new → IsOldEnough m new exchange
+  asked_fresh new age tag question tos since reads exchange it waiting within = record {
     age = age;
     within = within;
     requests = λ request there.
@@ -143,8 +144,8 @@ module _ {S V : Type 0} (m : Meaning S V) where
       let had = was.probes broke.0 key before (broke.2.question ∙ asks) in
       goes_on shelves old event new broke.0 exchange before had by (λ place one t at tells. had.told place one t (subst (λ (l : List Answered). IsAt l place one) broke.3 at) tells)
       (λ request there. absurd (contains_none (subst (λ (l : List Message). Contains l (message.Request request)) none there))) (λ reply there. absurd (contains_none (subst (λ (l : List Message). Contains l (message.Reply reply)) none there)))
-  probes_then shelves disks old event new safe is was by (is_asked desk tag question tos at opens waiting) exchange key is_open asks =
-      asked_fresh new (kept_of desk.vault).age tag question tos (length old.marks) exchange (some_is (sym opens ∙ is_open)) waiting
+  probes_then shelves disks old event new safe is was by (is_asked desk tag question tos reads at opens waiting) exchange key is_open asks =
+      asked_fresh new (kept_of desk.vault).age tag question tos (length old.marks) reads exchange (some_is (sym opens ∙ is_open)) waiting
       (weaker (λ n. IsAged m.disks n desk.vault) (λ n. n ≤ (kept_of desk.vault).age) new (λ n aged. aged.kept) (held_then shelves disks old event new safe is was by desk at))
   probes_then shelves disks old event new safe is was by (turned v turns) exchange key is_open asks = by_turn turns.turn
     where

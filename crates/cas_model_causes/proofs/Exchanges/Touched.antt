@@ -1,6 +1,6 @@
 -- What becomes of the exchange that is open, whatever is called on a cluster, and of what those that it asks told.
 use Rattle.std.proofs.Common.{◌≡◌, ℕ, zero, suc, List, [], ◌∷◌, ◌++◌, length, map, Option, None, Some, option_map, refl, sym, ap, subst, ◌∙◌, inl, inr}
-use Rattle.std.specs.Prelude.{Contains}
+use Rattle.std.specs.Prelude.{Contains, Option, None}
 use Rattle.cas_ballot.specs.declared.ballot.Ballot.{Ballot}
 use Rattle.cas_acceptor.specs.Acceptor.{AcceptorView}
 use Rattle.cas_fate.specs.declared.fate.Verdict.{Verdict}
@@ -43,13 +43,14 @@ use Rattle.cas_model.proofs.Exchanges.Safe.{none_waiting}
 use Rattle.cas_model_causes.proofs.Exchanges.Answering as answering
 use Rattle.cas_model_causes.proofs.Exchanges.Answering.{IsUntouched, both, alike, replied_messages}
 use Rattle.cas_model_causes.proofs.Exchanges.Tellers.{told_before}
+use Rattle.cas_quorum.specs.declared.era.Era.{Era}
 
 -- ---- what becomes of the exchange
 pub data Touched {S V : Type 0} (m : Meaning S V) (old new : View S V) : Type 0 where
   is_same : IsUntouched old new → Touched m old new
   is_over : new.council.exchange ≡ None → Touched m old new
   is_broken : (middle : View S V) → IsUntouched old middle → new.council.exchange ≡ option_map broken_off middle.council.exchange → (queue_at new.flow exchange_place).messages ≡ [] → Touched m old new
-  is_asked : (desk : DeskView V) (tag : Ballot) (question : Question) (tos : List ℕ) → IsAt old.desks 0 desk → new.council.exchange ≡ Some (new_exchange question tag tos (length old.marks)) → (queue_at new.flow exchange_place).messages ≡ questions_to (kept_of desk.vault).age tag question tos → Touched m old new
+  is_asked : (desk : DeskView V) (tag : Ballot) (question : Question) (tos : List ℕ) (reads : Option Era) → IsAt old.desks 0 desk → new.council.exchange ≡ Some (new_exchange question tag tos (length old.marks) reads) → (queue_at new.flow exchange_place).messages ≡ questions_to (kept_of desk.vault).age tag question tos → Touched m old new
   turned : (v : Verdict) → StepTurnExchange m old v new → Touched m old new
 
 module _ {S V : Type 0} (m : Meaning S V) where
@@ -73,7 +74,7 @@ module _ {S V : Type 0} (m : Meaning S V) where
     where
       by_case : AsksAll m old question by.desk new → Touched m old new
       by_case (council.asks now tag flow up room tagged is_now sends view) =
-          is_asked by.desk tag question (council.asked_by old question) by.may.at_desk (ap (λ (w : View S V). w.council.exchange) view) (sent_messages old new flow _ sound by.may.none_open sends (ap (λ (w : View S V). w.flow) view))
+          is_asked by.desk tag question (council.asked_by old question) (council.read_era old question) by.may.at_desk (ap (λ (w : View S V). w.council.exchange) view) (sent_messages old new flow _ sound by.may.none_open sends (ap (λ (w : View S V). w.flow) view))
       by_case (council.is_down down view) = same_by old _ new view refl refl
       by_case (council.is_full up full view) = same_by old _ new view refl refl
       by_case (council.is_spent now up spent kept is_now view) = same_by old _ new view refl refl
@@ -85,7 +86,7 @@ module _ {S V : Type 0} (m : Meaning S V) where
     where
       by_case : collect.AsksCollect m old by.may.at by.desk new → Touched m old new
       by_case (collect.asks question flow up asks room aged sends view) =
-          is_asked by.desk (tomb_of by.may.at.collection.tombstone) question (council.everyone old) by.may.at_desk (ap (λ (w : View S V). w.council.exchange) view) (sent_messages old new flow _ sound by.may.none_asked sends (ap (λ (w : View S V). w.flow) view))
+          is_asked by.desk (tomb_of by.may.at.collection.tombstone) question (council.everyone old) None by.may.at_desk (ap (λ (w : View S V). w.council.exchange) view) (sent_messages old new flow _ sound by.may.none_asked sends (ap (λ (w : View S V). w.flow) view))
       by_case (collect.is_down down view) = same_by old _ new view refl refl
       by_case (collect.is_full question up asks full view) = same_by old _ new view refl refl
       by_case (collect.no_memory up view) = same_by old _ new view refl refl
@@ -95,7 +96,8 @@ module _ {S V : Type 0} (m : Meaning S V) where
     where
       by_case : Gathers old by.at.exchange new → Touched m old new
       by_case (council.crashed crashed view) = over_by old _ new view refl
-      by_case (council.probed key found up question found_is view) = over_by old _ new view refl
+      by_case (council.probed key found up question plain found_is view) = over_by old _ new view refl
+      by_case (council.read key era found marks up question reads found_is counts view) = over_by old _ new view refl
       by_case (council.lists of listing up enough on view) = over_by old _ new view refl
       by_case (council.is_short of short up missing view) = over_by old _ new view refl
       by_case (council.no_memory up view) = same_by old _ new view refl refl
@@ -276,8 +278,8 @@ module _ {S V : Type 0} (m : Meaning S V) (old new : View S V) (so : ℕ → Tel
     tells_then (is_broken middle same exchange_is none) =
         let broke = broken_told middle.council.exchange exchange (sym exchange_is ∙ is_open) in
         thinned broke.0 (sym same.exchange ∙ broke.1) broke.2 broke.3 (λ reply there. absurd (contains_none (subst (λ (l : List Message). Contains l (message.Reply reply)) none there)))
-    tells_then (is_asked desk tag question tos at opens waiting) =
-        let it : new_exchange question tag tos (length old.marks) ≡ exchange = some_is (sym opens ∙ is_open) in
+    tells_then (is_asked desk tag question tos reads at opens waiting) =
+        let it : new_exchange question tag tos (length old.marks) reads ≡ exchange = some_is (sym opens ∙ is_open) in
         record {
           told = λ place one t at_it tells. absurd (tells_none tos place one t (subst (λ (l : List Answered). IsAt l place one) (ap (λ (e : ExchangeView). e.told) (sym it)) at_it) tells);
           replies = λ reply there. absurd (no_reply (kept_of desk.vault).age tag question tos reply (subst (λ (l : List Message). Contains l (message.Reply reply)) waiting there));

@@ -378,7 +378,8 @@ module _ {S V : Type 0} (m : Meaning S V) (shelves : m.shelves.tells) (P : ℕ �
     where
       in_case : council.Gathers old by.at.exchange new → AreWithin m P new
       in_case (council.crashed crashed is) = to _ new is (record { acceptors = was.acceptors; flows = was.flows })
-      in_case (council.probed key found up question found_is is) = to _ new is (record { acceptors = was.acceptors; flows = was.flows })
+      in_case (council.probed key found up question plain found_is is) = to _ new is (record { acceptors = was.acceptors; flows = was.flows })
+      in_case (council.read key era found marks up question reads found_is counts is) = to _ new is (record { acceptors = was.acceptors; flows = was.flows })
       in_case (council.lists of_it listing up enough on is) = to _ new is (record { acceptors = was.acceptors; flows = was.flows })
       in_case (council.is_short of_it short up missing is) = to _ new is (record { acceptors = was.acceptors; flows = was.flows })
       in_case (council.no_memory up is) = to _ new is (record { acceptors = was.acceptors; flows = was.flows })

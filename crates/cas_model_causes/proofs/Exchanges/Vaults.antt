@@ -177,7 +177,8 @@ module _ {S V : Type 0} (m : Meaning S V) (tells : m.disks.tells) where
     where
       in_case : council.Gathers old by.at.exchange new → Kept old new
       in_case (council.crashed crashed is) = alike old _ new is refl
-      in_case (council.probed key found up question found_is is) = alike old _ new is refl
+      in_case (council.probed key found up question plain found_is is) = alike old _ new is refl
+      in_case (council.read key era found marks up question reads found_is counts is) = alike old _ new is refl
       in_case (council.lists of_it listing up enough on is) = alike old _ new is refl
       in_case (council.is_short of_it short up missing is) = alike old _ new is refl
       in_case (council.no_memory up is) = alike old _ new is refl

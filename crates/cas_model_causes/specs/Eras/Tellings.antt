@@ -7,7 +7,8 @@ use Rattle.cas_record.specs.declared.mark.Mark.TheVariants.{EraEntered, Floor, T
 use Rattle.cas_record.specs.declared.operator.Asked.{Asked}
 use Rattle.cas_record.specs.declared.operator.OpAnswer.{OpAnswer}
 use Rattle.cas_record.specs.declared.operator.OpAnswer.TheVariants as told
-use Rattle.cas_model.specs.Council.{OrderView}
+pub use Rattle.cas_model.specs.Exchanges.Tellings.{IsPassing}
+use Rattle.cas_model.specs.Exchanges.Tellings.{WasToldSo}
 use Rattle.cas_model.specs.History.{IsRemembered}
 use Rattle.cas_model.specs.Safe.{IsSafe}
 use Rattle.cas_model.specs.Step.{Event, Step}
@@ -31,23 +32,10 @@ pub record AreTellingsSo (proposers : ℕ) (marks : List Mark) : Type 0 where
   pub so : {asked : Asked} {answer : OpAnswer} {older : List Mark} → At (Told asked answer) older marks → IsSo proposers answer older
 
 -- ---- in the cluster
--- it does not tell that a change of membership or a collection is at its end
-abbrev pub IsPassing : OpAnswer → Type 0
-IsPassing (told.Joined id era rescanned) = ⊥
-IsPassing (told.Left id era rescanned) = ⊥
-IsPassing (told.Resized need_prep need_acc era rescanned) = ⊥
-IsPassing (told.Collected key ballot removed kept) = ⊥
-IsPassing other = ⊤
-
--- what the open call was told last, if it was told anything, does not
-abbrev pub IsPassingBy : Option OrderView → Type 0
-IsPassingBy None = ⊤
-IsPassingBy (Some order) = IfSome order.told IsPassing
-
 -- all tellings are so of its proposers, and no open call was told of an end yet
 pub record TellingsAreTrue {S V : Type 0} (view : View S V) : Type 0 where
   pub tellings : AreTellingsSo (suc view.last_proposer) (reverse view.marks)
-  pub passing : IsPassingBy view.council.order
+  pub passing : WasToldSo IsPassing view.council.order
 
 -- Where shelves and disks tell what they keep, each step leaves it so.
 abbrev pub StepsTellTruly : {S V : Type 0} → Meaning S V → Type 0

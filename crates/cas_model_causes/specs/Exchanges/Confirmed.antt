@@ -1,6 +1,7 @@
 -- Who confirmed what was acknowledged in the era in which proposer 0 works, and which era that is as the marks tell.
 use Rattle.std.specs.Prelude.{◌≡◌, ◌⊎◌, ℕ, ◌==◌, Bool, true, false, if◌then◌else◌, List, [], ◌∷◌, reverse, Some}
 use Rattle.cas_ballot.specs.Members.{has_member}
+use Rattle.cas_quorum.specs.declared.era.Era.{Era}
 use Rattle.cas_record.specs.Places.{Stands}
 use Rattle.cas_record.specs.declared.mark.Acknowledgment.{Acknowledgment}
 use Rattle.cas_record.specs.declared.mark.Mark.{Mark}
@@ -48,11 +49,12 @@ pub record IsForProbe (council : Council) (key : List ℕ) : Type 0 where
   pub is_open : council.order ≡ Some order
   pub is_for : IsProbeOf order.asked key
 
--- Proposer 0 is not ahead of its marks, and each exchange that asks what is kept of a key is of a call for that, and asks everyone.
+-- Proposer 0 is not ahead of its marks. Each exchange that asks what is kept of a key is of a call for that, and asks everyone. A key is read
+-- in the era in which proposer 0 works.
 pub record IsAskingAll {S V : Type 0} (view : View S V) : Type 0 where
   pub unled : IsUnled (course_of view)
   pub changes : (plan : PlanView) → view.council.plan ≡ Some plan → is_change plan.asked ≡ true
-  pub asks : (exchange : ExchangeView) (key : List ℕ) → view.council.exchange ≡ Some exchange → exchange.question ≡ Probe key → IsForProbe view.council key × (exchange.members ≡ everyone view)
+  pub asks : (exchange : ExchangeView) (key : List ℕ) → view.council.exchange ≡ Some exchange → exchange.question ≡ Probe key → IsForProbe view.council key × (exchange.members ≡ everyone view) × ((era : Era) → exchange.reads ≡ Some era → era ≡ era_at view 0)
 
 -- ---- the laws
 -- A cluster that opens is so, and whatever is called on one that is safe keeps it so, but that a proposer that stopped is started again.
