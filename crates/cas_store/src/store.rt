@@ -3,6 +3,7 @@
 ghost use Rattle.std.specs.Prelude.{◌≡◌, ℕ, ◌+◌, ◌<◌, ◌≤◌, true, false, [], map, take, reverse, vec_len, vec_capacity, IfOk, IfErr};
 ghost use Rattle.cas_acceptor.specs.Acceptor.{AcceptorView};
 ghost use Rattle.cas_ballot.specs.Members.{has_member};
+ghost use Rattle.cas_model.specs.Exchanges.Tellings.{AreWritable};
 ghost use Rattle.cas_model.specs.SafeLaws.{HasPlaces};
 ghost use Rattle.cas_model.specs.Step.{IsOpening};
 ghost use Rattle.cas_model.specs.View.{IsAt, meaning, disk_meaning};
@@ -99,6 +100,7 @@ impl<D: Disk> Store<D> {
     pub fn close(self) -> (Record, Rack<D>)
         ensures marks { result.0.marks ≡ self.world.marks }
         ensures legal { D.tells → IsLegal (reverse result.0.marks) }
+        ensures writable { AreWritable result.0.marks }
         ensures kept { D.tells
             → AreKept D.may_leave (reverse result.0.marks) result.1.acceptors.items }
         ensures held { D.tells → AreHeld D.may_leave self.world result.1.acceptors.items }

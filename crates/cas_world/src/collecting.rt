@@ -46,7 +46,16 @@ impl<S: Shelf, V: Disk> World<S, V> {
         let Ok(question) = question else {
             return Err(self.refuse(no_memory()));
         };
-        match ask_each(alloc, &mut self.flow, age, tag, since, members, question) {
+        match ask_each(
+            alloc,
+            &mut self.flow,
+            age,
+            tag,
+            since,
+            members,
+            None,
+            question,
+        ) {
             Ok(exchange) => {
                 self.council.exchange = Some(exchange);
                 Ok(())

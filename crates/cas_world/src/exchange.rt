@@ -13,7 +13,7 @@ ghost use Rattle.cas_ballot.specs.Ballot.{FitsBallot};
 ghost use Rattle.cas_model.specs.Calls.Step.{Sends};
 ghost use Rattle.cas_model.specs.Exchanges.Step.{new_exchange, questions_to, told_marks, HasTag};
 ghost use Rattle.cas_world_calls.specs.Council.{exchange_view, question_view, left_to_list};
-ghost use Rattle.cas_world.specs.Exchanges.Exchange.{MayAskMembers, MayAskThis, MayGather, MayGatherMembers, HasGathered, asking_of, gathering_of, WasToldOrder, IsAsked, OpensExchange, FailsToAsk, FailsToTag, question_in, question_from, asked_from, begins_with};
+ghost use Rattle.cas_world.specs.Exchanges.Exchange.{MayAskQuery, MayAskThis, MayGather, MayGatherMembers, HasGathered, asking_of, gathering_of, WasToldOrder, IsAsked, OpensExchange, FailsToAsk, FailsToTag, IsStopped, question_in, question_from, asked_from, begins_with, era_for, marks_to_ask};
 ghost use Rattle.cas_model.specs.Collection.Laws.{HasItsFloor};
 ghost use Rattle.cas_model.specs.SafeLaws.{HaveEnteredIts, IsEraTold};
 ghost use Rattle.cas_world.specs.Collection.Collect.{AreRemovalsDone};
@@ -28,13 +28,14 @@ use cas_disk::Disk;
 use cas_fate::Verdict;
 use cas_flow::{Fall, Flow, Message};
 use cas_proposer::Desk;
+use cas_quorum::Era;
 use cas_record::{Answer, Asked, MOST_MARKS, Mark, OpAnswer, Record};
 use cas_slot::{Request, Shelf};
 use cas_vault::VaultError;
 use cas_world_calls::answers::copy_of;
 use cas_world_calls::council::{
-    EXCHANGE_PLACE, EndedOrder, Gathered, OpenExchange, Opened, Order, Query, Question, no_memory,
-    reserved_in_all, unanswered,
+    EXCHANGE_PLACE, EndedOrder, Gathered, OpenExchange, Opened, Order, Query, Question,
+    marks_of_read, no_memory, reserved_in_all, unanswered,
 };
 use cas_world_calls::send::send_questions;
 use cas_world_listing::{Listing, Places};
@@ -52,6 +53,8 @@ pub enum Exchange {
     List,
     /// What each keeps for the key.
     Probe(Key),
+    /// The same, to read the key: what they agree on may be acknowledged.
+    Read(Key),
 }
 
 impl<S: Shelf, V: Disk> World<S, V> {
@@ -117,8 +120,8 @@ impl<S: Shelf, V: Disk> World<S, V> {
     /// of the harms are reserved.
     ///
     /// The refusals, each of which the call is told, come in this order: [`Answer::Down`] exactly where proposer 0 is down;
-    /// [`Answer::RecordFull`] exactly where the marks that are made, all that are reserved and one for each member that is asked would be
-    /// more than a record holds, and then more than 999,000 are made; [`Answer::NoMemory`], after which the tag may be drawn, [`Answer::Spent`], and [`Answer::VaultFault`],
+    /// [`Answer::RecordFull`] exactly where the marks that are made, all that are reserved and one for each member that is asked, and for a
+    /// read another for each and one beside, would be more than a record holds, and then more than 999,000 are made; [`Answer::NoMemory`], after which the tag may be drawn, [`Answer::Spent`], and [`Answer::VaultFault`],
     /// after which proposer 0 is down.
     pub fn ask_all(&mut self, what: Exchange) -> Result<(), OpAnswer>
         requires { MayAskThis self.old what }
@@ -133,12 +136,13 @@ impl<S: Shelf, V: Disk> World<S, V> {
             Exchange::Ages | Exchange::Remove => self.ask_collect(),
             Exchange::List => self.ask_members(Query::List),
             Exchange::Probe(key) => self.ask_members(Query::Probe(key)),
+            Exchange::Read(key) => self.ask_members(Query::Read(key)),
         }
     }
 
     /// Proposer 0 asks this of all members, or of those whose listing has not ended.
     fn ask_members(&mut self, what: Query) -> Result<(), OpAnswer>
-        requires { MayAskMembers self.old (question_in self.old what) }
+        requires { MayAskQuery self.old what }
         ensures step { Step (meaning S.Shelf V.Disk) self.old
             (AskAll (question_in self.old what)) self.new }
         ensures ok { OnOk result (IsSome self.new.council.exchange) }
@@ -148,7 +152,9 @@ impl<S: Shelf, V: Disk> World<S, V> {
             → 999000 < length self.old.marks }
     {
         let alloc = *self.acceptors.allocator();
-        let everyone = self.era().everyone();
+        let era = self.era();
+        let everyone = era.everyone();
+        let reads = read_in(era, &what);
         let reserved = reserved_in_all(&self.callers, &self.council);
         let goes_on = self.council.listing_for(&what);
         let opened = open_exchange(
@@ -158,6 +164,7 @@ impl<S: Shelf, V: Disk> World<S, V> {
             &mut self.record,
             reserved,
             everyone,
+            reads,
             goes_on,
             what,
         );
@@ -193,6 +200,7 @@ impl<S: Shelf, V: Disk> World<S, V> {
         ensures less { result ≡ Ok Gathered.More
             → left_to_list self.new.council.plan < left_to_list self.old.council.plan }
         ensures err { IfErr result (WasToldOrder self.new) }
+        ensures stopped { MayGatherMembers self.old → IfErr result IsStopped }
     {
         if self.council.exchange.is_none() {
             return self.gather_round();
@@ -211,8 +219,9 @@ impl<S: Shelf, V: Disk> World<S, V> {
         ensures less { result ≡ Ok Gathered.More
             → left_to_list self.new.council.plan < left_to_list self.old.council.plan }
         ensures err { IfErr result (WasToldOrder self.new) }
+        ensures stopped { IfErr result IsStopped }
     {
-        self.council.gather()
+        self.council.gather(&mut self.record)
     }
 
     /// The first frame of the exchange that is open has its turn.
@@ -336,6 +345,7 @@ fn open_exchange<V: Disk>(
     record: &mut Record,
     reserved: usize,
     everyone: Members,
+    reads: Option<Era>,
     goes_on: Option<&Listing>,
     what: Query,
 ) -> Result<Opened, Answer>
@@ -346,13 +356,13 @@ fn open_exchange<V: Disk>(
     requires tag { IfSome (option_copied goes_on) (λ listing. FitsBallot listing.tag) }
     ensures ok { IfOk result
         (λ opened. OpensExchange (disk_meaning V.Disk) desk.old desk.new flow.old flow.new everyone
-        (option_copied goes_on.entry) what (length «record».old.marks) opened) }
-    ensures room { OnOk result (reserved + length
+        (option_copied goes_on.entry) what (length «record».old.marks) reads opened) }
+    ensures room { OnOk result (reserved + marks_to_ask reads
         (asked_from everyone (option_copied goes_on.entry)) ≤ «record».new.room) }
-    ensures fits { OnOk result (length «record».old.marks + reserved + length
+    ensures fits { OnOk result (length «record».old.marks + reserved + marks_to_ask reads
         (asked_from everyone (option_copied goes_on.entry)) ≤ 1000000) }
     ensures refused { IfErr result (FailsToAsk (disk_meaning V.Disk) desk.old desk.new
-        (option_copied goes_on.entry) (length «record».old.marks + reserved + length
+        (option_copied goes_on.entry) (length «record».old.marks + reserved + marks_to_ask reads
         (asked_from everyone (option_copied goes_on.entry)))) }
     ensures not_sent { OnErr result (flow.new ≡ flow.old) }
     ensures marks { «record».new.marks ≡ «record».old.marks }
@@ -362,7 +372,7 @@ fn open_exchange<V: Disk>(
         return Err(Answer::Down);
     }
     let members = members_asked(everyone, goes_on);
-    let count = members.count() as usize;
+    let count = members.count() as usize + marks_of_read(&reads, &members);
     let since = record.marks().len();
     if since + reserved + count > MOST_MARKS {
         return Err(Answer::RecordFull);
@@ -372,7 +382,7 @@ fn open_exchange<V: Disk>(
     }
     let age = desk.age();
     match tag_for(desk, goes_on) {
-        Ok(tag) => match ask_members(alloc, flow, age, tag, since, everyone, goes_on, what) {
+        Ok(tag) => match ask_members(alloc, flow, age, tag, since, everyone, reads, goes_on, what) {
             Ok(opened) => Ok(opened),
             Err(_) => Err(Answer::NoMemory { proposed: false }),
         },
@@ -380,6 +390,16 @@ fn open_exchange<V: Disk>(
         Err(VaultError::Spent) => Err(Answer::Spent),
         Err(VaultError::NoMemory) => Err(Answer::NoMemory { proposed: false }),
         Err(VaultError::Foreign { .. }) => unreachable!(),
+    }
+}
+
+/// The era in which the key is read, where that is asked.
+fn read_in(era: &Era, what: &Query) -> Option<Era>
+    ensures { result ≡ era_for era.now what.now }
+{
+    match what {
+        Query::Read(_) => Some(*era),
+        _ => None,
     }
 }
 
@@ -401,6 +421,7 @@ fn ask_members(
     tag: Ballot,
     since: usize,
     everyone: Members,
+    reads: Option<Era>,
     goes_on: Option<&Listing>,
     what: Query,
 ) -> Result<Opened, AllocError>
@@ -408,7 +429,7 @@ fn ask_members(
     requires tag { FitsBallot tag }
     ensures exchange { IfOk result (λ opened. exchange_view opened.exchange
         ≡ new_exchange (question_from everyone (option_copied goes_on.entry) what) tag
-        (asked_from everyone (option_copied goes_on.entry)) since) }
+        (asked_from everyone (option_copied goes_on.entry)) since reads) }
     ensures begun { IfOk result
         (λ opened. opened.begun ≡ begins_with everyone (option_copied goes_on.entry) what tag) }
     ensures sent { OnOk result (Sends flow.old exchange_place
@@ -419,7 +440,7 @@ fn ask_members(
     let members = members_asked(everyone, goes_on);
     let begun = begin_listing(alloc, tag, &everyone, goes_on, &what)?;
     let question = question_for(alloc, &everyone, goes_on, what)?;
-    let exchange = ask_each(alloc, flow, age, tag, since, members, question)?;
+    let exchange = ask_each(alloc, flow, age, tag, since, members, reads, question)?;
     Ok(Opened { exchange, begun })
 }
 
@@ -431,12 +452,13 @@ pub(crate) fn ask_each(
     tag: Ballot,
     since: usize,
     members: Members,
+    reads: Option<Era>,
     question: Question,
 ) -> Result<OpenExchange, AllocError>
     requires queue { exchange_place < length flow.old.own }
     requires tag { FitsBallot tag }
     ensures exchange { IfOk result (λ exchange. exchange_view exchange
-        ≡ new_exchange (question_view question) tag members since) }
+        ≡ new_exchange (question_view question) tag members since reads) }
     ensures sent { OnOk result (Sends flow.old exchange_place
         (questions_to age tag (question_view question) members) flow.new) }
     ensures not_sent { OnErr result (flow.new ≡ flow.old) }
@@ -452,6 +474,7 @@ pub(crate) fn ask_each(
         harmed: Members::new(),
         reserved: members.count() as usize,
         crashed: false,
+        reads,
     })
 }
 
@@ -466,7 +489,7 @@ fn question_for(
         ≡ question_from everyone.now (option_copied goes_on.entry) what) }
 {
     match (what, goes_on) {
-        (Query::Probe(key), _) => Ok(Question::Probe(key)),
+        (Query::Probe(key) | Query::Read(key), _) => Ok(Question::Probe(key)),
         (Query::List, Some(listing)) => Ok(Question::NextKeys(listing.places().copy()?)),
         (Query::List, None) => Ok(Question::NextKeys(Places::first(alloc, everyone)?)),
     }

@@ -25,6 +25,6 @@ pub use cas_world_calls::council::Gathered;
 pub use collect::Reading;
 pub use exchange::Exchange;
 pub use fault::{OpenFault, StrayFault};
-pub use plans::PlanKind;
+pub use plans::{PlanKind, Target};
 pub use reopen::OpeningFloor;
 pub use world::{Config, World};

@@ -56,7 +56,7 @@ impl PlanKind {
     }
 
     /// Where a plan is to lead by which the acceptor joins or leaves.
-    fn target(self, id: AcceptorId) -> Target
+    pub fn target(self, id: AcceptorId) -> Target
         ensures { asked_of result ≡ asked_to self id }
     {
         match self {
@@ -66,9 +66,9 @@ impl PlanKind {
     }
 }
 
-/// Where a plan is to lead.
-#[derive(Clone, Copy)]
-enum Target {
+/// Where a change of membership or of sizes is to lead.
+#[derive(Clone, Copy, Debug, PartialEq, Eq)]
+pub enum Target {
     /// The acceptor is a member.
     Join(AcceptorId),
     /// The acceptor is none.
@@ -79,7 +79,7 @@ enum Target {
 
 impl Target {
     /// What an operator asks for who wants to get there.
-    fn asked(&self) -> Asked
+    pub fn asked(&self) -> Asked
         ensures { result ≡ asked_of self.now }
     {
         match self {
@@ -144,20 +144,36 @@ impl<S: Shelf, V: Disk> World<S, V> {
         }
     }
 
-    /// What the operator is told at the end of the change of membership that is under way: the era that all work in, and how many keys were
-    /// proposed anew.
-    pub fn finished_answer(&self, kind: PlanKind, id: AcceptorId) -> OpAnswer
-        requires under_way { IsUnderWay self.now (asked_to kind id) }
+    /// What the operator is told at the end of the change that is under way: the era that all work in, and how many keys were proposed anew.
+    pub fn finished_answer(&self, target: &Target) -> OpAnswer
+        requires under_way { IsUnderWay self.now (asked_of target.now) }
         requires end { IsAtEnd self.now }
         ensures finished { HasFinished self.now result }
-        ensures names { finished (asked_to kind id) (era_at self.now 0).number
+        ensures names { finished (asked_of target.now) (era_at self.now 0).number
             (rescanned_of self.now.council.plan) result }
     {
         let era = self.era().number;
         let rescanned = self.rescanned();
-        match kind {
-            PlanKind::Join => OpAnswer::Joined { id, era, rescanned },
-            PlanKind::Leave => OpAnswer::Left { id, era, rescanned },
+        match target {
+            Target::Join(id) => OpAnswer::Joined {
+                id: *id,
+                era,
+                rescanned,
+            },
+            Target::Leave(id) => OpAnswer::Left {
+                id: *id,
+                era,
+                rescanned,
+            },
+            Target::Resize {
+                need_prep,
+                need_acc,
+            } => OpAnswer::Resized {
+                need_prep: *need_prep,
+                need_acc: *need_acc,
+                era,
+                rescanned,
+            },
         }
     }
 
@@ -217,7 +233,7 @@ impl<S: Shelf, V: Disk> World<S, V> {
         ensures ok { OnOk result (IsUnderWay self.new (asked_to kind id)) }
         ensures err { IfErr result (WasToldOrder self.new) }
     {
-        self.begin_change(&kind.target(id))
+        self.open_change(&kind.target(id))
     }
 
     /// The change of sizes begins for which the operator's call was opened: quorums are to have these sizes. No acceptor joins or leaves.
@@ -229,14 +245,14 @@ impl<S: Shelf, V: Disk> World<S, V> {
         ensures ok { OnOk result (IsUnderWay self.new (Asked.Resize need_prep need_acc)) }
         ensures err { IfErr result (WasToldOrder self.new) }
     {
-        self.begin_change(&Target::Resize {
+        self.open_change(&Target::Resize {
             need_prep,
             need_acc,
         })
     }
 
     /// The change begins that leads there, as [`World::open_plan`] and [`World::open_resize`] say.
-    fn begin_change(&mut self, target: &Target) -> Result<(), OpAnswer>
+    pub fn open_change(&mut self, target: &Target) -> Result<(), OpAnswer>
         requires { MayOpenPlan self.old (asked_of target.now) }
         ensures step { Step (meaning S.Shelf V.Disk) self.old OpensPlan self.new }
         ensures ok { OnOk result (IsUnderWay self.new (asked_of target.now)) }

@@ -2,6 +2,7 @@
 
 ghost use Rattle.std.specs.Prelude.{◌≡◌, ◌+◌, ◌<◌, ◌≤◌, ◌^◌, length, take, slice_get, option_map, reverse, vec_len, Some, IfOk, IfErr};
 ghost use Rattle.cas_acceptor.specs.Acceptor.{AcceptorView};
+ghost use Rattle.cas_model.specs.Exchanges.Tellings.{AreWritable};
 ghost use Rattle.cas_model.specs.SafeLaws.{HasPlaces};
 ghost use Rattle.cas_model.specs.Step.{IsOpening};
 ghost use Rattle.cas_model.specs.View.{CallerView, IsAt, era_at, meaning, disk_meaning, shelf_meaning};
@@ -229,6 +230,7 @@ impl<S: Shelf, V: Disk> World<S, V> {
     pub fn parts(self) -> (Record, Vec<S>, Vec<V>)
         ensures marks { result.0.marks ≡ self.marks }
         ensures legal { S.tells → V.tells → IsLegal (reverse result.0.marks) }
+        ensures writable { AreWritable result.0.marks }
         ensures shelves { result.1.items ≡ shelves_of self.acceptors }
         ensures all_shelves { vec_len result.1 ≡ 64 }
         ensures disks { take (self.last_proposer + 1) result.2.items ≡ disks_of self.desks }
@@ -259,10 +261,12 @@ impl<S: Shelf, V: Disk> World<S, V> {
 
     /// The record of all that has happened. It is legal, where the shelves and the disks tell what they keep: each register has one
     /// history, in which every change that was answered done stands once, after all that was settled when its call began, one that was
-    /// left unsettled at most once, and one that was refused never.
+    /// left unsettled at most once, and one that was refused never. Each mark of what the operator was told bears an answer that a record can
+    /// bear: not what a probe found, and none by which a change that is done stops its call.
     pub fn record(&self) -> &Record
         ensures marks { result.now.marks ≡ self.now.marks }
         ensures legal { S.tells → V.tells → IsLegal (reverse result.now.marks) }
+        ensures writable { AreWritable result.now.marks }
     {
         &self.record
     }

@@ -92,7 +92,7 @@ gone_on under_way plan now era told result was is_plan by =
 -- whatever exchange stands in the council
 pub gathers_from : (era : Era) (exchange : ExchangeView) (old new : cluster.Council) (other : Option ExchangeView) (result : Result Gathered OpAnswer) → GathersAs era exchange (record old { exchange = other }) result new → GathersAs era exchange old result new
 gathers_from era exchange old new other result (crashed down told next) = crashed down told next
-gathers_from era exchange old new other result (probed key found kept up question has keeps told next) = probed key found kept up question has keeps told next
+gathers_from era exchange old new other result (probed key found kept up question plain has keeps told next) = probed key found kept up question plain has keeps told next
 gathers_from era exchange old new other result (lists of listing up keys enough on less told next) = lists of listing up keys enough on less told next
 gathers_from era exchange old new other result (is_short of short up keys missing told next) = is_short of short up keys missing told next
 gathers_from era exchange old new other result (no_memory up told next) = no_memory up told next

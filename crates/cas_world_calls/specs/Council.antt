@@ -49,6 +49,7 @@ exchange_view exchange = record {
   harmed = exchange.harmed;
   reserved = exchange.reserved;
   crashed = exchange.crashed;
+  reads = exchange.reads;
 }
 
 abbrev pub plan_view : OpenPlan → PlanView
@@ -159,7 +160,7 @@ listed_with council plan = record (hushed council) { exchange = None; plan = Som
 
 pub data GathersAs (era : Era) (exchange : ExchangeView) (old : cluster.Council) (result : Result Gathered OpAnswer) (new : cluster.Council) : Type 0 where
   crashed : exchange.crashed ≡ true → result ≡ Err (op.Stopped answer.Crashed) → new ≡ over_with old (op.Stopped answer.Crashed) → GathersAs era exchange old result new
-  probed : (key : List ℕ) (found kept : Probes) → exchange.crashed ≡ false → exchange.question ≡ cluster.Probe key → found.probes.items ≡ exchange.told → kept.probes.items ≡ exchange.told
+  probed : (key : List ℕ) (found kept : Probes) → exchange.crashed ≡ false → exchange.question ≡ cluster.Probe key → exchange.reads ≡ None → found.probes.items ≡ exchange.told → kept.probes.items ≡ exchange.told
       → result ≡ Ok (gathered.Probed found) → new ≡ over_with old (op.Probed key kept) → GathersAs era exchange old result new
   lists : (of : EraIsListed old.plan) (next : ListingView) → exchange.crashed ≡ false → IsOfKeys exchange.question → missing era (counted exchange.told of.listing.places) ≡ None → ListsOn era exchange.told of.listing next → LeavesLess era exchange.told of.listing next
       → result ≡ Ok (listed_if next.complete) → new ≡ listed_with old (with_listing of.plan next) → GathersAs era exchange old result new
@@ -179,6 +180,7 @@ left_to_list plan = left_in (listing_in plan)
 -- the listing that goes on, where the next keys are asked for
 abbrev pub goes_on_in : cluster.Council → Query → Option ListingView
 goes_on_in council (what.Probe key) = None
+goes_on_in council (what.Read key) = None
 goes_on_in council what.List = listing_in council.plan
 
 -- one that begins is that of the change of membership from then on

@@ -4,4 +4,5 @@ pub mod Collecting
 pub mod Collection
 pub mod Council
 pub mod Proposing
+pub mod Read
 pub mod Sending

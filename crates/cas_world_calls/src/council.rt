@@ -3,8 +3,9 @@
 
 ghost use Rattle.std.specs.Prelude.{slice_set, ◌≤◌, ◌≡◌, ◌+◌, ◌<◌, ◌^◌, ◌++◌, Some, None, IsSome, IsSomeAnd, IfSome, IfOk, length, map, position, sum_by, false, IsTrue, option_copied, option_map, unwrap_or, true};
 ghost use Rattle.cas_ballot.specs.Members.{has_member};
-ghost use Rattle.cas_model.specs.Council.{ask_of, reserved_by, at_rest, telling, hushed, crashed_in};
+ghost use Rattle.cas_model.specs.Council.{ask_of, marks_of_read, reserved_by, at_rest, telling, hushed, crashed_in};
 ghost use Rattle.std.specs.Option.{option_map_or};
+ghost use Rattle.cas_quorum.specs.Era.{Meet};
 ghost use Rattle.cas_model.specs.Safe.{is_of_collection};
 ghost use Rattle.cas_model.specs.Eras.Course.{entering, next_era, era_shown};
 ghost use Rattle.cas_model.specs.View.{era_in};
@@ -12,6 +13,7 @@ ghost use Rattle.cas_model.specs.Calls.Step.{Rescans};
 ghost use Rattle.cas_model.specs.Exchanges.Step.{awaits, hears, harmed_exchange, harm_marks};
 ghost use Rattle.cas_model.specs.Eras.Step.{plan_after};
 ghost use Rattle.cas_world_calls.specs.Call.{reserved_of};
+ghost use Rattle.cas_world_calls.specs.Read.{IsProbeRead, MarksFit, GathersIn};
 ghost use Rattle.cas_world_calls.specs.Council.{council_view, exchange_view, question_view, plan_view, opening_council, unanswered, heard_in, harmed_in, harms_in, RescanIsDue, IsProbed, IsFoundByProbe, IsOfKeys, EraIsListed, MayList, GathersAs, goes_on_in, with_begun, concluded, MayConclude};
 
 use crate::answers::{copy_of, copy_of_op, is_done};
@@ -19,10 +21,11 @@ use crate::call::{Caller, reserved_by};
 use crate::collection::OpenCollection;
 use crate::eras::Eras;
 use crate::plan::OpenPlan;
+use crate::read::{Reading, push_marks, read_found};
 use cas_ballot::{AcceptorId, Ballot, Members};
 use cas_change::Key;
 use cas_quorum::Era;
-use cas_record::{Answer, Asked, Mark, OpAnswer, Probe, Probes, Record};
+use cas_record::{Agreement, Answer, Asked, Mark, OpAnswer, Probe, Probes, Record, agree};
 use cas_slot::{Ages, Ask, Reply};
 use cas_world_listing::{Listing, Places};
 use std::alloc::{AllocError, Global};
@@ -38,6 +41,8 @@ const IDENTITIES: u8 = 64;
 pub enum Query {
     /// What each keeps for the key.
     Probe(Key),
+    /// The same, to read the key: what they agree on may be acknowledged.
+    Read(Key),
     /// The next keys of which each keeps a slot, for the listing of the era that is to be settled. Members whose listing has ended are not
     /// asked.
     List,
@@ -48,6 +53,9 @@ pub enum Query {
 pub enum Gathered {
     /// What each of them told, in rising number.
     Probed(Probes),
+    /// What all members agree on of the key that is read, by the era in which it is read, and what each of them told, in rising number.
+    /// It is marked as acknowledged, if its ballot is above the last of the key that was acknowledged or made a floor.
+    Read { agreement: Agreement, found: Probes },
     /// The listing goes on: the next keys are to be asked for.
     More,
     /// The listing is complete.
@@ -111,6 +119,8 @@ pub struct OpenExchange {
     pub reserved: usize,
     /// Whether proposer 0 crashed within it.
     pub crashed: bool,
+    /// The era of proposer 0 when they were asked, if the operator's call is to read the key.
+    pub reads: Option<Era>,
 }
 
 /// An exchange that opens, and the listing that begins with it, where one does.
@@ -238,7 +248,7 @@ impl Council {
         ensures { result ≡ reserved_by (council_view self.now) }
     {
         let exchange = match &self.exchange {
-            Some(exchange) => exchange.reserved,
+            Some(exchange) => exchange.reserved + marks_of_read(&exchange.reads, &exchange.members),
             None => 0,
         };
         let collection = match &self.collection {
@@ -484,12 +494,17 @@ impl Council {
 
     /// The exchange that is open is over, and the open call is told what came of it, or a listing goes on. Where no memory is found the
     /// exchange stays open, and the call is told so.
-    pub fn gather(&mut self) -> Result<Gathered, OpAnswer>
+    pub fn gather(&mut self, record: &mut Record) -> Result<Gathered, OpAnswer>
         requires open { IsSome self.old.exchange }
         requires lists { IfSome self.old.exchange
             (λ exchange. MayList (exchange_view exchange).question (council_view self.old).plan) }
-        ensures gathers { IfSome self.old.exchange (λ exchange. GathersAs (era_in self.old.eras.0 0)
-            (exchange_view exchange) (council_view self.old) result (council_view self.new)) }
+        requires room { IfSome self.old.exchange
+            (λ exchange. MarksFit (exchange_view exchange) «record».old) }
+        requires meets { IfSome self.old.exchange
+            (λ exchange. IfSome exchange.reads (λ era. Meet era era)) }
+        ensures gathers { IfSome self.old.exchange (λ exchange. GathersIn (era_in self.old.eras.0 0)
+            (exchange_view exchange) (council_view self.old) «record».old «record».new result
+            (council_view self.new)) }
         ensures eras { self.new.eras ≡ self.old.eras }
     {
         let Some(exchange) = self.exchange.take() else {
@@ -499,16 +514,49 @@ impl Council {
             self.tell(OpAnswer::Stopped(Answer::Crashed));
             return Err(OpAnswer::Stopped(Answer::Crashed));
         }
-        match &exchange.question {
-            Question::Probe(key) => match probed(key, &exchange) {
+        match (&exchange.question, exchange.reads) {
+            (Question::Probe(_), Some(era)) => self.gather_read(record, &era, exchange),
+            (Question::Probe(key), None) => match probed(key, &exchange) {
                 Ok(told) => {
                     self.tell(told);
                     Ok(Gathered::Probed(Probes::new(exchange.told)))
                 }
                 Err(_) => Err(self.keep(exchange)),
             },
-            Question::NextKeys(_) => self.gather_keys(exchange),
+            (Question::NextKeys(_), _) => self.gather_keys(exchange),
             _ => unreachable!(),
+        }
+    }
+
+    /// What the members told of the key that is read is marked, if they agree on what is above all that settled, and the open call is told
+    /// it. Where no memory is found the exchange stays open, and nothing is marked.
+    fn gather_read(
+        &mut self,
+        record: &mut Record,
+        era: &Era,
+        exchange: OpenExchange,
+    ) -> Result<Gathered, OpAnswer>
+        requires up { exchange.crashed ≡ false }
+        requires asked { IsProbeRead (exchange_view exchange).question }
+        requires reads { exchange.reads ≡ Some era.now }
+        requires room { MarksFit (exchange_view exchange) «record».old }
+        requires meets { Meet era.now era.now }
+        requires taken { self.old.exchange ≡ None }
+        ensures gathers { GathersIn (era_in self.old.eras.0 0) (exchange_view exchange)
+            (council_view self.old) «record».old «record».new result (council_view self.new) }
+        ensures eras { self.new.eras ≡ self.old.eras }
+    {
+        match read_found(record, era, &exchange) {
+            Ok(Reading { told, marks }) => {
+                push_marks(record, marks);
+                self.tell(told);
+                let agreement = agree(era, &exchange.told);
+                Ok(Gathered::Read {
+                    agreement,
+                    found: Probes::new(exchange.told),
+                })
+            }
+            Err(_) => Err(self.keep(exchange)),
         }
     }
 
@@ -581,13 +629,23 @@ fn concluding(collected: Option<Key>, answer: &OpAnswer) -> OpAnswer
 }
 
 /// What the open call is told of the key, from lists of its own.
-fn probed(key: &Key, exchange: &OpenExchange) -> Result<OpAnswer, AllocError>
+pub(crate) fn probed(key: &Key, exchange: &OpenExchange) -> Result<OpAnswer, AllocError>
     ensures { IfOk result (IsFoundByProbe (exchange_view exchange.now) key.now) }
 {
     Ok(OpAnswer::Probed {
         key: key.copy()?,
         found: exchange.found()?,
     })
+}
+
+/// How many marks a read may make beside those of its harms: a vote of each of these members, and an acknowledgment.
+pub fn marks_of_read(reads: &Option<Era>, members: &Members) -> usize
+    ensures { result ≡ marks_of_read reads.now members.now }
+{
+    match reads {
+        Some(_) => members.count() as usize + 1,
+        None => 0,
+    }
 }
 
 /// What an operator's call is told that found no memory.

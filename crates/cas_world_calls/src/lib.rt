@@ -12,4 +12,5 @@ pub mod council;
 pub mod eras;
 pub mod plan;
 pub mod proposal;
+pub mod read;
 pub mod send;

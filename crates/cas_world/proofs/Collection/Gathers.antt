@@ -1,7 +1,7 @@
 -- The steps of a collection in the whole: what its round and its exchanges came to, and its floor.
 use Rattle.std.proofs.Common.{◌≡◌, ◌+◌, ◌≤◌, ◌<◌, ◌∷◌, ℕ, true, false, List, [], Option, None, Some, Result, Err, inl, inr, refl, sym, ap, subst, ◌∙◌, arith, length}
 use Rattle.std.specs.Option.{option_map_or}
-use Rattle.std.specs.Prelude.{◌⊎◌, Bool, IfErr, IfOk, is_some, option_map}
+use Rattle.std.specs.Prelude.{◌⊎◌, Bool, IfErr, IfOk, is_some, option_map, if◌then◌else◌}
 use Rattle.cas_change.specs.declared.state.State.TheVariants.{Empty}
 use Rattle.cas_collect.specs.declared.collect.CollectStep.{CollectStep}
 use Rattle.cas_collect.specs.declared.collect.CollectStep.TheVariants.{Round, Ages, Floor, Remove}
@@ -14,7 +14,7 @@ use Rattle.cas_record.specs.declared.operator.OpAnswer.TheVariants as op
 use Rattle.cas_model.specs.Collection.Logged.{is_after_floor}
 use Rattle.cas_model.specs.Collection.State.{CollectionView, ages_of, confirmed_step, reserved_for_collection, tomb_of}
 use Rattle.cas_model.specs.Council as cluster
-use Rattle.cas_model.specs.Council.{exchange_place, ExchangeView, OrderView, reserved_by, telling, told_so, hushed}
+use Rattle.cas_model.specs.Council.{exchange_place, ExchangeView, OrderView, reserved_by, telling, told_so, hushed, marks_of_read}
 use Rattle.cas_model.specs.Safe.{IsSafe, IsOfCollection, is_of_collection, renewals_before}
 use Rattle.cas_model.specs.Collection.Step as collect
 use Rattle.cas_model.specs.Collection.Step.{CollectingAt, IsQuestionOf, IsRenewedBy, MayAskCollect, StepGatherRound, StepGatherCollect, StepMakeFloor}
@@ -23,7 +23,7 @@ use Rattle.cas_model.specs.Parties.{IsAged}
 use Rattle.cas_model.specs.Step as step
 use Rattle.cas_model.specs.Step.{Step}
 use Rattle.cas_model.specs.Calls.Step.{Sends, most_marks}
-use Rattle.cas_model.specs.Exchanges.Step.{SaysTheSame, asked_by, everyone, new_exchange, questions_to, told_view, with_council}
+use Rattle.cas_model.specs.Exchanges.Step.{SaysTheSame, asked_by, everyone, new_exchange, questions_to, told_view, with_council, reads_by, read_era}
 use Rattle.cas_model.specs.View.{Meaning, View, IsAt, era_at, reserved_in_all, with_marks}
 use Rattle.cas_vault.specs.Vault.{kept_of}
 use Rattle.cas_model.proofs.Collection.Laws.{requests_aged}
@@ -43,6 +43,8 @@ use Rattle.cas_world.proofs.Exchanges.Asking.{idle_first}
 use Rattle.cas_world.proofs.Collection.Collects.{hushed_so}
 use Rattle.cas_world.proofs.Exchanges.Exchanges.{hushed_reserves}
 use Rattle.cas_world.proofs.Eras.Planning.{told_last}
+use Rattle.cas_quorum.specs.declared.era.Era.{Era}
+use Rattle.cas_slot.specs.declared.ages.Ages.{Ages as LeastAges}
 
 -- ---- the collection that is under way
 -- the open call asked for it
@@ -56,7 +58,8 @@ collecting_at view collection safe is = record {
 }
 
 -- once all proposers are renewed for it
-pub renewed_by : {S V : Type 0} (view : View S V) (collection : CollectionView) → IsSafe view → view.council.collection ≡ Some collection → renewals_before view.last_proposer collection.course.step ≡ view.last_proposer + 1 → (collection.course.step ≡ Round → ⊥) → IsRenewedBy view collection
+pub renewed_by : {S V : Type 0} (view : View S V) (collection : CollectionView) → IsSafe view → view.council.collection ≡ Some collection
+    → renewals_before view.last_proposer collection.course.step ≡ view.last_proposer + 1 → (collection.course.step ≡ Round → ⊥) → IsRenewedBy view collection
 renewed_by view collection safe is all past =
     let of = safe.collection.each collection is in
     let acked = of.acknowledged past in record {
@@ -69,7 +72,8 @@ renewed_by view collection safe is all past =
     }
 
 -- the operator's call is told so
-told_in_view : {S V : Type 0} (view : View S V) (order : OrderView) (next : cluster.Council) (said : OpAnswer) → view.council.order ≡ Some order → next.order ≡ (telling view.council said).order → SaysTheSame said said → WasToldOrder (with_council view next) said
+told_in_view : {S V : Type 0} (view : View S V) (order : OrderView) (next : cluster.Council) (said : OpAnswer) → view.council.order ≡ Some order → next.order ≡ (telling view.council said).order
+    → SaysTheSame said said → WasToldOrder (with_council view next) said
 told_in_view view order next said is_open is itself = record { order = told_so said order; is_open = is ∙ ap (option_map (told_so said)) is_open; said = said; was_said = refl; same = itself }
 
 -- ---- its round
@@ -83,10 +87,12 @@ pub record Gathers {S V : Type 0} (Happens : View S V → Type 0) (old : View S 
 gathers_as : {S V : Type 0} (Happens : View S V → Type 0) (old new : View S V) (result is : Result Gathered OpAnswer) → result ≡ is → Gathers Happens old is new → Gathers Happens old result new
 gathers_as Happens old new result is same has = subst (λ (r : Result Gathered OpAnswer). Gathers Happens old r new) (sym same) has
 
-pub gathers_round : {S V : Type 0} (old : View S V) (result : Result Gathered OpAnswer) (next : cluster.Council) → IsSafe old → MayGatherRound old → GathersRoundAs (era_at old 0).acc old.council result next → Gathers (StepGatherRound old) old result (with_council old next)
+pub gathers_round : {S V : Type 0} (old : View S V) (result : Result Gathered OpAnswer) (next : cluster.Council) → IsSafe old → MayGatherRound old
+    → GathersRoundAs (era_at old 0).acc old.council result next → Gathers (StepGatherRound old) old result (with_council old next)
 gathers_round {S} {V} old result next safe may by = in_case by
   where
-    step_of : (collection : CollectionView) (is : old.council.collection ≡ Some collection) → collect.GathersRound old (collecting_at old collection safe is) (with_council old next) → StepGatherRound old (with_council old next)
+    step_of : (collection : CollectionView) (is : old.council.collection ≡ Some collection) → collect.GathersRound old (collecting_at old collection safe is) (with_council old next)
+        → StepGatherRound old (with_council old next)
     step_of collection is gathers_ =
         let of = safe.collection.each collection is in
         let same : may.collection ≡ collection = some_is (sym may.is_collection ∙ is) in record {
@@ -101,7 +107,8 @@ gathers_round {S} {V} old result next safe may by = in_case by
           gathers = gathers_;
         }
 
-    told : (said : OpAnswer) (collection : CollectionView) (is : old.council.collection ≡ Some collection) → SaysTheSame said said → next ≡ telling old.council said → collect.GathersRound old (collecting_at old collection safe is) (with_council old next) → result ≡ Err said
+    told : (said : OpAnswer) (collection : CollectionView) (is : old.council.collection ≡ Some collection) → SaysTheSame said said → next ≡ telling old.council said
+        → collect.GathersRound old (collecting_at old collection safe is) (with_council old next) → result ≡ Err said
         → Gathers (StepGatherRound old) old result (with_council old next)
     told said collection is itself next_is gathers_ answer_is = gathers_as (StepGatherRound old) old (with_council old next) result (Err said) answer_is (record {
       step_ = step_of collection is gathers_;
@@ -113,28 +120,34 @@ gathers_round {S} {V} old result next safe may by = in_case by
     in_case : GathersRoundAs (era_at old 0).acc old.council result next → Gathers (StepGatherRound old) old result (with_council old next)
     in_case (gathers.all collection ballot by_ is acked all_ answer_is next_is) = gathers_as (StepGatherRound old) old (with_council old next) result _ answer_is (record {
       step_ = step_of collection is (collect.all ballot by_ acked all_ (ap (with_council old) next_is ∙ hushed_so old (safe.collection.each collection is).order (confirmed_step collection) (safe.collection.each collection is).is_open));
-      ok = exchanges.acknowledged collection may.none_open is refl (next_is ∙ ap (λ (o : Option ExchangeView). record (hushed old.council) { exchange = o; collection = Some (confirmed_step collection) }) may.none_open);
+      ok =
+          exchanges.acknowledged collection may.none_open is refl
+          (next_is ∙ ap (λ (o : Option ExchangeView). record (hushed old.council) { exchange = o; collection = Some (confirmed_step collection) }) may.none_open);
       err = tt;
       reserves = omega (arith, ap reserved_by next_is, hushed_reserves old.council.order, ap reserved_for_collection is);
     })
     in_case (gathers.is_absent collection ballot by_ acceptor is acked least answer_is next_is) =
         told (op.Absent acceptor) collection is refl next_is (collect.is_absent ballot by_ acceptor acked least (ap (with_council old) next_is)) answer_is
-    in_case (gathers.is_held collection version is held answer_is next_is) = told (op.NotEmpty version) collection is refl next_is (collect.is_held version held (ap (with_council old) next_is)) answer_is
+    in_case (gathers.is_held collection version is held answer_is next_is) =
+        told (op.NotEmpty version) collection is refl next_is (collect.is_held version held (ap (with_council old) next_is)) answer_is
 
 -- ---- its exchanges
 -- members are asked once all proposers are renewed
-pub asks_late : (last_proposer : ℕ) (step : CollectStep) (collection : CollectionView) → collection.course.step ≡ step → gathers.asks_at step ≡ true → (renewals_before last_proposer collection.course.step ≡ last_proposer + 1) × (collection.course.step ≡ Round → ⊥)
+pub asks_late : (last_proposer : ℕ) (step : CollectStep) (collection : CollectionView) → collection.course.step ≡ step → gathers.asks_at step ≡ true
+    → (renewals_before last_proposer collection.course.step ≡ last_proposer + 1) × (collection.course.step ≡ Round → ⊥)
 asks_late last_proposer Ages collection is asks = (ap (renewals_before last_proposer) is, λ other. cc (is, other))
 asks_late last_proposer Remove collection is asks = (ap (renewals_before last_proposer) is, λ other. cc (is, other))
 asks_late last_proposer Round collection is asks = absurd (cc asks)
 asks_late last_proposer Floor collection is asks = absurd (cc asks)
 asks_late last_proposer other collection is asks = absurd (cc asks)
 
-question_late : (last_proposer : ℕ) (collection : CollectionView) (question : cluster.Question) → IsQuestionOf collection question → (renewals_before last_proposer collection.course.step ≡ last_proposer + 1) × (collection.course.step ≡ Round → ⊥)
+question_late : (last_proposer : ℕ) (collection : CollectionView) (question : cluster.Question) → IsQuestionOf collection question
+    → (renewals_before last_proposer collection.course.step ≡ last_proposer + 1) × (collection.course.step ≡ Round → ⊥)
 question_late last_proposer collection question (collect.tells_ages is asks) = asks_late last_proposer Ages collection is refl
 question_late last_proposer collection question (collect.removes is asks) = asks_late last_proposer Remove collection is refl
 
-pub gathers_collect : {S V : Type 0} (old : View S V) (result : Result Gathered OpAnswer) (next : cluster.Council) → IsSafe old → (may : MayGatherCollected old) → GathersCollectAs may.exchange old.council result next → Gathers (StepGatherCollect old) old result (with_council old next)
+pub gathers_collect : {S V : Type 0} (old : View S V) (result : Result Gathered OpAnswer) (next : cluster.Council) → IsSafe old → (may : MayGatherCollected old)
+    → GathersCollectAs may.exchange old.council result next → Gathers (StepGatherCollect old) old result (with_council old next)
 gathers_collect {S} {V} old result next safe may by = in_case by
   where
     of_it : IsOfCollection old.council.collection (era_at old 0) may.exchange
@@ -159,7 +172,8 @@ gathers_collect {S} {V} old result next safe may by = in_case by
           gathers = gathers_;
         }
 
-    told : (said : OpAnswer) → SaysTheSame said said → next ≡ record (telling old.council said) { exchange = None } → collect.GathersCollect old (collecting_at old c safe is_c) may.exchange (with_council old next) → result ≡ Err said → Gathers (StepGatherCollect old) old result (with_council old next)
+    told : (said : OpAnswer) → SaysTheSame said said → next ≡ record (telling old.council said) { exchange = None }
+        → collect.GathersCollect old (collecting_at old c safe is_c) may.exchange (with_council old next) → result ≡ Err said → Gathers (StepGatherCollect old) old result (with_council old next)
     told said itself next_is gathers_ answer_is = gathers_as (StepGatherCollect old) old (with_council old next) result (Err said) answer_is (record {
       step_ = step_of gathers_;
       ok = tt;
@@ -172,8 +186,10 @@ gathers_collect {S} {V} old result next safe may by = in_case by
     in_case (gathers.is_absent acceptor up least answer_is next_is) = told (op.Absent acceptor) refl next_is (collect.is_absent acceptor up least (ap (with_council old) next_is)) answer_is
     in_case (gathers.all collection up is confirmed answer_is next_is) =
         let same : collection ≡ c = some_is (sym is ∙ is_c) in
-        let now : CollectionView → CollectionView = λ x. record (confirmed_step x) { removed = length (collect.those_telling collect.is_removed may.exchange.told); kept = length (collect.those_telling collect.is_kept may.exchange.told) } in
-        let here : next ≡ record (hushed old.council) { exchange = None; collection = Some (now c) } = next_is ∙ ap (λ (x : CollectionView). record (hushed old.council) { exchange = None; collection = Some (now x) }) same in
+        let now : CollectionView → CollectionView =
+        λ x. record (confirmed_step x) { removed = length (collect.those_telling collect.is_removed may.exchange.told); kept = length (collect.those_telling collect.is_kept may.exchange.told) } in
+        let here : next ≡ record (hushed old.council) { exchange = None; collection = Some (now c) } =
+        next_is ∙ ap (λ (x : CollectionView). record (hushed old.council) { exchange = None; collection = Some (now x) }) same in
         gathers_as (StepGatherCollect old) old (with_council old next) result _ answer_is (record {
           step_ = step_of (collect.all up confirmed (ap (with_council old) here
               ∙ ap (λ (o : Option OrderView). with_council old (record old.council { order = option_map cluster.silent_order o; exchange = None; collection = Some (now c) })) (safe.collection.each c is_c).is_open));
@@ -183,7 +199,8 @@ gathers_collect {S} {V} old result next safe may by = in_case by
         })
 
 -- what it asks
-abbrev pub may_ask_collect : {S V : Type 0} (view : View S V) (step : CollectStep) (desk : DeskView V) → IsSafe view → (may : MayAskCollected view step) → gathers.asks_at step ≡ true → IsAt view.desks 0 desk → MayAskCollect view desk
+abbrev pub may_ask_collect : {S V : Type 0} (view : View S V) (step : CollectStep) (desk : DeskView V) → IsSafe view → (may : MayAskCollected view step) → gathers.asks_at step ≡ true
+    → IsAt view.desks 0 desk → MayAskCollect view desk
 may_ask_collect view step desk safe may asks at =
     let late = asks_late view.last_proposer step may.collection may.is_due asks in record {
       at = collecting_at view may.collection safe may.is_collection;
@@ -199,6 +216,21 @@ may_ask_collect view step desk safe may asks at =
 asked_all : {S V : Type 0} (view : View S V) (collection : CollectionView) (question : cluster.Question) → IsQuestionOf collection question → asked_by view question ≡ everyone view
 asked_all view collection question (collect.tells_ages is asks) = ap (asked_by view) asks
 asked_all view collection question (collect.removes is asks) = ap (asked_by view) asks
+
+-- and nothing of a collection is read
+ages_not_read : (order : Option OrderView) (key : List ℕ) (least : LeastAges) → reads_by order (cluster.NewAges key least) ≡ false
+ages_not_read None key least = refl
+ages_not_read (Some order) key least = refl
+
+removal_not_read : (order : Option OrderView) (key : List ℕ) → reads_by order (cluster.Removal key) ≡ false
+removal_not_read None key = refl
+removal_not_read (Some order) key = refl
+
+asked_plain : {S V : Type 0} (view : View S V) (collection : CollectionView) (question : cluster.Question) → IsQuestionOf collection question → read_era view question ≡ None
+asked_plain view collection question (collect.tells_ages is asks) =
+    ap (λ (b : Bool). if b then Some (era_at view 0) else None) (ap (reads_by view.council.order) asks ∙ ages_not_read view.council.order collection.course.key (ages_of collection.ages))
+asked_plain view collection question (collect.removes is asks) =
+    ap (λ (b : Bool). if b then Some (era_at view 0) else None) (ap (reads_by view.council.order) asks ∙ removal_not_read view.council.order collection.course.key)
 
 -- whichever of its steps asks
 pub record Asks {S V : Type 0} (view : View S V) : Type 0 where
@@ -230,23 +262,26 @@ module _ {S V : Type 0} (m : Meaning S V) (old new : View S V) (desk : DeskView 
   pub asks_full : desk.down ≡ false → most_marks < length old.marks + reserved_in_all old + length (everyone old) → new ≡ told_view old (op.Stopped answer.RecordFull) → Step m old step.AskCollect new
   asks_full up many view =
       let one = question_at of.due of.may.collection of.may.is_due of.asks in
-      asks_so (collect.is_full one.0 up one.1 (λ has. omega (arith, many, has, ap (λ (l : List ℕ). length l) (asked_all old of.may.collection one.0 one.1))) view)
+      asks_so (collect.is_full one.0 up one.1 (λ has. omega (arith, many, has, ap (λ (l : List ℕ). length l) (asked_all old of.may.collection one.0 one.1), ap (λ (r : Option Era). marks_of_read r (asked_by old one.0)) (asked_plain old of.may.collection one.0 one.1))) view)
 
   pub asks_lost : desk.down ≡ false → new ≡ told_view old (op.Stopped (answer.NoMemory false)) → Step m old step.AskCollect new
   asks_lost up view = asks_so (collect.no_memory up view)
 
-  pub asks_all : (question : cluster.Question) (flow : FlowView) → desk.down ≡ false → IsQuestionOf of.may.collection question → length old.marks + reserved_in_all old + length (everyone old) ≤ most_marks → (m.disks.tells → IsAged m.disks (kept_of desk.vault).age desk.vault)
+  pub asks_all : (question : cluster.Question) (flow : FlowView) → desk.down ≡ false → IsQuestionOf of.may.collection question
+      → length old.marks + reserved_in_all old + length (everyone old) ≤ most_marks → (m.disks.tells → IsAged m.disks (kept_of desk.vault).age desk.vault)
       → Sends old.flow exchange_place (questions_to (kept_of desk.vault).age (tomb_of of.may.collection.tombstone) question (everyone old)) flow
-      → new ≡ with_council (record old { flow = flow }) (record old.council { exchange = Some (new_exchange question (tomb_of of.may.collection.tombstone) (everyone old) (length old.marks)) }) → Step m old step.AskCollect new
+      → new ≡ with_council (record old { flow = flow }) (record old.council { exchange = Some (new_exchange question (tomb_of of.may.collection.tombstone) (everyone old) (length old.marks) None) })
+      → Step m old step.AskCollect new
   asks_all question flow up is_it few aged sends view =
-      asks_so (collect.asks question flow up is_it (omega (arith, few, ap (λ (l : List ℕ). length l) (asked_all old of.may.collection question is_it))) aged sends view)
+      asks_so (collect.asks question flow up is_it (omega (arith, few, ap (λ (l : List ℕ). length l) (asked_all old of.may.collection question is_it), ap (λ (r : Option Era). marks_of_read r (asked_by old question)) (asked_plain old of.may.collection question is_it))) aged sends view)
 
   -- the operator's call is told why not
   pub told_not : (said : OpAnswer) (result : OpAnswer) → new ≡ told_view old said → result ≡ said → WasToldOrder new result
   told_not said result view same = told_last old new at_it.order said result at_it.is_open view same
 
 -- ---- its floor
-pub makes_floor : {S V : Type 0} (old new : View S V) (next : cluster.Council) → IsSafe old → (due : IsDueStep old Floor) → next ≡ with_collection (hushed old.council) (λ c. record (confirmed_step c) { reserved = 0 })
+pub makes_floor : {S V : Type 0} (old new : View S V) (next : cluster.Council) → IsSafe old → (due : IsDueStep old Floor)
+    → next ≡ with_collection (hushed old.council) (λ c. record (confirmed_step c) { reserved = 0 })
     → new ≡ with_marks (with_council old next) (mark.Floor due.collection.course.key (tomb_of due.collection.tombstone) Empty ∷ []) → StepMakeFloor old new
 makes_floor {S} {V} old new next safe due next_is is =
     let c = due.collection in
@@ -266,7 +301,8 @@ floor_reserved old safe due =
     let acked = of.acknowledged (λ other. cc (due.is_due, other)) in
     of.reserved acked.ballot acked.by acked.is (ap is_after_floor due.is_due)
 
-pub floor_goes_on : {S V : Type 0} (old new : View S V) (next : cluster.Council) → (due : IsDueStep old Floor) → next ≡ with_collection (hushed old.council) (λ c. record (confirmed_step c) { reserved = 0 }) → new.council ≡ next → GoesOnCollecting old new
+pub floor_goes_on : {S V : Type 0} (old new : View S V) (next : cluster.Council) → (due : IsDueStep old Floor)
+    → next ≡ with_collection (hushed old.council) (λ c. record (confirmed_step c) { reserved = 0 }) → new.council ≡ next → GoesOnCollecting old new
 floor_goes_on old new next due next_is is = record {
   collection = due.collection;
   was = due.is_collection;
@@ -289,7 +325,8 @@ must_be_collected view asks (exchanges.members may) = absurd (cc (may.beside, sy
 must_be_collected view asks (exchanges.collected may) = may
 must_be_collected view asks (exchanges.its_round may) = absurd (cc (sym (ap asks_in may.none_open) ∙ asks))
 
-pub must_be_members : {S V : Type 0} (view : View S V) → is_some view.council.exchange ≡ true → option_map_or (λ e. is_of_collection e.question) view.council.exchange false ≡ false → MayGather view → MayGatherMembers view
+pub must_be_members : {S V : Type 0} (view : View S V) → is_some view.council.exchange ≡ true → option_map_or (λ e. is_of_collection e.question) view.council.exchange false ≡ false
+    → MayGather view → MayGatherMembers view
 must_be_members view some asks (exchanges.members may) = may
 must_be_members view some asks (exchanges.collected may) = absurd (cc (may.asks, sym (ap asks_in may.is_open) ∙ asks))
 must_be_members view some asks (exchanges.its_round may) = absurd (cc (sym (ap is_some may.none_open) ∙ some))
@@ -305,5 +342,6 @@ floors_kept m view shelves disks safe is = record {
       let caller = at_low view.callers id (omega (arith, safe.sound.callers, safe.sound.desks, low_at view.desks id at)) in
       floors_passed m shelves disks view key floor id desk caller.0 is has at caller.1;
   members = λ key floor proposer id acceptor has known member at up left may. members_clear m shelves disks view key floor proposer id acceptor safe is has known member at up left may;
-  requests = λ key floor id acceptor request left has member under to round same low may. requests_aged m shelves disks view key floor id acceptor request left safe is has member under to round same low may;
+  requests =
+      λ key floor id acceptor request left has member under to round same low may. requests_aged m shelves disks view key floor id acceptor request left safe is has member under to round same low may;
 }

@@ -1,7 +1,7 @@
 -- What the operator's calls do to the whole.
-use Rattle.std.proofs.Common.{inl, inr, ◌≡◌, ◌≢◌, ◌≤◌, ◌<◌, ℕ, Bool, true, false, List, [], ◌∷◌, ◌++◌, Option, None, Some, Result, Ok, refl, sym, ap, subst, ◌∙◌, arith, append-nil}
-use Rattle.std.specs.Prelude.{◌⊎◌, ◌+◌, ◌-◌, ◌==◌, ◌&&◌, if◌then◌else◌, option_map, unwrap_or, IfSome, IfOk, IfErr, IsSome, length, slice_get, sum_by}
-use Rattle.cas_ballot.specs.Members.{has_member}
+use Rattle.std.proofs.Common.{inl, inr, ◌≡◌, ◌≢◌, ◌≤◌, ◌<◌, ℕ, Bool, true, false, List, [], ◌∷◌, ◌++◌, Option, None, Some, Result, Ok, refl, sym, ap, subst, ◌∙◌, arith, append-nil, suc, length-append}
+use Rattle.std.specs.Prelude.{◌⊎◌, ◌+◌, ◌-◌, ◌==◌, ◌&&◌, if◌then◌else◌, option_map, unwrap_or, IfSome, IfOk, IfErr, IsSome, length, slice_get, sum_by, reverse, map}
+use Rattle.cas_ballot.specs.Members.{has_member, IsMemberSet}
 use Rattle.cas_flow.specs.Message.{head_of}
 use Rattle.cas_flow.specs.Queue.{QueueView, fall_of, pushed}
 use Rattle.cas_flow.specs.declared.fall.Fall.TheVariants.{Handle, Gone, Held}
@@ -10,7 +10,7 @@ use Rattle.cas_slot.specs.declared.message.Request.{Request}
 use Rattle.cas_flow.specs.declared.message.Message.{Message}
 use Rattle.cas_slot.specs.declared.message.Reply.{Reply}
 use Rattle.cas_record.specs.declared.mark.Mark.{Mark}
-use Rattle.cas_record.specs.declared.mark.Mark.TheVariants.{Harmed}
+use Rattle.cas_record.specs.declared.mark.Mark.TheVariants.{Harmed, Voted, Acked}
 use Rattle.cas_record.specs.declared.answer.Answer.TheVariants as answer
 use Rattle.cas_record.specs.declared.operator.Asked.{Asked}
 use Rattle.cas_record.specs.declared.operator.Asked.TheVariants as to_do
@@ -23,29 +23,31 @@ use Rattle.cas_proposer.specs.Desk.{DeskView}
 use Rattle.cas_record.specs.Book.{Book}
 use Rattle.cas_model.specs.Collection.State.{CollectionView}
 use Rattle.cas_model.specs.Council as cluster
-use Rattle.cas_model.specs.Council.{ExchangeView, OrderView, PlanView, ListingView, MemberPlace, with_listing, without_partial, stepped, silent_order, at_rest, exchange_place, reserved_by, reserved_for_order, reserved_for_exchange, broken_off, crashed_in, telling, told_so}
+use Rattle.cas_model.specs.Council.{ExchangeView, OrderView, PlanView, ListingView, MemberPlace, with_listing, without_partial, stepped, silent_order, at_rest, exchange_place, reserved_by, reserved_for_order, reserved_for_exchange, broken_off, crashed_in, telling, told_so, marks_of_read}
 use Rattle.cas_model.specs.History.{IsRemembered}
-use Rattle.cas_model.specs.Safe.{IsSafe, IsExchangeSafe, IsAskingSafe, is_of_collection}
+use Rattle.cas_model.specs.Safe.{IsSafe, IsReadSafe, IsExchangeSafe, IsAskingSafe, is_of_collection}
 use Rattle.cas_model.specs.Step as step
 use Rattle.cas_model.specs.Step.{Step}
 use Rattle.cas_model.specs.Stops.Step.{broken_off_view}
 use Rattle.cas_model.specs.Exchanges.Step as steps
+use Rattle.cas_model.specs.Exchanges.Tellings.{StopsUndone}
 use Rattle.cas_model.specs.Eras.Listings.{why_short}
 use Rattle.cas_model.specs.Eras.Remaining.{keys_left}
 use Rattle.cas_model.specs.Exchanges.Step.{IsCollectedBy, IsFinishedBy, finished, ListsFor, StepOrder, StepTell, StepTurnExchange, Gathers, SaysTheSame, harmed_exchange, harm_marks, harms, hears, with_exchange, told_marks, told_view}
 use Rattle.cas_model.specs.Frames.Step.{replied_flow, votes_marked}
 use Rattle.cas_model.specs.View.{Meaning, View, IsAt, era_in, reserved_in_all}
 use Rattle.cas_quorum.specs.declared.era.Era.{Era}
+use Rattle.cas_quorum.specs.Era.{Meet}
 use Rattle.cas_model.proofs.Remembering.{broken_off as breaks_off, told_remembered}
 use Rattle.cas_model.proofs.Frames.Steps.{taken_own}
 use Rattle.cas_model.proofs.Places.{some_is, contains_at}
 use Rattle.cas_model.proofs.Eras.Rescanning.{told_reserves}
-use Rattle.cas_model.proofs.Exchanges.Safe.{harm_fits, no_vote}
+use Rattle.cas_model.proofs.Exchanges.Safe.{harm_fits, no_vote, few_read_marks}
 use Rattle.cas_model.proofs.Safety.Steps.{steps_are_safe, broken_safe as broken_off_safe, told_safe as told_view_safe}
 use Rattle.cas_world_calls.specs.Call.{reserved_of}
 use Rattle.cas_world_calls.specs.Council.{council_view, exchange_view, order_view, harmed_in, harms_in, harms_of, heard_by, heard_in, IsOfKeys, EraIsListed, MayConclude, MayList, concluded, left_in, left_to_list, listed_if, GathersAs, crashed, probed, lists, is_short, no_memory}
 use Rattle.cas_world_calls.specs.Answers.{is_plain}
-use Rattle.cas_world.specs.Exchanges.Exchange.{WasToldOrder, HasGathered, IsAsked}
+use Rattle.cas_world.specs.Exchanges.Exchange.{WasToldOrder, HasGathered, IsAsked, IsStopped}
 use Rattle.cas_world.specs.Eras.Plans as endings
 use Rattle.cas_world.specs.Eras.Plans.{HasCollectedAll, HasFinished, MayTell}
 use Rattle.cas_world.specs.Exchanges.Exchange as asked
@@ -62,16 +64,21 @@ use Rattle.cas_world.proofs.Frames.Turning.{one_waits}
 use Rattle.cas_world.proofs.Frames.Turns.{room_after}
 use Rattle.cas_world.specs.Frames.Serve.{Serves, FindsDown, was_down, goes_down}
 use Rattle.cas_world.specs.declared.serve.Served.TheVariants as served
+use Rattle.cas_world_calls.specs.Read.{MarksFit, GathersIn, plain, read}
+use Rattle.cas_model.specs.Exchanges.Read.{MarksRead, holders_of}
+use Rattle.cas_record.specs.declared.operator.Probe.{Probe as Answered}
 
 -- ---- what is seen
 -- where the council changes, and not the eras
 pub council_next : {S V : Type 0} (last_proposer : ℕ) (council now : Council) (acceptors : List (AcceptorView S)) (desks : List (DeskView V)) (callers : List Caller) (flow : FlowView) (book : Book) (next : cluster.Council) → now.eras ≡ council.eras → council_view now ≡ next
     → view_of last_proposer now acceptors desks callers flow book ≡ record (view_of last_proposer council acceptors desks callers flow book) { council = next }
-council_next last_proposer council now acceptors desks callers flow book next eras is = λ i. record (view_of last_proposer council acceptors desks callers flow book) { eras = (eras i).0; council = is i }
+council_next last_proposer council now acceptors desks callers flow book next eras is =
+    λ i. record (view_of last_proposer council acceptors desks callers flow book) { eras = (eras i).0; council = is i }
 
 -- ---- what is kept true
 -- where no desk and no caller changes
-pub council_world : {S V : Type 0} {m : Meaning S V} (old new : View S V) (callers : List Caller) (left now : ℕ) → IsWorld m old callers left → new.desks ≡ old.desks → IsSafe new → Remembers m new → reserved_in_all new ≤ now → IsWorld m new callers now
+pub council_world : {S V : Type 0} {m : Meaning S V} (old new : View S V) (callers : List Caller) (left now : ℕ) → IsWorld m old callers left → new.desks ≡ old.desks → IsSafe new → Remembers m new
+    → reserved_in_all new ≤ now → IsWorld m new callers now
 council_world {S} {V} old new callers left now was desks safe remembered room = record {
   safe = safe;
   room = room;
@@ -83,7 +90,8 @@ council_world {S} {V} old new callers left now was desks safe remembered room = 
 pub grown_world : {S V : Type 0} {m : Meaning S V} (last_proposer : ℕ) (council : Council) (acceptors : List (AcceptorView S)) (desks : List (DeskView V)) (callers : List Caller) (flow : FlowView) (before after : Book) → IsWorld m (view_of last_proposer council acceptors desks callers flow before) callers before.room
     → after.marks ≡ before.marks → before.room ≤ after.room → IsWorld m (view_of last_proposer council acceptors desks callers flow after) callers after.room
 grown_world {S} {V} {m} last_proposer council acceptors desks callers flow before after was marks grows =
-    let same : view_of last_proposer council acceptors desks callers flow before ≡ view_of last_proposer council acceptors desks callers flow after = ap (λ (ms : List Mark). record (view_of last_proposer council acceptors desks callers flow before) { marks = ms }) (sym marks) in
+    let same : view_of last_proposer council acceptors desks callers flow before ≡ view_of last_proposer council acceptors desks callers flow after =
+    ap (λ (ms : List Mark). record (view_of last_proposer council acceptors desks callers flow before) { marks = ms }) (sym marks) in
     record {
       safe = subst IsSafe same was.safe;
       room = omega (arith, was.room, grows);
@@ -98,18 +106,21 @@ broken_reserved (Some exchange) = refl
 
 -- an exchange is broken off
 pub broken_seen : {S V : Type 0} (last_proposer : ℕ) (council now : Council) (acceptors : List (AcceptorView S)) (desks : List (DeskView V)) (callers : List Caller) (flow flow_now : FlowView) (book : Book) → flow_now ≡ abandoned flow exchange_place
-    → now.eras ≡ council.eras → council_view now ≡ crashed_in (council_view council) → view_of last_proposer now acceptors desks callers flow_now book ≡ broken_off_view (view_of last_proposer council acceptors desks callers flow book)
+    → now.eras ≡ council.eras → council_view now ≡ crashed_in (council_view council)
+    → view_of last_proposer now acceptors desks callers flow_now book ≡ broken_off_view (view_of last_proposer council acceptors desks callers flow book)
 broken_seen last_proposer council now acceptors desks callers flow flow_now book flows eras is =
     ap (λ (f : FlowView). view_of last_proposer now acceptors desks callers f book) flows
     ∙ council_next last_proposer council now acceptors desks callers (abandoned flow exchange_place) book (crashed_in (council_view council)) eras is
 
 pub broken_world : {S V : Type 0} {m : Meaning S V} (old : View S V) (callers : List Caller) (left : ℕ) → IsWorld m old callers left → IsWorld m (broken_off_view old) callers left
 broken_world {S} {V} {m} old callers left was =
-    council_world old (broken_off_view old) callers left left was refl (broken_off_safe old was.safe) (λ shelves disks. breaks_off m old (was.remembered shelves disks)) (omega (arith, was.room, broken_reserved old.council.exchange))
+    council_world old (broken_off_view old) callers left left was refl (broken_off_safe old was.safe) (λ shelves disks. breaks_off m old (was.remembered shelves disks))
+    (omega (arith, was.room, broken_reserved old.council.exchange))
 
 -- ---- the operator's call
 -- what is reserved fits
-pub reserved_fits : {S V : Type 0} (last_proposer : ℕ) (council : Council) (acceptors : List (AcceptorView S)) (desks : List (DeskView V)) (callers : List Caller) (flow : FlowView) (book : Book) → IsSafe (view_of last_proposer council acceptors desks callers flow book)
+pub reserved_fits : {S V : Type 0} (last_proposer : ℕ) (council : Council) (acceptors : List (AcceptorView S)) (desks : List (DeskView V)) (callers : List Caller) (flow : FlowView) (book : Book)
+    → IsSafe (view_of last_proposer council acceptors desks callers flow book)
     → length book.marks + (sum_by reserved_of callers + reserved_by (council_view council)) ≤ 1000000
 reserved_fits last_proposer council acceptors desks callers flow book safe = omega (arith, safe.sound.room, sum_seen callers)
 
@@ -206,7 +217,8 @@ plain_end (to_do.Probe key) era rescanned answer is = absurd is
 plain_end (to_do.Read key) era rescanned answer is = absurd is
 
 -- where the call was told nothing, its change is at its end, or its collection is
-pub over_there : (council : Council) (answer : OpAnswer) (order : Order) → MayTellIn council answer → council.order ≡ Some order → order.told ≡ None → IsOverIn council answer ⊎ IsCollectedIn council answer
+pub over_there : (council : Council) (answer : OpAnswer) (order : Order) → MayTellIn council answer → council.order ≡ Some order → order.told ≡ None
+    → IsOverIn council answer ⊎ IsCollectedIn council answer
 over_there council answer order (told_last was) is none =
     absurd (cc (ap (λ (o : Order). o.told) (some_is (sym was.is_open ∙ is)), was.was_said, none))
 over_there council answer order (is_over was) is none = inl was
@@ -225,8 +237,10 @@ plain_concludes collected (op.ProposerDown proposer) is = is
 plain_concludes collected (op.Probed key found) is = is
 plain_concludes collected (op.Stopped answer) is = is
 
-pub plain_there : (council : Council) (answer : OpAnswer) (collected : Option (List ℕ)) → collected ≡ option_map (λ (c : CollectionView). c.course.key) (council_view council).collection → IsOverIn council answer ⊎ IsCollectedIn council answer → MayConclude collected answer
-plain_there council answer collected keys (inl was) = plain_concludes collected answer (plain_end was.order.asked was.finished.plan.progress.era.number was.finished.plan.rescanned answer was.finished.tells)
+pub plain_there : (council : Council) (answer : OpAnswer) (collected : Option (List ℕ)) → collected ≡ option_map (λ (c : CollectionView). c.course.key) (council_view council).collection
+    → IsOverIn council answer ⊎ IsCollectedIn council answer → MayConclude collected answer
+plain_there council answer collected keys (inl was) =
+    plain_concludes collected answer (plain_end was.order.asked was.finished.plan.progress.era.number was.finished.plan.rescanned answer was.finished.tells)
 plain_there council answer collected keys (inr was) =
     subst (MayConclude collected) (sym was.collected.tells) (keys ∙ ap (option_map (λ (c : CollectionView). c.course.key)) was.collected.is_collection)
 
@@ -260,7 +274,8 @@ same_marks asked (op.ProposerDown proposer) answer same = ap (told_marks asked) 
 same_marks asked (op.Stopped told) answer same = ap (told_marks asked) same
 
 pub tells : {S V : Type 0} (last_proposer : ℕ) (council now : Council) (acceptors : List (AcceptorView S)) (desks : List (DeskView V)) (callers : List Caller) (flow flow_now : FlowView) (before after : Book) (answer : OpAnswer) (was : IsToldIn council answer) (order : Order) (said : OpAnswer)
-    → council.order ≡ Some order → order.told ≡ Some said → flow_now ≡ abandoned flow exchange_place → council_view now ≡ at_rest (council_view council) → now.eras ≡ council.eras → after.marks ≡ before.marks ++ told_marks order.asked said
+    → council.order ≡ Some order → order.told ≡ Some said → flow_now ≡ abandoned flow exchange_place → council_view now ≡ at_rest (council_view council) → now.eras ≡ council.eras
+    → after.marks ≡ before.marks ++ told_marks order.asked said
     → StepTell (view_of last_proposer council acceptors desks callers flow before) answer (view_of last_proposer now acceptors desks callers flow_now after)
 tells last_proposer council now acceptors desks callers flow flow_now before after answer was order said is is_said flows closed eras marks =
     let one : was.order ≡ order = some_is (sym was.is_open ∙ is) in
@@ -275,7 +290,8 @@ tells last_proposer council now acceptors desks callers flow flow_now before aft
 
 -- or its change is no longer under way
 pub finishes : {S V : Type 0} (last_proposer : ℕ) (council now : Council) (acceptors : List (AcceptorView S)) (desks : List (DeskView V)) (callers : List Caller) (flow flow_now : FlowView) (before after : Book) (answer : OpAnswer) (was : IsOverIn council answer) (order : Order)
-    → council.order ≡ Some order → flow_now ≡ abandoned flow exchange_place → council_view now ≡ record (at_rest (council_view council)) { plan = None } → now.eras ≡ council.eras → after.marks ≡ before.marks ++ told_marks order.asked answer
+    → council.order ≡ Some order → flow_now ≡ abandoned flow exchange_place → council_view now ≡ record (at_rest (council_view council)) { plan = None } → now.eras ≡ council.eras
+    → after.marks ≡ before.marks ++ told_marks order.asked answer
     → StepTell (view_of last_proposer council acceptors desks callers flow before) answer (view_of last_proposer now acceptors desks callers flow_now after)
 finishes last_proposer council now acceptors desks callers flow flow_now before after answer was order is flows closed eras marks =
     let one : order ≡ was.order = some_is (sym is ∙ was.is_open) in
@@ -289,8 +305,10 @@ finishes last_proposer council now acceptors desks callers flow flow_now before 
 
 -- or its collection is over, beside which no change of membership is under way
 collects : {S V : Type 0} (last_proposer : ℕ) (council now : Council) (acceptors : List (AcceptorView S)) (desks : List (DeskView V)) (callers : List Caller) (flow flow_now : FlowView) (before after : Book) (answer : OpAnswer) (was : IsCollectedIn council answer) (order : Order)
-    → IsSafe (view_of last_proposer council acceptors desks callers flow before) → council.order ≡ Some order → flow_now ≡ abandoned flow exchange_place → council_view now ≡ record (at_rest (council_view council)) { plan = None } → now.eras ≡ council.eras
-    → after.marks ≡ before.marks ++ told_marks order.asked answer → StepTell (view_of last_proposer council acceptors desks callers flow before) answer (view_of last_proposer now acceptors desks callers flow_now after)
+    → IsSafe (view_of last_proposer council acceptors desks callers flow before) → council.order ≡ Some order → flow_now ≡ abandoned flow exchange_place
+    → council_view now ≡ record (at_rest (council_view council)) { plan = None } → now.eras ≡ council.eras
+    → after.marks ≡ before.marks ++ told_marks order.asked answer
+    → StepTell (view_of last_proposer council acceptors desks callers flow before) answer (view_of last_proposer now acceptors desks callers flow_now after)
 collects last_proposer council now acceptors desks callers flow flow_now before after answer was order safe is flows closed eras marks =
     let one : order ≡ was.order = some_is (sym is ∙ was.is_open) in
     let none : (council_view council).plan ≡ None = (safe.collection.each was.collected.collection was.collected.is_collection).none_planned in
@@ -304,7 +322,8 @@ collects last_proposer council now acceptors desks callers flow flow_now before 
 
 -- it ends, either way
 pub told_step : {S V : Type 0} (last_proposer : ℕ) (council now : Council) (acceptors : List (AcceptorView S)) (desks : List (DeskView V)) (callers : List Caller) (flow flow_now : FlowView) (before after : Book) (answer : OpAnswer) (may : MayTellIn council answer) (order : Order)
-    → IsSafe (view_of last_proposer council acceptors desks callers flow before) → council.order ≡ Some order → flow_now ≡ abandoned flow exchange_place → council_view now ≡ concluded order.told (at_rest (council_view council)) → now.eras ≡ council.eras → after.marks ≡ before.marks ++ told_marks order.asked (unwrap_or order.told answer)
+    → IsSafe (view_of last_proposer council acceptors desks callers flow before) → council.order ≡ Some order → flow_now ≡ abandoned flow exchange_place
+    → council_view now ≡ concluded order.told (at_rest (council_view council)) → now.eras ≡ council.eras → after.marks ≡ before.marks ++ told_marks order.asked (unwrap_or order.told answer)
     → StepTell (view_of last_proposer council acceptors desks callers flow before) answer (view_of last_proposer now acceptors desks callers flow_now after)
 told_step {S} {V} last_proposer council now acceptors desks callers flow flow_now before after answer may order safe is flows closed eras marks = by_told order.told refl closed marks
   where
@@ -314,7 +333,8 @@ told_step {S} {V} last_proposer council now acceptors desks callers flow flow_no
       | inl was ↦ finishes last_proposer council now acceptors desks callers flow flow_now before after answer was order is flows seen eras made
       | inr was ↦ collects last_proposer council now acceptors desks callers flow flow_now before after answer was order safe is flows seen eras made
     ]
-    by_told (Some said) some seen made = tells last_proposer council now acceptors desks callers flow flow_now before after answer (told_there council answer order said may is some) order said is some flows seen eras made
+    by_told (Some said) some seen made =
+        tells last_proposer council now acceptors desks callers flow flow_now before after answer (told_there council answer order said may is some) order said is some flows seen eras made
 
 -- nothing is reserved for it any more
 pub concluded_reserves : (told : Option OpAnswer) (council : cluster.Council) → reserved_by (concluded told (at_rest council)) ≡ 0
@@ -344,11 +364,13 @@ lists_for view exchange safe is_open is_keys of =
       sym open_.same_tag ∙ ap (λ (l : ListingView). l.tag) same,
     )
 
-abbrev lists_at : {S V : Type 0} (view : View S V) (exchange : ExchangeView) (of : EraIsListed view.council.plan) → (exchange.question ≡ cluster.NextKeys of.listing.places) × (exchange.tag ≡ of.listing.tag) → ListsFor view exchange
+abbrev lists_at : {S V : Type 0} (view : View S V) (exchange : ExchangeView) (of : EraIsListed view.council.plan)
+    → (exchange.question ≡ cluster.NextKeys of.listing.places) × (exchange.tag ≡ of.listing.tag) → ListsFor view exchange
 lists_at view exchange of there = record { plan = of.plan; is_plan = of.is_plan; settles = of.settles; listing = of.listing; is_listing = of.is_listing; question = there.0; tag = there.1 }
 
 -- what is asked beside a collection may be listed
-pub may_list : {S V : Type 0} (view : View S V) (exchange : ExchangeView) (question : cluster.Question) → IsSafe view → is_of_collection exchange.question ≡ false → view.council.exchange ≡ Some exchange → exchange.question ≡ question → MayList question view.council.plan
+pub may_list : {S V : Type 0} (view : View S V) (exchange : ExchangeView) (question : cluster.Question) → IsSafe view → is_of_collection exchange.question ≡ false
+    → view.council.exchange ≡ Some exchange → exchange.question ≡ question → MayList question view.council.plan
 may_list view exchange (cluster.Probe key) safe beside is_open is = tt
 may_list view exchange (cluster.NewAges key least) safe beside is_open is = absurd (cc (beside, ap is_of_collection is))
 may_list view exchange (cluster.Removal key) safe beside is_open is = absurd (cc (beside, ap is_of_collection is))
@@ -357,12 +379,13 @@ may_list view exchange (cluster.NextKeys places) safe beside is_open is =
     record { plan = lists.plan; is_plan = lists.is_plan; settles = (safe.sound.council.0 lists.plan lists.listing lists.is_plan lists.is_listing).settles; listing = lists.listing; is_listing = lists.is_listing }
 
 pub gathers_so : {S V : Type 0} (last_proposer : ℕ) (council now : Council) (acceptors : List (AcceptorView S)) (desks : List (DeskView V)) (callers : List Caller) (flow : FlowView) (book : Book) (exchange : ExchangeView) (result : Result Gathered OpAnswer)
-    → IsSafe (view_of last_proposer council acceptors desks callers flow book) → (council_view council).exchange ≡ Some exchange → GathersAs (era_in council.eras.0 0) exchange (council_view council) result (council_view now) → now.eras ≡ council.eras
+    → IsSafe (view_of last_proposer council acceptors desks callers flow book) → (council_view council).exchange ≡ Some exchange
+    → GathersAs (era_in council.eras.0 0) exchange (council_view council) result (council_view now) → now.eras ≡ council.eras
     → Gathers (view_of last_proposer council acceptors desks callers flow book) exchange (view_of last_proposer now acceptors desks callers flow book)
 gathers_so last_proposer council now acceptors desks callers flow book exchange result safe is_open (crashed down told next) eras =
     steps.crashed down (council_next last_proposer council now acceptors desks callers flow book _ eras next)
-gathers_so last_proposer council now acceptors desks callers flow book exchange result safe is_open (probed key found kept up question has keeps told next) eras =
-    steps.probed key kept up question keeps (council_next last_proposer council now acceptors desks callers flow book _ eras next)
+gathers_so last_proposer council now acceptors desks callers flow book exchange result safe is_open (probed key found kept up question plain_one has keeps told next) eras =
+    steps.probed key kept up question plain_one keeps (council_next last_proposer council now acceptors desks callers flow book _ eras next)
 gathers_so {S} {V} last_proposer council now acceptors desks callers flow book exchange result safe is_open (lists of listing up is_keys enough on less told next) eras =
     let old : View S V = view_of last_proposer council acceptors desks callers flow book in
     steps.lists (lists_at old exchange of (lists_for old exchange safe is_open is_keys of)) listing up enough on (council_next last_proposer council now acceptors desks callers flow book _ eras next)
@@ -379,16 +402,20 @@ pub hushed_reserves : (order : Option OrderView) → reserved_for_order (option_
 hushed_reserves None = refl
 hushed_reserves (Some order) = refl
 
-pub gathered_reserves : (era : Era) (exchange : ExchangeView) (old new : cluster.Council) (result : Result Gathered OpAnswer) → old.exchange ≡ Some exchange → GathersAs era exchange old result new → reserved_by new ≤ reserved_by old
+pub gathered_reserves : (era : Era) (exchange : ExchangeView) (old new : cluster.Council) (result : Result Gathered OpAnswer) → old.exchange ≡ Some exchange → GathersAs era exchange old result new
+    → reserved_by new ≤ reserved_by old
 gathered_reserves era exchange old new result is_open (crashed down told next) = omega (arith, ap reserved_by next, told_reserves old.order (op.Stopped answer.Crashed))
-gathered_reserves era exchange old new result is_open (probed key found kept up question has keeps told next) = omega (arith, ap reserved_by next, told_reserves old.order (op.Probed key kept))
+gathered_reserves era exchange old new result is_open (probed key found kept up question plain_one has keeps told next) =
+    omega (arith, ap reserved_by next, told_reserves old.order (op.Probed key kept))
 gathered_reserves era exchange old new result is_open (lists of listing up is_keys enough on less told next) = omega (arith, ap reserved_by next, hushed_reserves old.order)
-gathered_reserves era exchange old new result is_open (is_short of short up is_keys missing told next) = omega (arith, ap reserved_by next, told_reserves old.order (op.Stopped (why_short exchange.told short)))
+gathered_reserves era exchange old new result is_open (is_short of short up is_keys missing told next) =
+    omega (arith, ap reserved_by next, told_reserves old.order (op.Stopped (why_short exchange.told short)))
 gathered_reserves era exchange old new result is_open (no_memory up told next) =
     omega (arith, ap reserved_by next, told_reserves old.order (op.Stopped (answer.NoMemory false)), ap reserved_for_exchange is_open)
 
 -- the open call was told it
-was_told : {S V : Type 0} (view : View S V) (order : OrderView) (said answer : OpAnswer) (old : cluster.Council) (rest : Option ExchangeView) → old.order ≡ Some order → view.council ≡ record old { order = option_map (told_so said) old.order; exchange = rest } → SaysTheSame said answer → WasToldOrder view answer
+was_told : {S V : Type 0} (view : View S V) (order : OrderView) (said answer : OpAnswer) (old : cluster.Council) (rest : Option ExchangeView) → old.order ≡ Some order
+    → view.council ≡ record old { order = option_map (told_so said) old.order; exchange = rest } → SaysTheSame said answer → WasToldOrder view answer
 was_told view order said answer old rest is_order next same = record {
   order = told_so said order;
   is_open = ap (λ (c : cluster.Council). c.order) next ∙ ap (option_map (told_so said)) is_order;
@@ -397,15 +424,17 @@ was_told view order said answer old rest is_order next same = record {
   same = same;
 }
 
-pub gathered_ok : {S V : Type 0} (era : Era) (old new : View S V) (order : OrderView) (exchange : ExchangeView) (result : Result Gathered OpAnswer) → old.council.order ≡ Some order → old.council.exchange ≡ Some exchange → GathersAs era exchange old.council result new.council → IfOk result (λ found. HasGathered old found new)
+pub gathered_ok : {S V : Type 0} (era : Era) (old new : View S V) (order : OrderView) (exchange : ExchangeView) (result : Result Gathered OpAnswer) → old.council.order ≡ Some order
+    → old.council.exchange ≡ Some exchange → GathersAs era exchange old.council result new.council → IfOk result (λ found. HasGathered old found new)
 gathered_ok era old new order exchange result is_order is_open (crashed down told next) = subst (λ (r : Result Gathered OpAnswer). IfOk r (λ found. HasGathered old found new)) (sym told) tt
-gathered_ok era old new order exchange result is_order is_open (probed key found kept up question has keeps told next) =
+gathered_ok era old new order exchange result is_order is_open (probed key found kept up question plain_one has keeps told next) =
     subst (λ (r : Result Gathered OpAnswer). IfOk r (λ found. HasGathered old found new)) (sym told)
-    (asked.probed exchange key found is_open question refl has (was_told new order (op.Probed key kept) (op.Probed key found) old.council None is_order next (refl, keeps ∙ sym has)))
+    (asked.probed exchange key found is_open question plain_one refl has (was_told new order (op.Probed key kept) (op.Probed key found) old.council None is_order next (refl, keeps ∙ sym has)))
 gathered_ok era old new order exchange result is_order is_open (lists of listing up is_keys enough on less told next) =
     subst (λ (r : Result Gathered OpAnswer). IfOk r (λ found. HasGathered old found new)) (sym told)
     (let asks = keys_asked exchange.question is_keys in asked.lists exchange asks.0 of.plan listing is_open asks.1 of.is_plan refl next)
-gathered_ok era old new order exchange result is_order is_open (is_short of short up is_keys missing told next) = subst (λ (r : Result Gathered OpAnswer). IfOk r (λ found. HasGathered old found new)) (sym told) tt
+gathered_ok era old new order exchange result is_order is_open (is_short of short up is_keys missing told next) =
+    subst (λ (r : Result Gathered OpAnswer). IfOk r (λ found. HasGathered old found new)) (sym told) tt
 gathered_ok era old new order exchange result is_order is_open (no_memory up told next) = subst (λ (r : Result Gathered OpAnswer). IfOk r (λ found. HasGathered old found new)) (sym told) tt
 
 -- where a listing goes on that is not complete, less of it is left
@@ -413,14 +442,17 @@ partial : (complete : Bool) → gathered.More ≡ listed_if complete → complet
 partial true is = absurd (cc is)
 partial false is = refl
 
-less_left : (plan : PlanView) (before next : ListingView) → plan.listing ≡ Some before → next.complete ≡ false → keys_left next.places < keys_left before.places → left_to_list (Some (with_listing plan next)) < left_to_list (Some plan)
+less_left : (plan : PlanView) (before next : ListingView) → plan.listing ≡ Some before → next.complete ≡ false → keys_left next.places < keys_left before.places
+    → left_to_list (Some (with_listing plan next)) < left_to_list (Some plan)
 less_left plan before next is_listing partial less =
-    let now : left_to_list (Some (with_listing plan next)) ≡ keys_left next.places = ap (λ (b : Bool). left_to_list (Some (if b && (length next.keys == 0) then stepped plan else record plan { listing = Some next }))) partial in
+    let now : left_to_list (Some (with_listing plan next)) ≡ keys_left next.places =
+    ap (λ (b : Bool). left_to_list (Some (if b && (length next.keys == 0) then stepped plan else record plan { listing = Some next }))) partial in
     let was : left_to_list (Some plan) ≡ keys_left before.places = ap left_in is_listing in omega (arith, now, was, less)
 
-pub gathered_less : (era : Era) (exchange : ExchangeView) (old new : cluster.Council) (result : Result Gathered OpAnswer) → GathersAs era exchange old result new → result ≡ Ok gathered.More → left_to_list new.plan < left_to_list old.plan
+pub gathered_less : (era : Era) (exchange : ExchangeView) (old new : cluster.Council) (result : Result Gathered OpAnswer) → GathersAs era exchange old result new → result ≡ Ok gathered.More
+    → left_to_list new.plan < left_to_list old.plan
 gathered_less era exchange old new result (crashed down told next) more = absurd (cc (told, more))
-gathered_less era exchange old new result (probed key found kept up question has keeps told next) more = absurd (cc (told, more))
+gathered_less era exchange old new result (probed key found kept up question plain_one has keeps told next) more = absurd (cc (told, more))
 gathered_less era exchange old new result (lists of listing up is_keys enough on less told next) more =
     let is_partial = partial listing.complete (cc (told, more)) in
     subst (λ (p : Option PlanView). left_to_list new.plan < left_to_list p) (sym of.is_plan)
@@ -428,10 +460,12 @@ gathered_less era exchange old new result (lists of listing up is_keys enough on
 gathered_less era exchange old new result (is_short of short up is_keys missing told next) more = absurd (cc (told, more))
 gathered_less era exchange old new result (no_memory up told next) more = absurd (cc (told, more))
 
-pub gathered_err : {S V : Type 0} (era : Era) (old new : View S V) (order : OrderView) (exchange : ExchangeView) (result : Result Gathered OpAnswer) → old.council.order ≡ Some order → GathersAs era exchange old.council result new.council → IfErr result (WasToldOrder new)
+pub gathered_err : {S V : Type 0} (era : Era) (old new : View S V) (order : OrderView) (exchange : ExchangeView) (result : Result Gathered OpAnswer) → old.council.order ≡ Some order
+    → GathersAs era exchange old.council result new.council → IfErr result (WasToldOrder new)
 gathered_err era old new order exchange result is_order (crashed down told next) =
     subst (λ (r : Result Gathered OpAnswer). IfErr r (WasToldOrder new)) (sym told) (was_told new order _ _ old.council None is_order next refl)
-gathered_err era old new order exchange result is_order (probed key found kept up question has keeps told next) = subst (λ (r : Result Gathered OpAnswer). IfErr r (WasToldOrder new)) (sym told) tt
+gathered_err era old new order exchange result is_order (probed key found kept up question plain_one has keeps told next) =
+    subst (λ (r : Result Gathered OpAnswer). IfErr r (WasToldOrder new)) (sym told) tt
 gathered_err era old new order exchange result is_order (lists of listing up is_keys enough on less told next) = subst (λ (r : Result Gathered OpAnswer). IfErr r (WasToldOrder new)) (sym told) tt
 gathered_err era old new order exchange result is_order (is_short of short up is_keys missing told next) =
     subst (λ (r : Result Gathered OpAnswer). IfErr r (WasToldOrder new)) (sym told) (was_told new order _ _ old.council None is_order next refl)
@@ -480,18 +514,21 @@ in_code P None exchange is has = absurd (cc is)
 in_code P (Some x) exchange is has = subst P (sym (some_is is)) has
 
 -- the mark of a member's first harm is reserved
-pub first_harm : (exchange : ExchangeView) (queue : QueueView) (member : ℕ) → IsExchangeSafe exchange queue → has_member exchange.members member ≡ true → has_member exchange.harmed member ≡ false → 0 < exchange.reserved
+pub first_harm : (exchange : ExchangeView) (queue : QueueView) (member : ℕ) → IsExchangeSafe exchange queue → has_member exchange.members member ≡ true → has_member exchange.harmed member ≡ false
+    → 0 < exchange.reserved
 first_harm exchange queue member safe is_member first =
     let fits : 1 + (exchange.reserved - 1) ≤ exchange.reserved =
     subst (λ (b : Bool). length (if b then [] else Harmed 0 0 false ∷ []) + (if b then exchange.reserved else exchange.reserved - 1) ≤ exchange.reserved) first (harm_fits exchange queue member false safe is_member) in omega (arith, fits)
 
 -- and there is memory for it
-pub harm_room : {S V : Type 0} {m : Meaning S V} (view : View S V) (callers : List Caller) (left : ℕ) (exchange : ExchangeView) → IsWorld m view callers left → view.council.exchange ≡ Some exchange → 0 < exchange.reserved → 0 < left
+pub harm_room : {S V : Type 0} {m : Meaning S V} (view : View S V) (callers : List Caller) (left : ℕ) (exchange : ExchangeView) → IsWorld m view callers left
+    → view.council.exchange ≡ Some exchange → 0 < exchange.reserved → 0 < left
 harm_room view callers left exchange inv is_open some = omega (arith, inv.room, some, ap reserved_for_exchange is_open)
 
 -- it is seen as harmed
 pub harmed_seen : {S V : Type 0} (last_proposer : ℕ) (council now : Council) (acceptors acceptors_now : List (AcceptorView S)) (desks : List (DeskView V)) (callers : List Caller) (flow flow_now : FlowView) (before after : Book) (exchange : ExchangeView) (member : ℕ) (down : Bool)
-    → (council_view council).exchange ≡ Some exchange → now.eras ≡ council.eras → council_view now ≡ harmed_in (council_view council) member → after.marks ≡ before.marks ++ harms_in (council_view council) member down
+    → (council_view council).exchange ≡ Some exchange → now.eras ≡ council.eras → council_view now ≡ harmed_in (council_view council) member
+    → after.marks ≡ before.marks ++ harms_in (council_view council) member down
     → view_of last_proposer now acceptors_now desks callers flow_now after ≡ harms (record (view_of last_proposer council acceptors desks callers flow before) { acceptors = acceptors_now; flow = flow_now }) exchange member down
 harmed_seen last_proposer council now acceptors acceptors_now desks callers flow flow_now before after exchange member down is_open eras is marks =
     (λ i. record (view_of last_proposer council acceptors_now desks callers flow_now before) { eras = (eras i).0; council = is i; marks = marks i })
@@ -501,14 +538,17 @@ harmed_seen last_proposer council now acceptors acceptors_now desks callers flow
     }) is_open
 
 pub harmed_world : {S V : Type 0} {m : Meaning S V} (old new : View S V) (acceptors : List (AcceptorView S)) (flow : FlowView) (exchange : ExchangeView) (member : ℕ) (down : Bool) (verdict : Verdict) (callers : List Caller) (left now : ℕ)
-    → IsWorld m old callers left → old.council.exchange ≡ Some exchange → has_member exchange.members member ≡ true → IsExchangeSafe exchange (queue_at old.flow exchange_place) → Step m old (step.TurnExchange verdict) new
+    → IsWorld m old callers left → old.council.exchange ≡ Some exchange → has_member exchange.members member ≡ true → IsExchangeSafe exchange (queue_at old.flow exchange_place)
+    → Step m old (step.TurnExchange verdict) new
     → new ≡ harms (record old { acceptors = acceptors; flow = flow }) exchange member down → now + length (harm_marks exchange member down) ≡ left → IsWorld m new callers now
 harmed_world {S} {V} {m} old new acceptors flow exchange member down verdict callers left now was is_open is_member safe by is room =
-    council_world old new callers left now was (ap (λ (v : View S V). v.desks) is) (steps_are_safe m old (step.TurnExchange verdict) new was.safe by) (remembered_then m (step.TurnExchange verdict) by was.remembered)
+    council_world old new callers left now was (ap (λ (v : View S V). v.desks) is) (steps_are_safe m old (step.TurnExchange verdict) new was.safe by)
+    (remembered_then m (step.TurnExchange verdict) by was.remembered)
     (omega (arith, was.room, room, ap reserved_in_all is, ap reserved_for_exchange is_open, harm_fits exchange (queue_at old.flow exchange_place) member down safe is_member))
 
 -- ---- its turns
-pub holds : {S V : Type 0} (m : Meaning S V) (old : View S V) (verdict : Verdict) (at : IsAsking old) → fall_of (queue_at old.flow exchange_place).again verdict ≡ Held → StepTurnExchange m old verdict old
+pub holds : {S V : Type 0} (m : Meaning S V) (old : View S V) (verdict : Verdict) (at : IsAsking old) → fall_of (queue_at old.flow exchange_place).again verdict ≡ Held
+    → StepTurnExchange m old verdict old
 holds m old verdict at fall = record { at = record { exchange = at.exchange; is_open = at.is_open }; front = at.front; waits = at.waits; turn = steps.held fall refl }
 
 pub loses : {S V : Type 0} (m : Meaning S V) (old new : View S V) (verdict : Verdict) (at : IsAsking old) → fall_of (queue_at old.flow exchange_place).again verdict ≡ Gone
@@ -530,7 +570,8 @@ heard_seen last_proposer council now acceptors desks callers flow book exchange 
     council_next last_proposer council now acceptors desks callers flow book _ eras is
     ∙ ap (λ (o : Option ExchangeView). record (view_of last_proposer council acceptors desks callers flow book) { council = record (council_view council) { exchange = option_map (heard_by reply) o } }) is_open
 
-pub heard : {S V : Type 0} (m : Meaning S V) (old new : View S V) (verdict : Verdict) (at : IsAsking old) (reply : Reply) → fall_of (queue_at old.flow exchange_place).again verdict ≡ Handle → at.front ≡ message.Reply reply
+pub heard : {S V : Type 0} (m : Meaning S V) (old new : View S V) (verdict : Verdict) (at : IsAsking old) (reply : Reply) → fall_of (queue_at old.flow exchange_place).again verdict ≡ Handle
+    → at.front ≡ message.Reply reply
     → new ≡ with_exchange (record old { flow = taken old.flow exchange_place verdict }) (record at.exchange { told = hears reply at.exchange.told }) → StepTurnExchange m old verdict new
 heard m old new verdict at reply fall front is = record {
   at = record { exchange = at.exchange; is_open = at.is_open };
@@ -539,37 +580,45 @@ heard m old new verdict at reply fall front is = record {
   turn = steps.arrives reply fall front (at.safe.replies reply (contains_at (queue_at old.flow exchange_place).messages 0 (message.Reply reply) (at.waits ∙ ap (λ (f : Message). Some f) front))) is;
 }
 
-pub heard_world : {S V : Type 0} {m : Meaning S V} (old new : View S V) (flow : FlowView) (exchange : ExchangeView) (reply : Reply) (verdict : Verdict) (callers : List Caller) (left : ℕ) → IsWorld m old callers left → old.council.exchange ≡ Some exchange
+pub heard_world : {S V : Type 0} {m : Meaning S V} (old new : View S V) (flow : FlowView) (exchange : ExchangeView) (reply : Reply) (verdict : Verdict) (callers : List Caller) (left : ℕ)
+    → IsWorld m old callers left → old.council.exchange ≡ Some exchange
     → Step m old (step.TurnExchange verdict) new → new ≡ with_exchange (record old { flow = flow }) (record exchange { told = hears reply exchange.told }) → IsWorld m new callers left
 heard_world {S} {V} {m} old new flow exchange reply verdict callers left was is_open by is =
-    council_world old new callers left left was (ap (λ (v : View S V). v.desks) is) (steps_are_safe m old (step.TurnExchange verdict) new was.safe by) (remembered_then m (step.TurnExchange verdict) by was.remembered)
+    council_world old new callers left left was (ap (λ (v : View S V). v.desks) is) (steps_are_safe m old (step.TurnExchange verdict) new was.safe by)
+    (remembered_then m (step.TurnExchange verdict) by was.remembered)
     (omega (arith, was.room, ap reserved_in_all is, ap reserved_for_exchange is_open))
 
 -- ---- a member that is asked
 -- there is room for its reply
-pub reply_room : {S V : Type 0} (old : View S V) (at : IsAsking old) (verdict : Verdict) (request : Request) → fall_of (queue_at old.flow exchange_place).again verdict ≡ Handle → slice_get (queue_at old.flow exchange_place).messages 0 ≡ Some (message.Request request)
+pub reply_room : {S V : Type 0} (old : View S V) (at : IsAsking old) (verdict : Verdict) (request : Request) → fall_of (queue_at old.flow exchange_place).again verdict ≡ Handle
+    → slice_get (queue_at old.flow exchange_place).messages 0 ≡ Some (message.Request request)
     → 0 < (queue_at (taken old.flow exchange_place verdict) exchange_place).room
 reply_room old at verdict request fall waits =
-    subst (λ (q : QueueView). 0 < q.room) (sym (taken_own old.flow exchange_place verdict waits)) (room_after (queue_at old.flow exchange_place).messages (queue_at old.flow exchange_place).again (queue_at old.flow exchange_place).room verdict request waits fall at.safe.room)
+    subst (λ (q : QueueView). 0 < q.room) (sym (taken_own old.flow exchange_place verdict waits))
+    (room_after (queue_at old.flow exchange_place).messages (queue_at old.flow exchange_place).again (queue_at old.flow exchange_place).room verdict request waits fall at.safe.room)
 
 -- what it answers is no vote
 none_of : {A : Type 0} (xs : List A) → length xs ≡ 0 → xs ≡ []
 none_of [] is = refl
 none_of (x ∷ xs) is = absurd (cc is)
 
-no_votes : {S V : Type 0} (old : View S V) (at : IsAsking old) (request : Request) (reply : Reply) → slice_get (queue_at old.flow exchange_place).messages 0 ≡ Some (message.Request request) → votes_marked request reply ≡ []
+no_votes : {S V : Type 0} (old : View S V) (at : IsAsking old) (request : Request) (reply : Reply) → slice_get (queue_at old.flow exchange_place).messages 0 ≡ Some (message.Request request)
+    → votes_marked request reply ≡ []
 no_votes old at request reply waits =
-    none_of (votes_marked request reply) (no_vote at.exchange.tag at.exchange.question request reply (at.safe.asks request (contains_at (queue_at old.flow exchange_place).messages 0 (message.Request request) waits)))
+    none_of (votes_marked request reply)
+    (no_vote at.exchange.tag at.exchange.question request reply (at.safe.asks request (contains_at (queue_at old.flow exchange_place).messages 0 (message.Request request) waits)))
 
 pub answers : {S V : Type 0} (m : Meaning S V) (last_proposer : ℕ) (council : Council) (acceptors acceptors_now : List (AcceptorView S)) (desks : List (DeskView V)) (callers : List Caller) (flow middle flow_now : FlowView) (book : Book) (verdict : Verdict) (request : Request) (frame : Option Message) (vote : Option Mark)
     (at : IsAsking (view_of last_proposer council acceptors desks callers flow book)) → fall_of (queue_at flow exchange_place).again verdict ≡ Handle → slice_get (queue_at flow exchange_place).messages 0 ≡ Some (message.Request request)
-    → Serves m.shelves acceptors request (served.Replied frame vote) acceptors_now → middle ≡ taken flow exchange_place verdict → IfSome frame (λ message. flow_now ≡ with_queue middle exchange_place (pushed (queue_at middle exchange_place) message))
+    → Serves m.shelves acceptors request (served.Replied frame vote) acceptors_now → middle ≡ taken flow exchange_place verdict
+    → IfSome frame (λ message. flow_now ≡ with_queue middle exchange_place (pushed (queue_at middle exchange_place) message))
     → StepTurnExchange m (view_of last_proposer council acceptors desks callers flow book) verdict (view_of last_proposer council acceptors_now desks callers flow_now book)
 answers {S} {V} m last_proposer council acceptors acceptors_now desks callers flow middle flow_now book verdict request frame vote at fall waits by takes pushes =
     let old : View S V = view_of last_proposer council acceptors desks callers flow book in
     let there : flow_now ≡ with_queue middle exchange_place (pushed (queue_at middle exchange_place) (message.Reply by.reply)) =
     subst (λ (o : Option Message). IfSome o (λ message. flow_now ≡ with_queue middle exchange_place (pushed (queue_at middle exchange_place) message))) by.bears pushes in
-    let flows : flow_now ≡ replied_flow flow exchange_place verdict by.reply = there ∙ ap (λ (f : FlowView). with_queue f exchange_place (pushed (queue_at f exchange_place) (message.Reply by.reply))) takes in
+    let flows : flow_now ≡ replied_flow flow exchange_place verdict by.reply =
+    there ∙ ap (λ (f : FlowView). with_queue f exchange_place (pushed (queue_at f exchange_place) (message.Reply by.reply))) takes in
     record {
       at = record { exchange = at.exchange; is_open = at.is_open };
       front = at.front;
@@ -581,13 +630,17 @@ answers {S} {V} m last_proposer council acceptors acceptors_now desks callers fl
 
 -- it keeps all that the world keeps true: what is reserved stays
 pub answered_world : {S V : Type 0} {m : Meaning S V} (last_proposer : ℕ) (council : Council) (acceptors acceptors_now : List (AcceptorView S)) (desks : List (DeskView V)) (callers : List Caller) (flow flow_now : FlowView) (book : Book) (event : step.Event) → IsWorld m (view_of last_proposer council acceptors desks callers flow book) callers book.room
-    → Step m (view_of last_proposer council acceptors desks callers flow book) event (view_of last_proposer council acceptors_now desks callers flow_now book) → IsWorld m (view_of last_proposer council acceptors_now desks callers flow_now book) callers book.room
+    → Step m (view_of last_proposer council acceptors desks callers flow book) event (view_of last_proposer council acceptors_now desks callers flow_now book)
+    → IsWorld m (view_of last_proposer council acceptors_now desks callers flow_now book) callers book.room
 answered_world {S} {V} {m} last_proposer council acceptors acceptors_now desks callers flow flow_now book event was by =
-    council_world (view_of last_proposer council acceptors desks callers flow book) (view_of last_proposer council acceptors_now desks callers flow_now book) callers book.room book.room was refl (steps_are_safe m _ event _ was.safe by) (remembered_then m event by was.remembered) was.room
+    council_world (view_of last_proposer council acceptors desks callers flow book) (view_of last_proposer council acceptors_now desks callers flow_now book) callers book.room book.room was refl
+    (steps_are_safe m _ event _ was.safe by) (remembered_then m event by was.remembered) was.room
 
 -- it is down, or goes down
-pub falls : {S V : Type 0} (m : Meaning S V) (old new : View S V) (acceptors : List (AcceptorView S)) (verdict : Verdict) (request : Request) (at : IsAsking old) → fall_of (queue_at old.flow exchange_place).again verdict ≡ Handle → slice_get (queue_at old.flow exchange_place).messages 0 ≡ Some (message.Request request)
-    → FindsDown m.shelves old.acceptors request acceptors → new ≡ harms (record old { acceptors = acceptors; flow = taken old.flow exchange_place verdict }) at.exchange request.to true → StepTurnExchange m old verdict new
+pub falls : {S V : Type 0} (m : Meaning S V) (old new : View S V) (acceptors : List (AcceptorView S)) (verdict : Verdict) (request : Request) (at : IsAsking old)
+    → fall_of (queue_at old.flow exchange_place).again verdict ≡ Handle → slice_get (queue_at old.flow exchange_place).messages 0 ≡ Some (message.Request request)
+    → FindsDown m.shelves old.acceptors request acceptors → new ≡ harms (record old { acceptors = acceptors; flow = taken old.flow exchange_place verdict }) at.exchange request.to true
+    → StepTurnExchange m old verdict new
 falls {S} {V} m old new acceptors verdict request at fall waits (was_down acceptor there down same) is = record {
   at = record { exchange = at.exchange; is_open = at.is_open };
   front = at.front;
@@ -604,14 +657,121 @@ falls {S} {V} m old new acceptors verdict request at fall waits (goes_down accep
 }
 
 -- ---- the open call is told something
+-- what holds no memory tells of no change that is done
+pub plain_undone : (answer : OpAnswer) → is_plain answer ≡ true → StopsUndone answer
+plain_undone (op.Joined id era rescanned) is = tt
+plain_undone (op.Left id era rescanned) is = tt
+plain_undone (op.Resized need_prep need_acc era rescanned) is = tt
+plain_undone (op.Refused fault) is = tt
+plain_undone (op.Busy era) is = tt
+plain_undone (op.Collected key ballot removed kept) is = tt
+plain_undone (op.NotEmpty version) is = tt
+plain_undone (op.Absent acceptor) is = tt
+plain_undone (op.ProposerDown proposer) is = tt
+plain_undone (op.Probed key found) is = tt
+plain_undone (op.Stopped (answer.Done state took ballot)) is = absurd (cc is)
+plain_undone (op.Stopped (answer.Conflict met)) is = tt
+plain_undone (op.Stopped (answer.Aged least)) is = tt
+plain_undone (op.Stopped (answer.Full acceptor)) is = tt
+plain_undone (op.Stopped (answer.Short got need)) is = tt
+plain_undone (op.Stopped (answer.Moved era)) is = tt
+plain_undone (op.Stopped answer.Crashed) is = tt
+plain_undone (op.Stopped (answer.Unsettled why)) is = tt
+plain_undone (op.Stopped answer.Down) is = tt
+plain_undone (op.Stopped answer.VaultFault) is = tt
+plain_undone (op.Stopped answer.Spent) is = tt
+plain_undone (op.Stopped answer.RecordFull) is = tt
+plain_undone (op.Stopped (answer.NoMemory proposed)) is = tt
+
 pub told_seen : {S V : Type 0} (last_proposer : ℕ) (council : Council) (acceptors : List (AcceptorView S)) (desks : List (DeskView V)) (callers : List Caller) (flow : FlowView) (book : Book) (now : Council) (answer : OpAnswer) → now.eras ≡ council.eras → council_view now ≡ telling (council_view council) answer
     → view_of last_proposer now acceptors desks callers flow book ≡ told_view (view_of last_proposer council acceptors desks callers flow book) answer
-told_seen last_proposer council acceptors desks callers flow book now answer eras is = council_next last_proposer council now acceptors desks callers flow book (telling (council_view council) answer) eras is
+told_seen last_proposer council acceptors desks callers flow book now answer eras is =
+    council_next last_proposer council now acceptors desks callers flow book (telling (council_view council) answer) eras is
 
 pub told_world : {S V : Type 0} {m : Meaning S V} (last_proposer : ℕ) (council : Council) (acceptors : List (AcceptorView S)) (desks : List (DeskView V)) (callers : List Caller) (flow : FlowView) (book : Book) (now : Council) (answer : OpAnswer)
-    → IsWorld m (view_of last_proposer council acceptors desks callers flow book) callers book.room → now.eras ≡ council.eras → council_view now ≡ telling (council_view council) answer → IsWorld m (view_of last_proposer now acceptors desks callers flow book) callers book.room
-told_world {S} {V} {m} last_proposer council acceptors desks callers flow book now answer was eras is =
+    → StopsUndone answer → IsWorld m (view_of last_proposer council acceptors desks callers flow book) callers book.room → now.eras ≡ council.eras
+    → council_view now ≡ telling (council_view council) answer → IsWorld m (view_of last_proposer now acceptors desks callers flow book) callers book.room
+told_world {S} {V} {m} last_proposer council acceptors desks callers flow book now answer undone was eras is =
     let old : View S V = view_of last_proposer council acceptors desks callers flow book in
     subst (λ (v : View S V). IsWorld m v callers book.room) (sym (told_seen last_proposer council acceptors desks callers flow book now answer eras is))
-    (council_world old (told_view old answer) callers book.room book.room was refl (told_view_safe old answer was.safe) (λ shelves disks. told_remembered m old answer (was.remembered shelves disks))
+    (council_world old (told_view old answer) callers book.room book.room was refl (told_view_safe old answer undone was.safe) (λ shelves disks. told_remembered m old answer (was.remembered shelves disks))
     (omega (arith, was.room, told_reserves (option_map order_view council.order) answer)))
+
+-- ---- what is read is marked
+-- so many marks are reserved for it
+pub read_fits : {S V : Type 0} (view : View S V) (exchange : ExchangeView) (key : List ℕ) (era : Era) (older marks : List Mark) → IsSafe view → view.council.exchange ≡ Some exchange
+    → exchange.reads ≡ Some era → MarksRead era key exchange.told older marks
+    → length marks ≤ marks_of_read exchange.reads exchange.members
+read_fits view exchange key era older marks safe is_open reads made =
+    let asking : IsExchangeSafe exchange (queue_at view.flow exchange_place) = subst (λ (e : Option ExchangeView). IsAskingSafe e (queue_at view.flow exchange_place)) is_open safe.sound.asking in
+    omega (arith, few_read_marks era key exchange.told older marks exchange.members asking.member_set asking.tellers made, ap (λ (r : Option Era). marks_of_read r exchange.members) reads)
+
+-- quorums of its era meet
+pub read_is_safe : {S V : Type 0} (view : View S V) (exchange : ExchangeView) (era : Era) → IsSafe view → view.council.exchange ≡ Some exchange → exchange.reads ≡ Some era
+    → IsReadSafe era exchange.members
+read_is_safe view exchange era safe is_open reads = (subst (λ (e : Option ExchangeView). IsAskingSafe e (queue_at view.flow exchange_place)) is_open safe.sound.asking).read era reads
+
+pub read_meets : {S V : Type 0} (view : View S V) (exchange : ExchangeView) → IsSafe view → view.council.exchange ≡ Some exchange → IfSome exchange.reads (λ era. Meet era era)
+read_meets view exchange safe is_open = by_era exchange.reads refl
+  where
+    by_era : (reads : Option Era) → exchange.reads ≡ reads → IfSome reads (λ era. Meet era era)
+    by_era None is = tt
+    by_era (Some era) is = (read_is_safe view exchange era safe is_open is).meets
+
+pub marks_fit : {S V : Type 0} (view : View S V) (exchange : ExchangeView) (book : Book) → IsSafe view → view.council.exchange ≡ Some exchange → reserved_in_all view ≤ book.room
+    → MarksFit exchange book
+marks_fit view exchange book safe is_open room key era marks asks reads made =
+    omega (arith, room, read_fits view exchange key era (reverse book.marks) marks safe is_open reads made, ap reserved_for_exchange is_open)
+
+pub gathers_in_so : {S V : Type 0} (last_proposer : ℕ) (council now : Council) (acceptors : List (AcceptorView S)) (desks : List (DeskView V)) (callers : List Caller) (flow : FlowView) (before after : Book) (exchange : ExchangeView) (result : Result Gathered OpAnswer)
+    → IsSafe (view_of last_proposer council acceptors desks callers flow before) → (council_view council).exchange ≡ Some exchange
+    → GathersIn (era_in council.eras.0 0) exchange (council_view council) before after result (council_view now) → now.eras ≡ council.eras
+    → Gathers (view_of last_proposer council acceptors desks callers flow before) exchange (view_of last_proposer now acceptors desks callers flow after)
+gathers_in_so {S} {V} last_proposer council now acceptors desks callers flow before after exchange result safe is_open (plain by same) eras =
+    subst (λ (b : Book). Gathers (view_of last_proposer council acceptors desks callers flow before) exchange (view_of last_proposer now acceptors desks callers flow b)) (sym same)
+    (gathers_so last_proposer council now acceptors desks callers flow before exchange result safe is_open by eras)
+gathers_in_so {S} {V} last_proposer council now acceptors desks callers flow before after exchange result safe is_open (read key era agreement found kept marks up question reads has keeps made are room agrees told next) eras =
+    steps.read key era kept marks up question reads keeps made
+    ((λ i. record (view_of last_proposer council acceptors desks callers flow before) { eras = (eras i).0; council = next i; marks = are i }))
+
+pub gathered_in_reserves : {S V : Type 0} (era : Era) (view : View S V) (exchange : ExchangeView) (new : cluster.Council) (before after : Book) (result : Result Gathered OpAnswer) → IsSafe view
+    → view.council.exchange ≡ Some exchange → GathersIn era exchange view.council before after result new
+    → reserved_by new + before.room ≤ reserved_by view.council + after.room
+gathered_in_reserves era view exchange new before after result safe is_open (plain by same) =
+    omega (arith, gathered_reserves era exchange view.council new result is_open by, ap (λ (b : Book). b.room) same)
+gathered_in_reserves era view exchange new before after result safe is_open (read key its agreement found kept marks up question reads has keeps made are room agrees told next) =
+    omega (arith, ap reserved_by next, told_reserves view.council.order (op.Probed key kept), room, read_fits view exchange key its (reverse before.marks) marks safe is_open reads made, ap reserved_for_exchange is_open)
+
+pub gathered_in_ok : {S V : Type 0} (era : Era) (old new : View S V) (order : OrderView) (exchange : ExchangeView) (before after : Book) (result : Result Gathered OpAnswer) → IsSafe old
+    → old.council.order ≡ Some order → old.council.exchange ≡ Some exchange
+    → GathersIn era exchange old.council before after result new.council → IfOk result (λ found. HasGathered old found new)
+gathered_in_ok era old new order exchange before after result safe is_order is_open (plain by same) = gathered_ok era old new order exchange result is_order is_open by
+gathered_in_ok era old new order exchange before after result safe is_order is_open (read key its agreement found kept marks up question reads has keeps made are room agrees told next) =
+    subst (λ (r : Result Gathered OpAnswer). IfOk r (λ found. HasGathered old found new)) (sym told)
+    (asked.read exchange key its agreement found is_open question reads (read_is_safe old exchange its safe is_open reads) refl has agrees (was_told new order (op.Probed key kept) (op.Probed key found) old.council None is_order next (refl, keeps ∙ sym has)))
+
+pub gathered_in_less : (era : Era) (exchange : ExchangeView) (old new : cluster.Council) (before after : Book) (result : Result Gathered OpAnswer)
+    → GathersIn era exchange old before after result new → result ≡ Ok gathered.More → left_to_list new.plan < left_to_list old.plan
+gathered_in_less era exchange old new before after result (plain by same) more = gathered_less era exchange old new result by more
+gathered_in_less era exchange old new before after result (read key its agreement found kept marks up question reads has keeps made are room agrees told next) more = absurd (cc (told, more))
+
+pub gathered_in_err : {S V : Type 0} (era : Era) (old new : View S V) (order : OrderView) (exchange : ExchangeView) (before after : Book) (result : Result Gathered OpAnswer)
+    → old.council.order ≡ Some order
+    → GathersIn era exchange old.council before after result new.council → IfErr result (WasToldOrder new)
+gathered_in_err era old new order exchange before after result is_order (plain by same) = gathered_err era old new order exchange result is_order by
+gathered_in_err era old new order exchange before after result is_order (read key its agreement found kept marks up question reads has keeps made are room agrees told next) =
+    subst (λ (r : Result Gathered OpAnswer). IfErr r (WasToldOrder new)) (sym told) tt
+
+-- what is told without a finding says why it was stopped
+gathered_stops : (era : Era) (exchange : ExchangeView) (old new : cluster.Council) (result : Result Gathered OpAnswer) → GathersAs era exchange old result new → IfErr result IsStopped
+gathered_stops era exchange old new result (crashed down told next) = subst (λ (r : Result Gathered OpAnswer). IfErr r IsStopped) (sym told) tt
+gathered_stops era exchange old new result (probed key found kept up question plain_one has keeps told next) = subst (λ (r : Result Gathered OpAnswer). IfErr r IsStopped) (sym told) tt
+gathered_stops era exchange old new result (lists of listing up is_keys enough on less told next) = subst (λ (r : Result Gathered OpAnswer). IfErr r IsStopped) (sym told) tt
+gathered_stops era exchange old new result (is_short of short up is_keys missing told next) = subst (λ (r : Result Gathered OpAnswer). IfErr r IsStopped) (sym told) tt
+gathered_stops era exchange old new result (no_memory up told next) = subst (λ (r : Result Gathered OpAnswer). IfErr r IsStopped) (sym told) tt
+
+pub gathered_in_stops : (era : Era) (exchange : ExchangeView) (old new : cluster.Council) (before after : Book) (result : Result Gathered OpAnswer)
+    → GathersIn era exchange old before after result new → IfErr result IsStopped
+gathered_in_stops era exchange old new before after result (plain by same) = gathered_stops era exchange old new result by
+gathered_in_stops era exchange old new before after result (read key its agreement found kept marks up question reads has keeps made are room agrees told next) =
+    subst (λ (r : Result Gathered OpAnswer). IfErr r IsStopped) (sym told) tt

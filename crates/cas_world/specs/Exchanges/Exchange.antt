@@ -1,5 +1,5 @@
 -- The operator's calls, and the exchange in which proposer 0 asks all members.
-use Rattle.std.specs.Prelude.{◌≡◌, ℕ, zero, ◌<◌, ◌^◌, ◌&&◌, not, Bool, true, false, if◌then◌else◌, List, [], Option, None, Some, slice_get}
+use Rattle.std.specs.Prelude.{◌≡◌, ⊤, ℕ, zero, ◌<◌, ◌+◌, ◌^◌, ◌&&◌, not, length, Bool, true, false, if◌then◌else◌, List, [], Option, None, Some, slice_get}
 use Rattle.cas_ballot.specs.declared.ballot.Ballot.{Ballot}
 use Rattle.cas_ballot.specs.Members.{has_member, members_where}
 use Rattle.cas_fate.specs.declared.fate.Verdict.{Verdict}
@@ -10,6 +10,8 @@ use Rattle.cas_slot.specs.declared.message.Request.{Request}
 use Rattle.cas_vault.specs.Vault.{counter_of, kept_of}
 use Rattle.cas_vault.specs.declared.error.VaultError.{VaultError}
 use Rattle.cas_vault.specs.declared.error.VaultError.TheVariants as error
+use Rattle.cas_record.specs.Agreement.{IsAgreementOf}
+use Rattle.cas_record.specs.declared.agreement.Agreement.{Agreement}
 use Rattle.cas_record.specs.declared.answer.Answer.{Answer}
 use Rattle.cas_record.specs.declared.answer.Answer.TheVariants as answer
 use Rattle.cas_record.specs.declared.operator.OpAnswer.{OpAnswer}
@@ -19,13 +21,16 @@ use Rattle.cas_collect.specs.declared.collect.CollectStep.{CollectStep}
 use Rattle.cas_collect.specs.declared.collect.CollectStep.TheVariants as collect
 use Rattle.cas_model.specs.Collection.State.{CollectionView, confirmed_step}
 use Rattle.cas_model.specs.Council as cluster
-use Rattle.cas_model.specs.Council.{hushed, MemberPlace, ListingView, PlanView, place_in, has_ended, with_listing, Question, Probe, NextKeys, ExchangeView, OrderView, exchange_place}
-use Rattle.cas_model.specs.Safe.{is_of_collection}
+use Rattle.cas_quorum.specs.declared.era.Era.{Era}
+use Rattle.cas_record.specs.declared.operator.Asked.{Asked}
+use Rattle.cas_record.specs.declared.operator.Asked.TheVariants as asked
+use Rattle.cas_model.specs.Council.{marks_of_read, hushed, MemberPlace, ListingView, PlanView, place_in, has_ended, with_listing, Question, Probe, NextKeys, ExchangeView, OrderView, exchange_place}
+use Rattle.cas_model.specs.Safe.{IsReadSafe, is_of_collection}
 use Rattle.cas_model.specs.Step.{Event, Turn, RefuseTurn, TurnExchange, RefuseTurnExchange, AskAll, AskCollect, Gather, GatherCollect, GatherRound}
 use Rattle.cas_model.specs.Calls.Step.{Sends, most_marks}
-use Rattle.cas_model.specs.Exchanges.Step.{everyone, places_from, begun_listing, IsForQuestion, SaysTheSame, TagsAll, WhereDrawn, questions_to, new_exchange}
+use Rattle.cas_model.specs.Exchanges.Step.{read_era, everyone, places_from, begun_listing, IsForQuestion, SaysTheSame, TagsAll, WhereDrawn, questions_to, new_exchange}
 use Rattle.cas_model.specs.Calls.Desks.{HasKept, FailsToDraw, LosesMemory}
-use Rattle.cas_model.specs.View.{DiskMeaning, View}
+use Rattle.cas_model.specs.View.{DiskMeaning, View, era_at}
 use Rattle.cas_world.specs.Calls.Beginning.{HasNoCall}
 use Rattle.cas_world_calls.specs.Collecting.{is_sought}
 use Rattle.cas_world_calls.specs.Council.{exchange_view, goes_on_in, listed_if, listed_with}
@@ -64,6 +69,7 @@ pub record WasToldOrder {S V : Type 0} (view : View S V) (answer : OpAnswer) : T
 -- what is asked of these members: a listing goes on from its places, and begins where each of them has come nowhere yet
 abbrev pub question_from : List ℕ → Option ListingView → Query → Question
 question_from members goes_on (what.Probe key) = Probe key
+question_from members goes_on (what.Read key) = Probe key
 question_from members goes_on what.List = NextKeys (places_from members goes_on)
 
 abbrev pub question_in : {S V : Type 0} → View S V → Query → Question
@@ -87,6 +93,24 @@ pub record MayAskMembers {S V : Type 0} (view : View S V) (question : Question) 
   pub none_open : view.council.exchange ≡ None
   pub idle : HasNoCall view 0
 
+-- the era in which the key is read, where that is asked
+abbrev pub era_for : Era → Query → Option Era
+era_for era (what.Read key) = Some era
+era_for era other = None
+
+-- and it is read just where the operator's call is to read it
+pub record MayAskQuery {S V : Type 0} (view : View S V) (asking : Query) : Type 0 where
+  pub may : MayAskMembers view (question_in view asking)
+  pub reads : read_era view (question_in view asking) ≡ era_for (era_at view 0) asking
+
+-- the open call asks for this, no exchange is open, and caller 0 has no open call
+pub record MayAskKey {S V : Type 0} (view : View S V) (asked : Asked) : Type 0 where
+  pub order : OrderView
+  pub is_open : view.council.order ≡ Some order
+  pub is_for : order.asked ≡ asked
+  pub none_open : view.council.exchange ≡ None
+  pub idle : HasNoCall view 0
+
 -- that step of the collection is due, no exchange is open, and caller 0 has no open call
 pub record MayAskCollected {S V : Type 0} (view : View S V) (step : CollectStep) : Type 0 where
   pub collection : CollectionView
@@ -99,7 +123,8 @@ abbrev pub MayAskThis : {S V : Type 0} → View S V → Exchange → Type 0
 MayAskThis view this.Ages = MayAskCollected view collect.Ages
 MayAskThis view this.Remove = MayAskCollected view collect.Remove
 MayAskThis view this.List = MayAskMembers view (question_in view what.List)
-MayAskThis view (this.Probe key) = MayAskMembers view (question_in view (what.Probe key))
+MayAskThis view (this.Probe key) = MayAskKey view (asked.Probe key)
+MayAskThis view (this.Read key) = MayAskKey view (asked.Read key)
 
 -- which step of the store that is
 abbrev pub asking_of : {S V : Type 0} → View S V → Exchange → Event
@@ -107,6 +132,7 @@ asking_of view this.Ages = AskCollect
 asking_of view this.Remove = AskCollect
 asking_of view this.List = AskAll (question_in view what.List)
 asking_of view (this.Probe key) = AskAll (question_in view (what.Probe key))
+asking_of view (this.Read key) = AskAll (question_in view (what.Read key))
 
 -- the operator's call is open, and so is a probe or a listing of which no frame waits
 pub record MayGatherMembers {S V : Type 0} (view : View S V) : Type 0 where
@@ -154,7 +180,10 @@ collected_on council next = record (hushed council) { exchange = None; collectio
 
 -- the call may tell what was found, with its key; or a listing went on, and is complete or not; or a collection went on
 pub data HasGathered {S V : Type 0} (old : View S V) (result : Gathered) (new : View S V) : Type 0 where
-  probed : (exchange : ExchangeView) (key : List ℕ) (found : Probes) → old.council.exchange ≡ Some exchange → exchange.question ≡ Probe key → result ≡ gathered.Probed found → found.probes.items ≡ exchange.told
+  probed : (exchange : ExchangeView) (key : List ℕ) (found : Probes) → old.council.exchange ≡ Some exchange → exchange.question ≡ Probe key → exchange.reads ≡ None → result ≡ gathered.Probed found → found.probes.items ≡ exchange.told
+      → WasToldOrder new (op.Probed key found) → HasGathered old result new
+  read : (exchange : ExchangeView) (key : List ℕ) (era : Era) (agreement : Agreement) (found : Probes) → old.council.exchange ≡ Some exchange → exchange.question ≡ Probe key → exchange.reads ≡ Some era → IsReadSafe era exchange.members
+      → result ≡ gathered.Read agreement found → found.probes.items ≡ exchange.told → IsAgreementOf era found.probes.items agreement
       → WasToldOrder new (op.Probed key found) → HasGathered old result new
   lists : (exchange : ExchangeView) (places : List MemberPlace) (plan : PlanView) (listing : ListingView) → old.council.exchange ≡ Some exchange → exchange.question ≡ NextKeys places
       → old.council.plan ≡ Some plan → result ≡ listed_if listing.complete → new.council ≡ listed_with old.council (with_listing plan listing) → HasGathered old result new
@@ -162,19 +191,28 @@ pub data HasGathered {S V : Type 0} (old : View S V) (result : Gathered) (new : 
   confirmed : (exchange : ExchangeView) (collection : CollectionView) (removed kept : ℕ) → old.council.exchange ≡ Some exchange → is_of_collection exchange.question ≡ true → old.council.collection ≡ Some collection → result ≡ gathered.All removed kept
       → new.council ≡ collected_on old.council (record (confirmed_step collection) { removed = removed; kept = kept }) → HasGathered old result new
 
+-- it tells why a step was stopped
+abbrev pub IsStopped : OpAnswer → Type 0
+IsStopped (op.Stopped why) = ⊤
+IsStopped other = ⊥
+
 -- the request stands in front of the exchange's frames
 abbrev pub IsAsked : {S V : Type 0} → View S V → Request → Type 0
 IsAsked view request = slice_get (queue_at view.flow exchange_place).messages 0 ≡ Some (message.Request request)
 
 -- ---- an exchange that opens
+-- the marks of its harms, and those of a read
+abbrev pub marks_to_ask : Option Era → List ℕ → ℕ
+marks_to_ask reads those = length those + marks_of_read reads those
+
 -- it has a tag, and each of those that are to be asked is, behind so many marks
-pub record OpensExchange {V : Type 0} (m : DiskMeaning V) (old new : DeskView V) (before after : FlowView) (members : List ℕ) (goes_on : Option ListingView) (what : Query) (since : ℕ) (opened : Opened) : Type 0 where
+pub record OpensExchange {V : Type 0} (m : DiskMeaning V) (old new : DeskView V) (before after : FlowView) (members : List ℕ) (goes_on : Option ListingView) (what : Query) (since : ℕ) (reads : Option Era) (opened : Opened) : Type 0 where
   pub up : old.down ≡ false
   pub tag : Ballot
   pub tagged : TagsAll m goes_on old new tag
   pub desk : new ≡ record old { vault = new.vault }
   pub sends : Sends before exchange_place (questions_to (kept_of old.vault).age tag (question_from members goes_on what) (asked_from members goes_on)) after
-  pub exchange : exchange_view opened.exchange ≡ new_exchange (question_from members goes_on what) tag (asked_from members goes_on) since
+  pub exchange : exchange_view opened.exchange ≡ new_exchange (question_from members goes_on what) tag (asked_from members goes_on) since reads
   pub begun : opened.begun ≡ begins_with members goes_on what tag
 
 -- why none opens, and what becomes of the desk

@@ -1,4 +1,4 @@
-use Rattle.std.proofs.Common.{rules, List, [], length, None, refl, sym, ap, ◌∙◌}
+use Rattle.std.proofs.Common.{rules, ℕ, List, [], length, None, refl, sym, ap, ◌∙◌}
 use Rattle.cas_record.specs.declared.mark.Mark.{Mark}
 use Rattle.cas_model.specs.Exchanges.Step.{new_exchange}
 use Rattle.cas_world.specs.Exchanges.Exchange.{asked_from, question_from}
@@ -31,6 +31,6 @@ returns-in-Ok-ask_members-clause-ok g c =
       tagged = tags_all g.V.Disk.tells g.V.Disk.may_leave g.V.Disk.fault_count g.V.Disk.seen (option_copied c.args.goes_on) c.args.desk.now c.tag_for.new.desk c.in-Ok.tag (c.age-age.ensures.stands up) c.in-Ok.ensures.tag.0;
       desk = c.in-Ok.ensures.desk;
       sends = search rules;
-      exchange = c.in-Ok-ask_members.ensures.exchange ∙ ap (new_exchange (question_from c.args.everyone (option_copied c.args.goes_on) c.args.what) c.in-Ok.tag (asked_from c.args.everyone (option_copied c.args.goes_on))) (ap (λ (l : List Mark). length l) c.marks-since.ensures);
+      exchange = c.in-Ok-ask_members.ensures.exchange ∙ ap (λ (n : ℕ). new_exchange (question_from c.args.everyone (option_copied c.args.goes_on) c.args.what) c.in-Ok.tag (asked_from c.args.everyone (option_copied c.args.goes_on)) n c.args.reads) (ap (λ (l : List Mark). length l) c.marks-since.ensures);
       begun = c.in-Ok-ask_members.ensures.begun;
     }

@@ -1,5 +1,5 @@
 use Rattle.std.proofs.Common.{◌≡◌, ◌+◌, ◌≤◌, ◌∙◌, ℕ, false, List, [], Option, Some, refl, sym, ap, subst, arith, length}
-use Rattle.std.specs.Prelude.{◌⊎◌, IfOk, IfSome, sum_by}
+use Rattle.std.specs.Prelude.{◌⊎◌, IfOk, IfSome, sum_by, None}
 use Rattle.cas_ballot.specs.Ballot.{FitsBallot}
 use Rattle.cas_ballot.specs.declared.ballot.Ballot.{Ballot}
 use Rattle.cas_ballot.specs.Members.{union_of}
@@ -10,7 +10,7 @@ use Rattle.cas_record.specs.declared.answer.Answer.TheVariants as answer
 use Rattle.cas_record.specs.declared.mark.Mark.{Mark}
 use Rattle.cas_record.specs.declared.operator.OpAnswer.TheVariants as op
 use Rattle.cas_model.specs.Collection.State.{CollectionView, tomb_of}
-use Rattle.cas_model.specs.Council.{ExchangeView, Removal, exchange_place, reserved_for_exchange}
+use Rattle.cas_model.specs.Council.{ExchangeView, Removal, exchange_place, reserved_for_exchange, marks_of_read}
 use Rattle.cas_model.specs.Safe.{IsSafe}
 use Rattle.cas_model.specs.Step as step
 use Rattle.cas_model.specs.Step.{Step}
@@ -133,11 +133,11 @@ is_question g c = subst (λ (x : CollectionView). IsQuestionOf x (question_view 
 since_is : (g : Over) (c : Joined-self-2 g) → length c.marks-since.result.now ≡ length c.self.inside.record.marks
 since_is g c = ap (λ (l : List Mark). length l) c.marks-since.ensures
 
-exchange_is : (g : Over) (c : Joined-self-2 g) → exchange_view c.in-Ok-ask_each.exchange ≡ new_exchange (question_view c.in-Ok.question) (tomb_of (of g c).may.collection.tombstone) (everyone (view_of c.self.inside.setup.proposers c.self.inside.council c.self.inside.acceptors.items c.self.inside.desks.items c.self.inside.callers.items c.self.inside.flow c.self.inside.record)) (length c.self.inside.record.marks)
+exchange_is : (g : Over) (c : Joined-self-2 g) → exchange_view c.in-Ok-ask_each.exchange ≡ new_exchange (question_view c.in-Ok.question) (tomb_of (of g c).may.collection.tombstone) (everyone (view_of c.self.inside.setup.proposers c.self.inside.council c.self.inside.acceptors.items c.self.inside.desks.items c.self.inside.callers.items c.self.inside.flow c.self.inside.record)) (length c.self.inside.record.marks) None
 exchange_is g c = c.in-Ok-ask_each.ensures.exchange
-    ∙ ap (λ (t : Ballot). new_exchange (question_view c.in-Ok.question) t c.everyone-members.result (length c.marks-since.result.now)) (c.tomb.ensures ∙ ap (λ (x : CollectionView). tomb_of x.tombstone) (same_one g c))
-    ∙ ap (λ (l : List ℕ). new_exchange (question_view c.in-Ok.question) (tomb_of (of g c).may.collection.tombstone) l (length c.marks-since.result.now)) (members_are g c)
-    ∙ ap (new_exchange (question_view c.in-Ok.question) (tomb_of (of g c).may.collection.tombstone) (everyone (view_of c.self.inside.setup.proposers c.self.inside.council c.self.inside.acceptors.items c.self.inside.desks.items c.self.inside.callers.items c.self.inside.flow c.self.inside.record))) (since_is g c)
+    ∙ ap (λ (t : Ballot). new_exchange (question_view c.in-Ok.question) t c.everyone-members.result (length c.marks-since.result.now) None) (c.tomb.ensures ∙ ap (λ (x : CollectionView). tomb_of x.tombstone) (same_one g c))
+    ∙ ap (λ (l : List ℕ). new_exchange (question_view c.in-Ok.question) (tomb_of (of g c).may.collection.tombstone) l (length c.marks-since.result.now) None) (members_are g c)
+    ∙ ap (λ (n : ℕ). new_exchange (question_view c.in-Ok.question) (tomb_of (of g c).may.collection.tombstone) (everyone (view_of c.self.inside.setup.proposers c.self.inside.council c.self.inside.acceptors.items c.self.inside.desks.items c.self.inside.callers.items c.self.inside.flow c.self.inside.record)) n None) (since_is g c)
 
 did : (g : Over) (c : Joined-self-2 g) → Step (meaning g.S.Shelf g.V.Disk) (view_of c.self.inside.setup.proposers c.self.inside.council c.self.inside.acceptors.items c.self.inside.desks.items c.self.inside.callers.items c.self.inside.flow c.self.inside.record) step.AskCollect (view_of c.self.inside.setup.proposers (record c.self.inside.council { exchange = Some c.in-Ok-ask_each.exchange }) c.self.inside.acceptors.items c.self.inside.desks.items c.self.inside.callers.items c.ask_each.new.flow c.reserve.new.self)
 did g c = asks_all (meaning g.S.Shelf g.V.Disk) (view_of c.self.inside.setup.proposers c.self.inside.council c.self.inside.acceptors.items c.self.inside.desks.items c.self.inside.callers.items c.self.inside.flow c.self.inside.record) (view_of c.self.inside.setup.proposers (record c.self.inside.council { exchange = Some c.in-Ok-ask_each.exchange }) c.self.inside.acceptors.items c.self.inside.desks.items c.self.inside.callers.items c.ask_each.new.flow c.reserve.new.self) c.index.result.now c.self.invariant.safe (of g c) (at_desk g c) (question_view c.in-Ok.question) c.ask_each.new.flow (is_up g c) (is_question g c) (few g c)
@@ -161,7 +161,7 @@ invariant_of-self-in-Ok-ask_each g c =
       ap (sum_by reserved_of) c.deref.ensures.value,
       sum_seen c.self.inside.callers.items,
       ap reserved_for_exchange (of g c).may.none_open,
-      ap (λ (e : ExchangeView). e.reserved) (exchange_is g c),
+      ap (λ (e : ExchangeView). e.reserved + marks_of_read e.reads e.members) (exchange_is g c),
     ))
 
 pub returns-in-Ok-ask_each-clause-step : goal.returns-in-Ok-ask_each-clause-step

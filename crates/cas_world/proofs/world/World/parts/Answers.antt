@@ -9,6 +9,7 @@ use Rattle.cas_model.specs.Safe.{IsSafe}
 use Rattle.cas_model.specs.View.{Meaning, View, meaning}
 use Rattle.cas_model_stops.proofs.Holding.{what_stopped_hold}
 use Rattle.cas_model.specs.Laws.{AcknowledgedIsKept}
+use Rattle.cas_model.proofs.Exchanges.Tellings.{writable}
 use Rattle.cas_model.proofs.Openings.Opens.{remembered_legal}
 use Rattle.cas_model.proofs.ViewLaws.{done_kept}
 use Rattle.cas_world.proofs.world.World.parts.Goals as goal
@@ -30,3 +31,6 @@ pub returns-clause-held : goal.returns-clause-held
 returns-clause-held g c shelves vaults =
     let m = meaning g.S.Shelf g.V.Disk in
     what_stopped_hold m shelves vaults c.args.self (subst IsSafe c.self.view_is c.self.invariant.safe) (subst (IsRemembered m) c.self.view_is (c.self.invariant.remembered shelves vaults))
+
+pub returns-clause-writable : goal.returns-clause-writable
+returns-clause-writable g c = writable _ c.self.invariant.safe

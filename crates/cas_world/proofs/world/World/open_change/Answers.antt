@@ -19,9 +19,9 @@ use Rattle.cas_world.specs.World.{view_of}
 use Rattle.cas_world.proofs.Exchanges.Exchanges.{council_world, hushed_reserves, some_there}
 use Rattle.cas_world.proofs.Eras.Planning.{opens_plan, told_last, welcome_council, settled_era, few_eras, none_there, planned_from, is_under_way, none_begins}
 use Rattle.cas_world.proofs.Parts.{Remembers, at_place, remembered_then}
-use Rattle.cas_world.proofs.world.World.begin_change.Given.{Over}
-use Rattle.cas_world.proofs.world.World.begin_change.Goals as goal
-use Rattle.cas_world.proofs.world.World.begin_change.Goals.{After-begin_plan}
+use Rattle.cas_world.proofs.world.World.open_change.Given.{Over}
+use Rattle.cas_world.proofs.world.World.open_change.Goals as goal
+use Rattle.cas_world.proofs.world.World.open_change.Goals.{After-begin_plan}
 
 pub plan-requires-clause-one_set : goal.plan-requires-clause-one_set
 plan-requires-clause-one_set g c =
