@@ -21,7 +21,7 @@ use Rattle.cas_lines.specs.declared.reading.TheConstants.{LONGEST_LINE}
 use Rattle.cas_lines.specs.declared.reading.LineHead.{LineHead}
 use Rattle.cas_lines.specs.declared.reading.LineHead.TheVariants as heads
 use Rattle.cas_lines.specs.declared.command.Command.{Command}
-use Rattle.cas_lines.specs.declared.command.Command.TheVariants.{Get, Set, Num, Init, Add, Cas, CasNum, Del, DelVersion, Do, Join, Leave, Collect, Probe, Net, CrashAcceptor, RestartAcceptor, CrashProposer, RestartProposer, HaltPrepared, HaltProposed, Stray, Show}
+use Rattle.cas_lines.specs.declared.command.Command.TheVariants.{Get, Set, Num, Init, Add, Cas, CasNum, Del, DelVersion, Do, Join, Leave, Resize, Collect, Probe, Read, Net, CrashAcceptor, RestartAcceptor, CrashProposer, RestartProposer, HaltPrepared, HaltProposed, Stray, Show}
 use Rattle.cas_lines.specs.declared.changes.ChangeName.{ChangeName}
 use Rattle.cas_lines.specs.declared.changes.ChangeName.TheVariants as names
 use Rattle.cas_lines.specs.declared.events.EventName.{EventName}
@@ -31,7 +31,7 @@ use Rattle.cas_lines.specs.Command.{NamesCaller, IsForm, NamesVerdict, IsCommand
 use Rattle.cas_lines.specs.Reading.{begins_with_digit, within, change_name, change_of_name, event_name, crash_of, restart_of, party_at, op_at, event_at, head_in, head_at, command_behind, command_at, words_in, line_in}
 use Rattle.cas_lines.proofs.ChangeLines.{change_word, change_found, form_again}
 use Rattle.cas_lines.proofs.EventLines.{one_found, within_some, within_again, event_word, event_named, event_found, net_again, last_acceptor-again, last_proposer-again, halt_again, show_again}
-use Rattle.cas_lines.proofs.OperatorLines.{op_found, join_again, leave_again, collect_again, probe_again}
+use Rattle.cas_lines.proofs.OperatorLines.{op_found, join_again, leave_again, resize_again, collect_again, probe_again, read_again}
 
 -- ---- first words
 
@@ -156,8 +156,11 @@ command_again proposers words (Do caller key program) is =
     change_again proposers caller key names.Do words is.0 is.1 refl ∙ rw (clauses_again 8 (0 + 1 + 1 + 1) is.0 program is.2.0 is.2.1) refl
 command_again proposers words (Join id) is = op_again proposers words (codes "join" ∷ is.0 ∷ []) is.1 ∙ join_again (0 + 1) id is.0 is.2
 command_again proposers words (Leave id) is = op_again proposers words (codes "leave" ∷ is.0 ∷ []) is.1 ∙ leave_again (0 + 1) id is.0 is.2
+command_again proposers words (Resize need_prep need_acc) is =
+    op_again proposers words (codes "resize" ∷ is.0 ∷ is.1 ∷ []) is.2 ∙ resize_again (0 + 1) need_prep need_acc is.0 is.1 is.3 is.4
 command_again proposers words (Collect key) is = op_again proposers words (codes "collect" ∷ key ∷ []) is.0 ∙ collect_again (0 + 1) key is.1
 command_again proposers words (Probe key) is = op_again proposers words (codes "probe" ∷ key ∷ []) is.0 ∙ probe_again (0 + 1) key is.1
+command_again proposers words (Read key) is = op_again proposers words (codes "read" ∷ key ∷ []) is.0 ∙ read_again (0 + 1) key is.1
 command_again proposers words (Net leg who verdict) is =
     event_again proposers words (is.0 ∷ is.1 ∷ is.2 ∷ []) events.Net is.3 ∙ net_again (0 + 1) leg who verdict is.0 is.1 is.2 is.4 is.5 is.6
 command_again proposers words (CrashAcceptor id) is =
@@ -200,8 +203,10 @@ no_remark_of proposers words (CasNum caller key version number) is = no_remark p
 no_remark_of proposers words (Do caller key program) is = no_remark proposers words caller (codes "do") key is.0 is.1
 no_remark_of proposers words (Join id) is = ap is_remark is.1
 no_remark_of proposers words (Leave id) is = ap is_remark is.1
+no_remark_of proposers words (Resize need_prep need_acc) is = ap is_remark is.2
 no_remark_of proposers words (Collect key) is = ap is_remark is.0
 no_remark_of proposers words (Probe key) is = ap is_remark is.0
+no_remark_of proposers words (Read key) is = ap is_remark is.0
 no_remark_of proposers words (Net leg who verdict) is = ap is_remark is.3
 no_remark_of proposers words (CrashAcceptor id) is = ap is_remark is.1
 no_remark_of proposers words (RestartAcceptor id) is = ap is_remark is.1
@@ -257,8 +262,10 @@ command_known proposers words (DelVersion caller key version) is = (is.1.1.1, is
 command_known proposers words (Do caller key program) is = (is.1.1.1, is.1.1.2)
 command_known proposers words (Join id) is = tt
 command_known proposers words (Leave id) is = tt
+command_known proposers words (Resize need_prep need_acc) is = tt
 command_known proposers words (Collect key) is = tt
 command_known proposers words (Probe key) is = tt
+command_known proposers words (Read key) is = tt
 command_known proposers words (Net leg who verdict) is = no_hold verdict is.2 is.6
 command_known proposers words (CrashAcceptor id) is = tt
 command_known proposers words (RestartAcceptor id) is = tt

@@ -7,7 +7,7 @@ use Rattle.std.proofs.lemmas.Slice.Eq.{bytes_eq-Decides}
 use Rattle.cas_change_text.specs.Decimal.{u64_of}
 use Rattle.cas_change_text.specs.Words.{Word, words_of}
 use Rattle.cas_lines.specs.declared.command.Command.{Command}
-use Rattle.cas_lines.specs.declared.command.Command.TheVariants.{Get, Set, Num, Init, Add, Cas, CasNum, Del, DelVersion, Do, Join, Leave, Collect, Probe, Net, CrashAcceptor, RestartAcceptor, CrashProposer, RestartProposer, HaltPrepared, HaltProposed, Stray, Show}
+use Rattle.cas_lines.specs.declared.command.Command.TheVariants.{Get, Set, Num, Init, Add, Cas, CasNum, Del, DelVersion, Do, Join, Leave, Resize, Collect, Probe, Read, Net, CrashAcceptor, RestartAcceptor, CrashProposer, RestartProposer, HaltPrepared, HaltProposed, Stray, Show}
 use Rattle.cas_lines.specs.Command.{IsForm, IsCommand, IsLine, event_words, is_event, asks_nobody}
 
 -- a number is no other word
@@ -40,8 +40,10 @@ command_event proposers words (DelVersion caller key version) is = sym (form_no_
 command_event proposers words (Do caller key program) is = sym (form_no_event proposers words caller (codes "do") key is.0 is.1)
 command_event proposers words (Join id) is = sym (ap is_event is.1)
 command_event proposers words (Leave id) is = sym (ap is_event is.1)
+command_event proposers words (Resize need_prep need_acc) is = sym (ap is_event is.2)
 command_event proposers words (Collect key) is = sym (ap is_event is.0)
 command_event proposers words (Probe key) is = sym (ap is_event is.0)
+command_event proposers words (Read key) is = sym (ap is_event is.0)
 command_event proposers words (Net leg who verdict) is = sym (ap is_event is.3)
 command_event proposers words (CrashAcceptor id) is = sym (ap is_event is.1)
 command_event proposers words (RestartAcceptor id) is = sym (ap is_event is.1)

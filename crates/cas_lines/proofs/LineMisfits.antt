@@ -20,7 +20,7 @@ use Rattle.cas_change_text.proofs.Stopping.{IsReader, IsWhole, read_as, after, o
 use Rattle.cas_fate.specs.declared.fate.Verdict.TheVariants as verdicts
 use Rattle.cas_lines.specs.declared.reading.TheConstants.{LONGEST_LINE}
 use Rattle.cas_lines.specs.declared.command.Command.{Command}
-use Rattle.cas_lines.specs.declared.command.Command.TheVariants.{Get, Set, Num, Init, Add, Cas, CasNum, Del, DelVersion, Do, Join, Leave, Collect, Probe, Net, CrashAcceptor, RestartAcceptor, CrashProposer, RestartProposer, HaltPrepared, HaltProposed, Stray, Show}
+use Rattle.cas_lines.specs.declared.command.Command.TheVariants.{Get, Set, Num, Init, Add, Cas, CasNum, Del, DelVersion, Do, Join, Leave, Resize, Collect, Probe, Read, Net, CrashAcceptor, RestartAcceptor, CrashProposer, RestartProposer, HaltPrepared, HaltProposed, Stray, Show}
 use Rattle.cas_lines.specs.declared.changes.ChangeName.{ChangeName}
 use Rattle.cas_lines.specs.declared.changes.ChangeName.TheVariants as names
 use Rattle.cas_lines.specs.declared.events.EventName.{EventName}
@@ -33,7 +33,7 @@ use Rattle.cas_lines.specs.declared.operator.OpName.TheVariants as ops
 use Rattle.cas_lines.specs.declared.reading.LineHead.{LineHead}
 use Rattle.cas_lines.specs.declared.reading.LineHead.TheVariants as heads
 use Rattle.cas_lines.specs.Command.{NamesCaller, IsCommand, IsUnlimited, AreCommand, AreUnlimited, is_remark}
-use Rattle.cas_lines.specs.Reading.{begins_with_digit, within, change_name, name_at, key_in, key_at, change_of_name, change_at, op_name, op_name_at, op_of_name, op_at, event_name, leg_name, verdict_name, party_name, halt_point_name, acceptor_of, proposer_of, one_or_all, leg_in, leg_at, who_in, who_at, verdict_at, party_at, halt_point_at, acceptor_at, proposer_at, net_at, crash_of, restart_of, halt_of, halt_at, show_at, event_at, head_in, head_at, command_behind, command_at, words_in, line_in}
+use Rattle.cas_lines.specs.Reading.{begins_with_digit, within, change_name, name_at, key_in, key_at, change_of_name, change_at, size_at, size_of, op_name, op_name_at, op_of_name, op_at, event_name, leg_name, verdict_name, party_name, halt_point_name, acceptor_of, proposer_of, one_or_all, leg_in, leg_at, who_in, who_at, verdict_at, party_at, halt_point_at, acceptor_at, proposer_at, net_at, crash_of, restart_of, halt_of, halt_at, show_at, event_at, head_in, head_at, command_behind, command_at, words_in, line_in}
 use Rattle.cas_lines.proofs.ChangeLines.{change_word, form, front_at, front_found, change_of_name-found}
 use Rattle.cas_lines.proofs.Commands.{IsHead, line_at, line_at-found, behind_found, command_again}
 
@@ -118,6 +118,10 @@ acceptor_reader : IsReader acceptor_at
 unfolding acceptor_at
 acceptor_reader = said_reader acceptor_of why.BadNumber (codes "0") 0 refl
 
+size_reader : IsReader size_at
+unfolding size_at
+size_reader = said_reader size_of why.BadNumber (codes "1") 1 refl
+
 op_name_reader : IsReader op_name_at
 unfolding op_name_at
 op_name_reader = said_reader op_name why.UnknownWord (codes "probe") ops.Probe refl
@@ -126,8 +130,12 @@ op_of_name-whole : (most : ℕ) (name : OpName) → IsWhole (λ m. op_of_name na
 unfolding op_of_name
 op_of_name-whole most ops.Join = made_whole (to_end acceptor_at) most (λ id. Join id) (whole_to_end acceptor_at most acceptor_reader)
 op_of_name-whole most ops.Leave = made_whole (to_end acceptor_at) most (λ id. Leave id) (whole_to_end acceptor_at most acceptor_reader)
+op_of_name-whole most ops.Resize =
+    whole_after size_at (λ m need_prep left. to_end size_at m left >>= λ need_acc. Ok (Resize need_prep need_acc)) most size_reader
+    (λ need_prep. made_whole (to_end size_at) most (λ need_acc. Resize need_prep need_acc) (whole_to_end size_at most size_reader))
 op_of_name-whole most ops.Collect = made_whole (to_end key_at) most (λ key. Collect key) (whole_to_end key_at most key_reader)
 op_of_name-whole most ops.Probe = made_whole (to_end key_at) most (λ key. Probe key) (whole_to_end key_at most key_reader)
+op_of_name-whole most ops.Read = made_whole (to_end key_at) most (λ key. Read key) (whole_to_end key_at most key_reader)
 
 op_whole : (most : ℕ) → IsWhole (λ m. op_at) most
 unfolding op_at
@@ -253,8 +261,10 @@ unlimited_of proposers words (Del caller key) is = is
 unlimited_of proposers words (DelVersion caller key version) is = is
 unlimited_of proposers words (Join id) is = is
 unlimited_of proposers words (Leave id) is = is
+unlimited_of proposers words (Resize need_prep need_acc) is = is
 unlimited_of proposers words (Collect key) is = is
 unlimited_of proposers words (Probe key) is = is
+unlimited_of proposers words (Read key) is = is
 unlimited_of proposers words (Net leg who verdict) is = is
 unlimited_of proposers words (CrashAcceptor id) is = is
 unlimited_of proposers words (RestartAcceptor id) is = is

@@ -19,6 +19,8 @@ use Rattle.cas_record.specs.declared.answer.Cause.TheVariants as cause
 use Rattle.cas_record.specs.declared.operator.OpAnswer.{OpAnswer}
 use Rattle.cas_record.specs.declared.operator.OpAnswer.TheVariants as op
 use Rattle.cas_record.specs.declared.operator.Probe.{Probe}
+use Rattle.cas_record.specs.declared.read_answer.ReadAnswer.{ReadAnswer}
+use Rattle.cas_record.specs.declared.read_answer.ReadAnswer.TheVariants as read
 use Rattle.cas_slot.specs.declared.message.Tell.{Tell}
 use Rattle.cas_slot.specs.declared.message.Tell.TheVariants as tell
 use Rattle.cas_slot.specs.declared.slot.Accepted.{Accepted}
@@ -101,6 +103,18 @@ op_text (op.Stopped answer) = answer_text answer
 -- the line that answers an operator
 abbrev pub op_line : OpAnswer → List ℕ
 op_line answer = codes "op: " ++ op_text answer ++ 10 ∷ []
+
+-- what the operator is told who read a key
+abbrev pub read_text : ReadAnswer → List ℕ
+read_text (read.Value key state ballot) = codes "read " ++ key ++ codes " " ++ state_text state ++ codes " at " ++ ballot_text ballot
+read_text (read.Short got need) = codes "short " ++ decimal got ++ codes " " ++ decimal need
+read_text (read.NotAgreed low high) = codes "not agreed " ++ ballot_text low ++ codes " " ++ ballot_text high
+read_text (read.OldEra ballot era) = codes "old era " ++ decimal era ++ codes " at " ++ ballot_text ballot
+read_text (read.Stopped answer) = answer_text answer
+
+-- and the line that tells it
+abbrev pub read_line : ReadAnswer → List ℕ
+read_line answer = codes "op: " ++ read_text answer ++ 10 ∷ []
 
 -- ---- events
 

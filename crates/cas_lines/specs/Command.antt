@@ -17,7 +17,7 @@ use Rattle.cas_fate.specs.declared.fate.Verdict.{Verdict}
 use Rattle.cas_fate.specs.declared.fate.Verdict.TheVariants as verdicts
 use Rattle.cas_lines.specs.declared.reading.TheConstants.{LONGEST_LINE}
 use Rattle.cas_lines.specs.declared.command.Command.{Command}
-use Rattle.cas_lines.specs.declared.command.Command.TheVariants.{Get, Set, Num, Init, Add, Cas, CasNum, Del, DelVersion, Do, Join, Leave, Collect, Probe, Net, CrashAcceptor, RestartAcceptor, CrashProposer, RestartProposer, HaltPrepared, HaltProposed, Stray, Show}
+use Rattle.cas_lines.specs.declared.command.Command.TheVariants.{Get, Set, Num, Init, Add, Cas, CasNum, Del, DelVersion, Do, Join, Leave, Resize, Collect, Probe, Read, Net, CrashAcceptor, RestartAcceptor, CrashProposer, RestartProposer, HaltPrepared, HaltProposed, Stray, Show}
 
 -- ---- the grammar
 
@@ -61,6 +61,10 @@ abbrev pub IsLeg : Option Leg → Word → Type 0
 IsLeg None word = word ≡ codes "all"
 IsLeg (Some leg) word = word ≡ leg_word leg
 
+-- the word says this size of a quorum
+abbrev pub IsSize : ℕ → Word → Type 0
+IsSize size word = (u64_of word ≡ Some size) × (1 ≤ size) × (size ≤ 9)
+
 -- the word is this acceptor's number, or stands for all of them
 abbrev pub IsWho : Option ℕ → Word → Type 0
 IsWho None word = word ≡ codes "*"
@@ -96,8 +100,11 @@ IsCommand proposers words (DelVersion caller key version) = IsFormWith proposers
 IsCommand proposers words (Do caller key program) = (rest : List Word) × IsForm proposers words caller (codes "do") key rest × IsProgram rest program
 IsCommand proposers words (Join id) = HasLast words (codes "op" ∷ codes "join" ∷ []) (IsAcceptor id)
 IsCommand proposers words (Leave id) = HasLast words (codes "op" ∷ codes "leave" ∷ []) (IsAcceptor id)
+IsCommand proposers words (Resize need_prep need_acc) =
+    (first second : Word) × (words ≡ codes "op" ∷ codes "resize" ∷ first ∷ second ∷ []) × IsSize need_prep first × IsSize need_acc second
 IsCommand proposers words (Collect key) = (words ≡ codes "op" ∷ codes "collect" ∷ key ∷ []) × IsKey key
 IsCommand proposers words (Probe key) = (words ≡ codes "op" ∷ codes "probe" ∷ key ∷ []) × IsKey key
+IsCommand proposers words (Read key) = (words ≡ codes "op" ∷ codes "read" ∷ key ∷ []) × IsKey key
 IsCommand proposers words (Net leg who verdict) =
     (first second third : Word) × (words ≡ codes "net" ∷ first ∷ second ∷ third ∷ []) × IsLeg leg first × IsWho who second × NamesVerdict verdict third
 IsCommand proposers words (CrashAcceptor id) = HasLast words (codes "crash" ∷ codes "acceptor" ∷ []) (IsAcceptor id)

@@ -20,7 +20,7 @@ use Rattle.cas_fate.specs.declared.fate.Verdict.TheVariants as verdicts
 use Rattle.cas_lines.specs.Command.{is_remark}
 use Rattle.cas_lines.specs.declared.reading.TheConstants.{LONGEST_LINE}
 use Rattle.cas_lines.specs.declared.command.Command.{Command}
-use Rattle.cas_lines.specs.declared.command.Command.TheVariants.{Get, Set, Num, Init, Add, Cas, CasNum, Del, DelVersion, Do, Join, Leave, Collect, Probe, Net, CrashAcceptor, RestartAcceptor, CrashProposer, RestartProposer, HaltPrepared, HaltProposed, Stray, Show}
+use Rattle.cas_lines.specs.declared.command.Command.TheVariants.{Get, Set, Num, Init, Add, Cas, CasNum, Del, DelVersion, Do, Join, Leave, Resize, Collect, Probe, Read as ReadKey, Net, CrashAcceptor, RestartAcceptor, CrashProposer, RestartProposer, HaltPrepared, HaltProposed, Stray, Show}
 use Rattle.cas_lines.specs.declared.changes.ChangeName.{ChangeName}
 use Rattle.cas_lines.specs.declared.changes.ChangeName.TheVariants as names
 use Rattle.cas_lines.specs.declared.events.EventName.{EventName}
@@ -123,12 +123,23 @@ acceptor_at left = do
 
 -- ---- operator lines
 
+abbrev pub size_of : Word → Option ℕ
+size_of word = within 1 9 (u64_of word)
+
+unfoldable pub size_at : WordsLeft → Read ℕ
+size_at left = do
+  word ← word_at left
+  size ← ok_or (size_of word.0) (refusal_at why.BadNumber left)
+  Ok (size, word.1)
+
 -- what an operator's line asks for, as a word names it
 abbrev pub op_name : Word → Option OpName
 op_name word = if bytes_eq word (codes "join") then Some ops.Join
     else (if bytes_eq word (codes "leave") then Some ops.Leave
+    else (if bytes_eq word (codes "resize") then Some ops.Resize
     else (if bytes_eq word (codes "collect") then Some ops.Collect
-    else (if bytes_eq word (codes "probe") then Some ops.Probe else None)))
+    else (if bytes_eq word (codes "probe") then Some ops.Probe
+    else (if bytes_eq word (codes "read") then Some ops.Read else None)))))
 
 unfoldable pub op_name_at : WordsLeft → Read OpName
 op_name_at left = do
@@ -140,8 +151,10 @@ op_name_at left = do
 unfoldable pub op_of_name : OpName → WordsLeft → Result Command TextRefusal
 op_of_name ops.Join left = ended (acceptor_at left) >>= λ id. Ok (Join id)
 op_of_name ops.Leave left = ended (acceptor_at left) >>= λ id. Ok (Leave id)
+op_of_name ops.Resize left = size_at left >>= λ need_prep. (ended (size_at need_prep.1) >>= λ need_acc. Ok (Resize need_prep.0 need_acc))
 op_of_name ops.Collect left = ended (key_at left) >>= λ key. Ok (Collect key)
 op_of_name ops.Probe left = ended (key_at left) >>= λ key. Ok (Probe key)
+op_of_name ops.Read left = ended (key_at left) >>= λ key. Ok (ReadKey key)
 
 -- a name, and what follows it
 unfoldable pub op_at : WordsLeft → Result Command TextRefusal

@@ -7,7 +7,7 @@ ghost use Rattle.std.specs.Prelude.{◌≡◌, ◌++◌, string_bytes, OnOk, IfO
 ghost use Rattle.cas_ballot.specs.Ballot.{ballot_text};
 ghost use Rattle.cas_lines.specs.Answers.{took_text, cause_text, answer_text, change_line, bad_line, event_text, event_line, accepted_text, shown_text, shown_line};
 
-pub use crate::op_answer::{print_op, push_key, push_op};
+pub use crate::op_answer::{print_op, print_read, push_key, push_op, push_read};
 use cas_ballot::{AcceptorId, Ballot};
 use cas_change::{Key, Took};
 use cas_change_text::{Why, push_decimal, push_state};

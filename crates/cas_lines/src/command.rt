@@ -84,12 +84,21 @@ pub enum Command {
     Leave {
         id: AcceptorId,
     },
+    /// `op resize`: quorums get these sizes, each from 1 to 9.
+    Resize {
+        need_prep: u32,
+        need_acc: u32,
+    },
     /// `op collect`: removes what is kept for a key whose register is empty.
     Collect {
         key: Key,
     },
     /// `op probe`: tells what each member keeps for a key.
     Probe {
+        key: Key,
+    },
+    /// `op read`: tells what members agree on of a key, without a write.
+    Read {
         key: Key,
     },
     /// `net`: from now on this becomes of the frames of a leg at whose other end an acceptor is. `None` stands for all

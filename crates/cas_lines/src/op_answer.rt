@@ -5,12 +5,13 @@
 ghost use Rattle.std.specs.Prelude.{◌≡◌, [], ◌∷◌, ◌++◌, string_bytes, OnOk, IfOk};
 ghost use Rattle.std.specs.List.{flat_map};
 ghost use Rattle.cas_change.specs.Key.{IsKeyByte};
-ghost use Rattle.cas_lines.specs.Answers.{kept_text, told_text, probe_text, plan_text, sizes_text, op_text, op_line};
+ghost use Rattle.cas_lines.specs.Answers.{kept_text, told_text, probe_text, plan_text, sizes_text, op_text, op_line, read_text, read_line};
 
 use crate::answer::push_answer;
 use cas_ballot::AcceptorId;
 use cas_change::Key;
-use cas_record::{OpAnswer, Probe};
+use cas_change_text::push_state;
+use cas_record::{OpAnswer, Probe, ReadAnswer};
 use cas_slot::{Accepted, Tell};
 use std::alloc::{AllocError, Global};
 
@@ -20,6 +21,16 @@ pub fn print_op(alloc: Global, answer: &OpAnswer) -> Result<Vec<u8>, AllocError>
 {
     let mut line = String::from_str(alloc, "op: ")?;
     push_op(&mut line, answer)?;
+    line.push('\n')?;
+    Ok(line.into_bytes())
+}
+
+/// The line that answers an operator who read a key, with its newline.
+pub fn print_read(alloc: Global, answer: &ReadAnswer) -> Result<Vec<u8>, AllocError>
+    ensures { IfOk result (λ line. line.items ≡ read_line answer.now) }
+{
+    let mut line = String::from_str(alloc, "op: ")?;
+    push_read(&mut line, answer)?;
     line.push('\n')?;
     Ok(line.into_bytes())
 }
@@ -70,6 +81,25 @@ pub fn push_op(line: &mut String, answer: &OpAnswer) -> Result<(), AllocError>
             push_probes(line, found.probes())
         }
         OpAnswer::Stopped(answer) => push_answer(line, answer),
+    }
+}
+
+/// Writes behind `line` what an operator is answered who read a key.
+pub fn push_read(line: &mut String, answer: &ReadAnswer) -> Result<(), AllocError>
+    ensures { OnOk result (string_bytes line.new ≡ string_bytes line.old ++ read_text answer.now) }
+{
+    match answer {
+        ReadAnswer::Value { key, state, ballot } => {
+            line.push_str("read ")?;
+            push_key(line, key)?;
+            line.push_str(" ")?;
+            push_state(line, state)?;
+            write!(line, " at {ballot}")
+        }
+        ReadAnswer::Short { got, need } => write!(line, "short {got} {need}"),
+        ReadAnswer::NotAgreed { low, high } => write!(line, "not agreed {low} {high}"),
+        ReadAnswer::OldEra { ballot, era } => write!(line, "old era {era} at {ballot}"),
+        ReadAnswer::Stopped(answer) => push_answer(line, answer),
     }
 }
 

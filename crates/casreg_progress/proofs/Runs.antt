@@ -19,6 +19,7 @@ line_done m tries old new line answer safe (script.changes {answer = told} comma
 line_done m tries old new line answer safe (script.happens command is_line runs) = tt
 line_done m tries old new line answer safe (script.shows id key is_line shown) = tt
 line_done m tries old new line answer safe (script.probes key is_line runs) = tt
+line_done m tries old new line answer safe (script.reads key is_line runs) = tt
 line_done m tries old new line answer safe (script.collects key is_line runs) = tt
 line_done m tries old new line answer safe (script.changes_members command asked is_line asks runs) = tt
 line_done m tries old new line answer safe (script.refused why word is_line) = tt

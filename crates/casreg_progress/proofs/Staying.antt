@@ -28,7 +28,7 @@ use Rattle.casreg_script.specs.Exchanges.Exchanges.{AskTurned, AsksMembers}
 use Rattle.casreg_script.specs.Eras.Membership as membership
 use Rattle.casreg_script.specs.Eras.Membership.{Advances, HasAdvanced, IsTakenUp, ChangesMembers}
 use Rattle.casreg_script.specs.Exchanges.Probes as probes
-use Rattle.casreg_script.specs.Exchanges.Probes.{IsProbe}
+use Rattle.casreg_script.specs.Exchanges.Probes.{IsInquiry}
 use Rattle.casreg_script.specs.Script as script
 use Rattle.casreg_script.specs.Frames.Strays as strays
 use Rattle.casreg_script.specs.Frames.Strays.{LetsStrayIn}
@@ -140,11 +140,11 @@ asks_stays m asks gathers old new (exchanges.no_memory {asked = asked} by fails)
 asks_stays m asks gathers old new (exchanges.gathered {asked = asked} {turned = turned} by turns gather) =
     both old asked new (by_step m old asked asks by) (both asked turned new (ask_turned_stays m asked turned turns.turned) (by_step m turned new gathers gather))
 
--- ---- a probe
-probe_stays : {S V : Type 0} (m : Meaning S V) {net next : NetworkView} (key : List ℕ) (old new : View S V) (answer : OpAnswer) → IsProbe m net key old answer next new → Stays old new
-probe_stays m key old new answer (probes.refused why by) = by_step m old new step.RefuseOrder by
-probe_stays m key old new answer (probes.told {ordered = ordered} {asked_all = asked_all} by asks tells) =
-    both old ordered new (by_step m old ordered (step.Order (asked.Probe key)) by) (both ordered asked_all new (asks_stays m (step.AskAll (Probe key)) step.Gather ordered asked_all asks) (by_step m asked_all new (step.Tell answer) tells))
+-- ---- a probe or a read
+inquiry_stays : {S V : Type 0} (m : Meaning S V) {net next : NetworkView} (what : Asked) (key : List ℕ) (old new : View S V) (answer : OpAnswer) → IsInquiry m net what key old answer next new → Stays old new
+inquiry_stays m what key old new answer (probes.refused why by) = by_step m old new step.RefuseOrder by
+inquiry_stays m what key old new answer (probes.told {ordered = ordered} {asked_all = asked_all} by asks tells) =
+    both old ordered new (by_step m old ordered (step.Order what) by) (both ordered asked_all new (asks_stays m (step.AskAll (Probe key)) step.Gather ordered asked_all asks) (by_step m asked_all new (step.Tell answer) tells))
 
 -- ---- a change of membership
 advance_stays : {S V : Type 0} (m : Meaning S V) (tries : ℕ) {net next : NetworkView} (halt after : Halt) (old new : View S V) → Advances m tries net halt old next after new → Stays old new
@@ -210,7 +210,8 @@ line_stays m tries old new line answer (script.changes {answer = told} command a
     change_stays m tries asked.caller asked.key asked.program runs.halt runs.after old.world new.world told runs.change
 line_stays m tries old new line answer (script.happens {answer = told} command is_line runs) = event_stays m old new command told runs
 line_stays m tries old new line answer (script.shows id key is_line shown) = same old.world
-line_stays m tries old new line answer (script.probes {answer = told} key is_line runs) = probe_stays m key old.world new.world told runs.probe
+line_stays m tries old new line answer (script.probes {answer = told} key is_line runs) = inquiry_stays m (asked.Probe key) key old.world new.world told runs.probe
+line_stays m tries old new line answer (script.reads key is_line runs) = inquiry_stays m (asked.Read key) key old.world new.world runs.read.said runs.read.inquiry
 line_stays m tries old new line answer (script.collects {answer = told} key is_line runs) = collection_stays m tries key runs.halt runs.after old.world new.world told runs.collects
 line_stays m tries old new line answer (script.changes_members {answer = told} command asked is_line asks runs) =
     members_stay m tries asked runs.halt runs.after old.world new.world told runs.changes

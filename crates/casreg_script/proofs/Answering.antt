@@ -5,11 +5,13 @@ use Rattle.cas_lines.specs.Command.{IsLine, AskedChange, change_of}
 use Rattle.cas_lines.specs.declared.answer.EventAnswer.{EventAnswer}
 use Rattle.cas_lines.specs.declared.answer.Shown.{Shown}
 use Rattle.cas_lines.specs.declared.command.Command.{Command}
-use Rattle.cas_lines.specs.declared.command.Command.TheVariants.{Probe, Collect, Show}
+use Rattle.cas_lines.specs.declared.command.Command.TheVariants.{Probe, Read, Collect, Show}
 use Rattle.cas_record.specs.declared.answer.Answer.{Answer}
 use Rattle.cas_record.specs.declared.operator.Asked as operator
 use Rattle.cas_record.specs.declared.operator.OpAnswer.{OpAnswer}
+use Rattle.cas_record.specs.declared.read_answer.ReadAnswer.{ReadAnswer}
 use Rattle.casreg_script.specs.Exchanges.Probes.{IsProbe}
+use Rattle.casreg_script.specs.Exchanges.Reads.{IsRead}
 use Rattle.cas_model.specs.View.{Meaning, View}
 use Rattle.cas_change.specs.declared.program.Clause.{Clause}
 use Rattle.cas_world.specs.Calls.Beginning.{HasNoCall}
@@ -19,12 +21,12 @@ use Rattle.casreg_script.specs.Frames.Conditions.{Ruled}
 use Rattle.casreg_script.specs.Events.{IsShownSlot}
 use Rattle.casreg_script.specs.Eras.Membership.{ChangesMembers}
 use Rattle.casreg_script.specs.Frames.Network.{IsNetwork, NetworkLeaves, Through}
-use Rattle.casreg_script.specs.Script.{State, LineAnswer, Changed, Happened, Shows, Operated, RunsProbe, probes, RunsCollection, collects, RunsMembership, changes_members, membership_of, RunsChange, RunsEvent, IsAnswered, changes, happens, shows, text_of, IsInState, AnswersLine, RanOrNot, ran, Runs, nowhere}
+use Rattle.casreg_script.specs.Script.{State, LineAnswer, Changed, Happened, Shows, Operated, Reads, RunsProbe, probes, RunsRead, reads, RunsCollection, collects, RunsMembership, changes_members, membership_of, RunsChange, RunsEvent, IsAnswered, changes, happens, shows, text_of, IsInState, AnswersLine, RanOrNot, ran, Runs, nowhere}
 use Rattle.casreg_script.specs.Stage.{Stage, IsStage}
 use Rattle.casreg_script.specs.declared.halt.Halt.{Halt}
 use Rattle.casreg_script.specs.declared.network.Network.{Network}
 use Rattle.casreg_script.proofs.Calls.Keeping.{change_leaves, stays_quiet, idle_then}
-use Rattle.casreg_script.proofs.Frames.Ruled.{still_ruled, change_stay, collection_stay, membership_stay, probe_stay}
+use Rattle.casreg_script.proofs.Frames.Ruled.{still_ruled, change_stay, collection_stay, membership_stay, probe_stay, read_stay}
 use Rattle.casreg_script.proofs.Stages.{stage_of, halt_at, world_is, halts_are, network_is}
 
 -- ---- results
@@ -59,6 +61,10 @@ shows_run {S} {V} m tries stage state line command id key shown world at is says
 pub probes_run : {S V : Type 0} (m : Meaning S V) (tries : ℕ) (old stage : Stage S V) (state : State S V) (line : List ℕ) (command : Command) (key : List ℕ) (answer : OpAnswer) → IsInState old state → IsLine old.world.last_proposer line (Some command) → command ≡ Probe key
     → (runs : Runs (RunsProbe m state key answer) stage) → IsAnswered m tries state line (Operated answer) runs.new
 probes_run m tries old stage state line command key answer at is says runs = probes key (subst (λ (c : Command). IsLine state.world.last_proposer line (Some c)) says (line_of old state line (Some command) at is)) runs.has
+
+pub reads_run : {S V : Type 0} (m : Meaning S V) (tries : ℕ) (old stage : Stage S V) (state : State S V) (line : List ℕ) (command : Command) (key : List ℕ) (answer : ReadAnswer) → IsInState old state → IsLine old.world.last_proposer line (Some command) → command ≡ Read key
+    → (runs : Runs (RunsRead m state key answer) stage) → IsAnswered m tries state line (Reads answer) runs.new
+reads_run m tries old stage state line command key answer at is says runs = reads key (subst (λ (c : Command). IsLine state.world.last_proposer line (Some c)) says (line_of old state line (Some command) at is)) runs.has
 
 pub collects_run : {S V : Type 0} (m : Meaning S V) (tries : ℕ) (old stage : Stage S V) (state : State S V) (line : List ℕ) (command : Command) (key : List ℕ) (answer : OpAnswer) → IsInState old state → IsLine old.world.last_proposer line (Some command) → command ≡ Collect key
     → (runs : Runs (RunsCollection m tries state key answer) stage) → IsAnswered m tries state line (Operated answer) runs.new
@@ -123,6 +129,20 @@ probe_runs {S} {V} m world now network next halts tries seen state key answer is
       is_in = record { world = refl; network = now_ruled.is; halts = halts_are world network halts tries seen state is at };
       has = record {
         probe = subst (λ (w : View S V). IsProbe m (Ruled state.rules) key w answer (Ruled state.rules) now) (world_is world network halts tries seen state is at) now_ruled.has;
+        rules = refl;
+        halts = refl;
+      };
+    }
+
+-- ---- a read
+pub read_runs : {S V : Type 0} (m : Meaning S V) (world now : View S V) (network next : Network) (halts : List Halt) (tries : ℕ) (seen : Stage S V) (state : State S V) (key : List ℕ) (answer : ReadAnswer) → stage_of world network halts tries ≡ seen → IsInState seen state
+    → (IsNetwork network (Ruled state.rules) → NetworkLeaves next (λ view. IsRead m (Ruled state.rules) key world answer view now)) → Runs (RunsRead m state key answer) (stage_of now next halts tries)
+read_runs {S} {V} m world now network next halts tries seen state key answer is at runs =
+    let now_ruled = still_ruled next state.rules (λ view. IsRead m (Ruled state.rules) key world answer view now) (λ view. read_stay m (Ruled state.rules) view key world now answer) (runs (network_is world network halts tries seen state is at)) in record {
+      new = record state { world = now };
+      is_in = record { world = refl; network = now_ruled.is; halts = halts_are world network halts tries seen state is at };
+      has = record {
+        read = subst (λ (w : View S V). IsRead m (Ruled state.rules) key w answer (Ruled state.rules) now) (world_is world network halts tries seen state is at) now_ruled.has;
         rules = refl;
         halts = refl;
       };

@@ -1,3 +1,4 @@
 pub mod Exchanges
 pub mod Orders
 pub mod Probes
+pub mod Reads

@@ -1,18 +1,19 @@
 -- A script: its lines run one after another, each has its answer, and the answers are its transcript.
 use Rattle.std.specs.Prelude.{◌≡◌, ℕ, suc, Bool, true, false, List, [], ◌∷◌, ◌++◌, Option, Some, None, Err, replicate, slice_set}
 use Rattle.cas_change_text.specs.declared.refusal.Why.{Why}
-use Rattle.cas_lines.specs.Answers.{change_line, bad_line, event_line, op_line, shown_line}
+use Rattle.cas_lines.specs.Answers.{change_line, bad_line, event_line, op_line, read_line, shown_line}
 use Rattle.cas_lines.specs.Command.{IsLine, AskedChange, change_of}
 use Rattle.cas_lines.specs.Reading.{line_in}
 use Rattle.cas_lines.specs.declared.answer.EventAnswer.{EventAnswer}
 use Rattle.cas_lines.specs.declared.answer.EventAnswer.TheVariants as event
 use Rattle.cas_lines.specs.declared.answer.Shown.{Shown}
 use Rattle.cas_lines.specs.declared.command.Command.{Command}
-use Rattle.cas_lines.specs.declared.command.Command.TheVariants.{Join, Leave, Probe, Collect, Net, CrashAcceptor, RestartAcceptor, CrashProposer, RestartProposer, HaltPrepared, HaltProposed, Stray, Show}
+use Rattle.cas_lines.specs.declared.command.Command.TheVariants.{Join, Leave, Resize, Probe, Read as ReadKey, Collect, Net, CrashAcceptor, RestartAcceptor, CrashProposer, RestartProposer, HaltPrepared, HaltProposed, Stray, Show}
 use Rattle.cas_record.specs.declared.answer.Answer.{Answer}
 use Rattle.cas_record.specs.declared.operator.Asked as operator
-use Rattle.cas_record.specs.declared.operator.Asked.TheVariants.{Join as ToJoin, Leave as ToLeave}
+use Rattle.cas_record.specs.declared.operator.Asked.TheVariants.{Join as ToJoin, Leave as ToLeave, Resize as ToResize}
 use Rattle.cas_record.specs.declared.operator.OpAnswer.{OpAnswer}
+use Rattle.cas_record.specs.declared.read_answer.ReadAnswer.{ReadAnswer}
 use Rattle.cas_model.specs.Step as step
 use Rattle.cas_model.specs.Step.{Step}
 use Rattle.cas_model.specs.View.{Meaning, View, IsAt}
@@ -23,6 +24,7 @@ use Rattle.casreg_script.specs.Events.{CrashesAcceptor, RestartsAcceptor, Restar
 use Rattle.casreg_script.specs.Eras.Membership.{ChangesMembers}
 use Rattle.casreg_script.specs.Frames.Network.{IsNetwork}
 use Rattle.casreg_script.specs.Exchanges.Probes.{IsProbe}
+use Rattle.casreg_script.specs.Exchanges.Reads.{IsRead}
 use Rattle.casreg_script.specs.Stage.{Stage}
 use Rattle.casreg_script.specs.declared.halt.Halt.{Halt}
 
@@ -42,13 +44,14 @@ abbrev pub opening_state : {S V : Type 0} → View S V → State S V
 opening_state world = record { world = world; rules = []; halts = replicate 17 nowhere }
 
 -- ---- answers
--- what answers a line: what its caller is told of its change, what an event did, what is shown, what the operator is told, why the line is
--- bad, or nothing where it is a remark
+-- what answers a line: what its caller is told of its change, what an event did, what is shown, what the operator is told, or is told who
+-- read a key, why the line is bad, or nothing where it is a remark
 pub data LineAnswer : Type 0 where
   Changed : ℕ → Answer → LineAnswer
   Happened : EventAnswer → LineAnswer
   Shows : ℕ → List ℕ → Shown → LineAnswer
   Operated : OpAnswer → LineAnswer
+  Reads : ReadAnswer → LineAnswer
   Bad : Why → LineAnswer
   Remark : LineAnswer
 
@@ -78,10 +81,17 @@ pub record RunsProbe {S V : Type 0} (m : Meaning S V) (old : State S V) (key : L
   pub rules : new.rules ≡ old.rules
   pub halts : new.halts ≡ old.halts
 
+-- and one that asks for a read
+pub record RunsRead {S V : Type 0} (m : Meaning S V) (old : State S V) (key : List ℕ) (answer : ReadAnswer) (new : State S V) : Type 0 where
+  pub read : IsRead m (Ruled old.rules) key old.world answer (Ruled new.rules) new.world
+  pub rules : new.rules ≡ old.rules
+  pub halts : new.halts ≡ old.halts
+
 -- the change of membership that a command asks for
 abbrev pub membership_of : Command → Option operator.Asked
 membership_of (Join id) = Some (ToJoin id)
 membership_of (Leave id) = Some (ToLeave id)
+membership_of (Resize need_prep need_acc) = Some (ToResize need_prep need_acc)
 membership_of command = None
 
 -- a line that asks for it runs it, and the halts of proposer 0 may be used up
@@ -109,6 +119,7 @@ pub data IsAnswered {S V : Type 0} (m : Meaning S V) (tries : ℕ) (old : State 
   happens : {answer : EventAnswer} {new : State S V} (command : Command) → IsLine old.world.last_proposer line (Some command) → RunsEvent m old command answer new → IsAnswered m tries old line (Happened answer) new
   shows : {shown : Shown} (id : ℕ) (key : List ℕ) → IsLine old.world.last_proposer line (Some (Show id key)) → IsShownSlot m old.world id key shown → IsAnswered m tries old line (Shows id key shown) old
   probes : {answer : OpAnswer} {new : State S V} (key : List ℕ) → IsLine old.world.last_proposer line (Some (Probe key)) → RunsProbe m old key answer new → IsAnswered m tries old line (Operated answer) new
+  reads : {answer : ReadAnswer} {new : State S V} (key : List ℕ) → IsLine old.world.last_proposer line (Some (ReadKey key)) → RunsRead m old key answer new → IsAnswered m tries old line (Reads answer) new
   collects : {answer : OpAnswer} {new : State S V} (key : List ℕ) → IsLine old.world.last_proposer line (Some (Collect key)) → RunsCollection m tries old key answer new → IsAnswered m tries old line (Operated answer) new
   changes_members : {answer : OpAnswer} {new : State S V} (command : Command) (asked : operator.Asked) → IsLine old.world.last_proposer line (Some command) → membership_of command ≡ Some asked → RunsMembership m tries old asked answer new
       → IsAnswered m tries old line (Operated answer) new
@@ -128,6 +139,7 @@ text_of number (Changed caller answer) = change_line caller answer
 text_of number (Happened answer) = event_line answer
 text_of number (Shows id key shown) = shown_line id key shown
 text_of number (Operated answer) = op_line answer
+text_of number (Reads answer) = read_line answer
 text_of number (Bad why) = bad_line number why
 text_of number Remark = []
 

@@ -1,11 +1,11 @@
 //! One exchange, in which proposer 0 asks all members: from its question to what they told.
 
-ghost use Rattle.std.specs.Prelude.{◌≡◌, ◌<◌, IfOk, IfErr, OnOk, OnErr, List, false};
+ghost use Rattle.std.specs.Prelude.{◌≡◌, ◌<◌, ℕ, IfOk, IfErr, OnOk, OnErr, List, false};
 ghost use Rattle.cas_model.specs.Council.{Question};
 ghost use Rattle.cas_model.specs.View.{meaning};
 ghost use Rattle.cas_record.specs.declared.answer.Answer.TheVariants as answer;
 ghost use Rattle.cas_record.specs.declared.operator.OpAnswer.TheVariants as op;
-ghost use Rattle.cas_world.specs.Exchanges.Exchange.{MayAskThis, WasToldOrder, asking_of};
+ghost use Rattle.cas_world.specs.Exchanges.Exchange.{IsStopped, MayAskThis, WasToldOrder, asking_of};
 ghost use Rattle.casreg_script.specs.Frames.Conditions.{NetworkView};
 ghost use Rattle.casreg_script.specs.Exchanges.Exchanges.{AllAskTurned, BreaksOffAsking, AsksMembers, CameOf, IsAsking, KeepsCalls, KeepsOrder, answers_of, listing_left};
 ghost use Rattle.casreg_script.specs.Frames.Network.{IsNetwork, Through};
@@ -32,6 +32,7 @@ pub(crate) fn exchange<S: Shelf, V: Disk>(
     ensures gathered { IfOk result (λ gathered. CameOf what world.old gathered world.new) }
     ensures less { result ≡ Ok Gathered.More → listing_left world.new < listing_left world.old }
     ensures told { IfErr result (WasToldOrder world.new) }
+    ensures stopped { (key : List ℕ) → what ≡ Exchange.Read key → IfErr result IsStopped }
     ensures network { (by : NetworkView)
         → IsNetwork network.old by → (next : NetworkView) × IsNetwork network.new next }
     ensures calls { KeepsCalls world.old world.new }

@@ -14,6 +14,7 @@ mod load;
 mod membership;
 mod network;
 mod probe;
+mod read;
 mod run;
 mod script;
 mod strays;

@@ -8,7 +8,7 @@ ghost use Rattle.cas_lines.specs.Command.{one};
 ghost use Rattle.cas_record.specs.declared.operator.Asked.{Asked};
 ghost use Rattle.cas_world.specs.Calls.Beginning.{HasNoCall};
 ghost use Rattle.cas_world.specs.Exchanges.Exchange.{WasToldOrder};
-ghost use Rattle.cas_world.specs.Eras.Plans.{IsUnderWay, IsAtEnd, HasFinished, MayTell, asked_to, step_of, entrant_of};
+ghost use Rattle.cas_world.specs.Eras.Plans.{IsUnderWay, IsAtEnd, HasFinished, MayTell, asked_of, step_of, entrant_of};
 ghost use Rattle.casreg_script.specs.Frames.Conditions.{NetworkView};
 ghost use Rattle.casreg_script.specs.Eras.Membership.{HasAdvanced, IsCarriedOut, IsTakenUp, ChangesMembers, TakesStep, steps_left};
 ghost use Rattle.casreg_script.specs.Frames.Network.{IsNetwork, Through};
@@ -19,16 +19,15 @@ use crate::changes::change;
 use crate::exchange::exchange;
 use crate::halt::Halt;
 use crate::network::Network;
-use cas_ballot::AcceptorId;
 use cas_change::{Act, Guard, Program};
 use cas_disk::Disk;
 use cas_members::PlanStep;
 use cas_record::{Answer, OpAnswer, keep_always};
 use cas_slot::Shelf;
-use cas_world::{Exchange, Gathered, PlanKind, World};
+use cas_world::{Exchange, Gathered, Target, World};
 use std::alloc::{AllocError, Global};
 
-/// An acceptor joins or leaves, as a call of the operator; gives what the operator is told. A change of membership that was opened for
+/// An acceptor joins or leaves, or quorums get other sizes, as a call of the operator; gives what the operator is told. A change of membership that was opened for
 /// just that goes on where it stopped. Each key that is proposed anew has so many rounds at most, from 1, as a change has. What becomes of
 /// each frame the network says, and proposer 0 halts where it is to. An `Err` comes only before the call, and all is as before.
 pub fn change_members<S: Shelf, V: Disk>(
@@ -37,8 +36,7 @@ pub fn change_members<S: Shelf, V: Disk>(
     network: &mut Network,
     halt: &mut Halt,
     tries: u8,
-    kind: PlanKind,
-    id: AcceptorId,
+    target: &Target,
 ) -> Result<OpAnswer, AllocError>
     requires idle { HasNoCall world.old 0 }
     requires quiet { IsAtRest world.old.council }
@@ -46,7 +44,7 @@ pub fn change_members<S: Shelf, V: Disk>(
     requires network { (by : NetworkView) × IsNetwork network.old by }
     ensures changes { IfOk result (λ answer. Through network.old network.new
         (λ by next. ChangesMembers (meaning S.Shelf V.Disk) tries by
-        (asked_to kind id) halt.old world.old answer next halt.new world.new)) }
+        (asked_of target.now) halt.old world.old answer next halt.new world.new)) }
     ensures err { OnErr result ((world.new ≡ world.old)
         × (network.new ≡ network.old) × (halt.new ≡ halt.old)) }
     ensures network { (by : NetworkView)
@@ -55,9 +53,9 @@ pub fn change_members<S: Shelf, V: Disk>(
     ensures idle { KeepsIdle world.old world.new }
 {
     let program = keep_always(alloc)?;
-    match world.order(&kind.asked(id)) {
+    match world.order(&target.asked()) {
         Ok(()) => {
-            let answer = carry_out(world, network, halt, tries, kind, id, &program);
+            let answer = carry_out(world, network, halt, tries, target, &program);
             Ok(world.tell(answer))
         }
         Err(refusal) => Ok(OpAnswer::Stopped(refusal)),
@@ -70,49 +68,45 @@ fn carry_out<S: Shelf, V: Disk>(
     network: &mut Network,
     halt: &mut Halt,
     tries: u8,
-    kind: PlanKind,
-    id: AcceptorId,
+    target: &Target,
     program: &Program,
 ) -> OpAnswer
-    requires ordered { IsOrdered world.old (asked_to kind id) }
+    requires ordered { IsOrdered world.old (asked_of target.now) }
     requires free { IsFree world.old }
     requires program { program.now ≡ one Guard.Always Act.Keep }
     requires some { 1 ≤ tries }
     requires network { (by : NetworkView) × IsNetwork network.old by }
     ensures carried { Through network.old network.new (λ by next. IsCarriedOut (meaning S.Shelf
-        V.Disk) tries by (asked_to kind id) halt.old world.old next halt.new world.new) }
+        V.Disk) tries by (asked_of target.now) halt.old world.old next halt.new world.new) }
     ensures told { MayTell world.new result }
     ensures network { (by : NetworkView)
         → IsNetwork network.old by → (next : NetworkView) × IsNetwork network.new next }
     ensures idle { KeepsIdle world.old world.new }
 {
-    if let Err(told) = take_up(world, kind, id) {
+    if let Err(told) = take_up(world, target) {
         return told;
     }
     match advance(world, network, halt, tries, program) {
-        Ok(()) => world.finished_answer(kind, id),
+        Ok(()) => world.finished_answer(target),
         Err(told) => told,
     }
 }
 
 /// Opens the change, unless it is open. An `Err` is what the operator's call was told.
-fn take_up<S: Shelf, V: Disk>(
-    world: &mut World<S, V>,
-    kind: PlanKind,
-    id: AcceptorId,
-) -> Result<(), OpAnswer>
-    requires ordered { IsOrdered world.old (asked_to kind id) }
+fn take_up<S: Shelf, V: Disk>(world: &mut World<S, V>, target: &Target) -> Result<(), OpAnswer>
+    requires ordered { IsOrdered world.old (asked_of target.now) }
     requires free { IsFree world.old }
-    ensures taken_up { IsTakenUp (meaning S.Shelf V.Disk) (asked_to kind id) world.old world.new }
-    ensures under_way { OnOk result (IsUnderWay world.new (asked_to kind id)) }
+    ensures taken_up { IsTakenUp (meaning S.Shelf V.Disk)
+        (asked_of target.now) world.old world.new }
+    ensures under_way { OnOk result (IsUnderWay world.new (asked_of target.now)) }
     ensures told { IfErr result (WasToldOrder world.new) }
     ensures free { OnOk result (IsFree world.new) }
     ensures idle { KeepsIdle world.old world.new }
 {
-    if world.plan_is(&kind.asked(id)) {
+    if world.plan_is(&target.asked()) {
         return Ok(());
     }
-    world.open_plan(kind, id)
+    world.open_change(target)
 }
 
 /// Takes the steps of the change up to its end. An `Err` is what the operator's call was told.

@@ -6,9 +6,9 @@ ghost use Rattle.cas_model.specs.View.{meaning};
 ghost use Rattle.cas_lines.specs.Answers.{bad_line};
 ghost use Rattle.cas_lines.specs.Command.{IsLine, IsKnown, AskedChange, change_of};
 ghost use Rattle.cas_lines.specs.declared.command.Command.{Command as ACommand};
-ghost use Rattle.cas_world.specs.Eras.Plans.{asked_to};
+ghost use Rattle.cas_world.specs.Eras.Plans.{asked_of};
 ghost use Rattle.casreg_script.specs.Stage.{AllIdle};
-ghost use Rattle.casreg_script.specs.Script.{State, IsInState, AnswersLine, RanOrNot, RunsChange, RunsEvent, RunsProbe, RunsCollection, RunsMembership, Runs, is_event, opening_state};
+ghost use Rattle.casreg_script.specs.Script.{State, IsInState, AnswersLine, RanOrNot, RunsChange, RunsEvent, RunsProbe, RunsRead, RunsCollection, RunsMembership, Runs, is_event, opening_state};
 
 use crate::changes::change;
 use crate::collect::collect;
@@ -17,17 +17,20 @@ use crate::halt::Halt;
 use crate::membership::change_members;
 use crate::network::Network;
 use crate::probe::probe;
+use crate::read::read;
 use crate::script::{PROPOSERS, Script};
 use cas_ballot::AcceptorId;
 use cas_change::Key;
 use cas_change_text::{TextRefusal, Why};
 use cas_disk::Disk;
-use cas_lines::answer::{EventAnswer, print_answer, print_bad, print_event, print_op, print_shown};
+use cas_lines::answer::{
+    EventAnswer, print_answer, print_bad, print_event, print_op, print_read, print_shown,
+};
 use cas_lines::command::{Change, Command, read_command};
 use cas_lines::lines::Line;
-use cas_record::{Answer, OpAnswer};
+use cas_record::{Answer, OpAnswer, ReadAnswer};
 use cas_slot::Shelf;
-use cas_world::{PlanKind, World};
+use cas_world::{Target, World};
 use std::alloc::{AllocError, Global};
 
 impl<S: Shelf, V: Disk> Script<S, V> {
@@ -94,16 +97,34 @@ impl<S: Shelf, V: Disk> Script<S, V> {
             let answer = self.run_probe(key)?;
             return print_op(alloc, &answer);
         }
+        if let Command::Read { key } = command {
+            let answer = self.run_read(key)?;
+            return print_read(alloc, &answer);
+        }
         if let Command::Collect { key } = command {
             let answer = self.run_collection(alloc, key)?;
             return print_op(alloc, &answer);
         }
         if let Command::Join { id } = command {
-            let answer = self.run_membership(alloc, PlanKind::Join, *id)?;
+            let answer = self.run_membership(alloc, &Target::Join(*id))?;
             return print_op(alloc, &answer);
         }
         if let Command::Leave { id } = command {
-            let answer = self.run_membership(alloc, PlanKind::Leave, *id)?;
+            let answer = self.run_membership(alloc, &Target::Leave(*id))?;
+            return print_op(alloc, &answer);
+        }
+        if let Command::Resize {
+            need_prep,
+            need_acc,
+        } = command
+        {
+            let answer = self.run_membership(
+                alloc,
+                &Target::Resize {
+                    need_prep: *need_prep,
+                    need_acc: *need_acc,
+                },
+            )?;
             return print_op(alloc, &answer);
         }
         match command.change(alloc)? {
@@ -151,16 +172,21 @@ impl<S: Shelf, V: Disk> Script<S, V> {
         probe(&mut self.world, &mut self.network, key)
     }
 
+    /// Runs a read, and gives what the operator is answered. After an `Err` it was not run.
+    fn run_read(&mut self, key: &Key) -> Result<ReadAnswer, AllocError>
+        ensures runs { (state : State _ _) → IsInState self.old state → IfOk result (λ answer.
+            Runs (λ new. RunsRead (meaning S.Shelf V.Disk) state key.now answer new) self.new) }
+        ensures err { OnErr result (self.new ≡ self.old) }
+        ensures tries { self.new.tries ≡ self.old.tries }
+    {
+        read(&mut self.world, &mut self.network, key)
+    }
+
     /// Runs a change of membership, and gives what the operator is told. After an `Err` it was not run.
-    fn run_membership(
-        &mut self,
-        alloc: Global,
-        kind: PlanKind,
-        id: AcceptorId,
-    ) -> Result<OpAnswer, AllocError>
+    fn run_membership(&mut self, alloc: Global, target: &Target) -> Result<OpAnswer, AllocError>
         ensures runs { (state : State _ _) → IsInState self.old state
             → IfOk result (λ answer. Runs (λ new. RunsMembership (meaning S.Shelf V.Disk)
-            self.old.tries state (asked_to kind id) answer new) self.new) }
+            self.old.tries state (asked_of target.now) answer new) self.new) }
         ensures err { OnErr result (self.new ≡ self.old) }
         ensures tries { self.new.tries ≡ self.old.tries }
     {
@@ -170,8 +196,7 @@ impl<S: Shelf, V: Disk> Script<S, V> {
             &mut self.network,
             &mut self.halts[0],
             self.tries,
-            kind,
-            id,
+            target,
         )
     }
 

@@ -7,7 +7,7 @@ use Rattle.std.proofs.lemmas.List.{append-nil, map-set, get_or-map}
 use Rattle.cas_base.proofs.Bools.{some_is, true_or_false}
 use Rattle.cas_change_text.specs.declared.refusal.TextRefusal.{TextRefusal}
 use Rattle.cas_lines.specs.declared.command.Command.{Command}
-use Rattle.cas_lines.specs.declared.command.Command.TheVariants.{Get, Set, Num, Init, Add, Cas, CasNum, Del, DelVersion, Do, Join, Leave, Collect, Probe}
+use Rattle.cas_lines.specs.declared.command.Command.TheVariants.{Get, Set, Num, Init, Add, Cas, CasNum, Del, DelVersion, Do, Join, Leave, Resize, Collect, Probe, Read}
 use Rattle.cas_lines.specs.Command.{IsKnown}
 use Rattle.cas_lines.specs.declared.lines.TheConstants.{MOST_LINES}
 use Rattle.cas_lines.specs.Answers.{bad_line}
@@ -121,8 +121,10 @@ task_within proposers (DelVersion asker key version) caller task known asks = le
 task_within proposers (Do asker key program) caller task known asks = let e = same_caller asker caller _ task asks in omega (arith, known.1)
 task_within proposers (Join id) caller task known asks = let e = same_caller 0 caller _ task asks in omega arith
 task_within proposers (Leave id) caller task known asks = let e = same_caller 0 caller _ task asks in omega arith
+task_within proposers (Resize need_prep need_acc) caller task known asks = let e = same_caller 0 caller _ task asks in omega arith
 task_within proposers (Collect key) caller task known asks = let e = same_caller 0 caller _ task asks in omega arith
 task_within proposers (Probe key) caller task known asks = let e = same_caller 0 caller _ task asks in omega arith
+task_within proposers (Read key) caller task known asks = let e = same_caller 0 caller _ task asks in omega arith
 task_within proposers command caller task known asks = absurd cc
 
 -- what holds where a call did well, by two facts that do

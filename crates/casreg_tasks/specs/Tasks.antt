@@ -8,7 +8,7 @@ use Rattle.cas_lines.specs.Command.{change_of, is_event}
 use Rattle.cas_lines.specs.Lines.{lines_of}
 use Rattle.cas_lines.specs.Reading.{line_in}
 use Rattle.cas_lines.specs.declared.command.Command.{Command}
-use Rattle.cas_lines.specs.declared.command.Command.TheVariants.{Join, Leave, Collect, Probe}
+use Rattle.cas_lines.specs.declared.command.Command.TheVariants.{Join, Leave, Resize, Collect, Probe, Read}
 use Rattle.cas_lines.specs.declared.reading.TheConstants.{LONGEST_LINE}
 use Rattle.casreg_tasks.specs.declared.tasks.Task.{Task}
 use Rattle.casreg_tasks.specs.declared.tasks.Task.TheVariants as task
@@ -23,8 +23,10 @@ race_line_in proposers line = if nat_le (length line) LONGEST_LINE && is_event (
 abbrev pub task_of : Command → Option (ℕ × Task)
 task_of (Join id) = Some (0, task.Join id)
 task_of (Leave id) = Some (0, task.Leave id)
+task_of (Resize need_prep need_acc) = Some (0, task.Resize need_prep need_acc)
 task_of (Collect key) = Some (0, task.Collect key)
 task_of (Probe key) = Some (0, task.Probe key)
+task_of (Read key) = Some (0, task.Read key)
 task_of command = option_map (λ asked. (asked.caller, task.Change asked.key asked.program)) (change_of command)
 
 -- the same of what a line says; a remark asks nobody, nor does a bad line

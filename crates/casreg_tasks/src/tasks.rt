@@ -28,10 +28,14 @@ pub enum Task {
     Join { id: AcceptorId },
     /// The acceptor is a member no longer.
     Leave { id: AcceptorId },
+    /// Quorums get these sizes.
+    Resize { need_prep: u32, need_acc: u32 },
     /// What is kept for the key, whose register is empty, is removed.
     Collect { key: Key },
     /// Each member is asked what it keeps for the key.
     Probe { key: Key },
+    /// The key is read, and no member writes anything.
+    Read { key: Key },
 }
 
 /// The lines of a race, each where it belongs.
@@ -149,8 +153,19 @@ fn assign(alloc: Global, command: Command) -> Result<(u8, Task), AllocError>
     match command {
         Command::Join { id } => Ok((0, Task::Join { id })),
         Command::Leave { id } => Ok((0, Task::Leave { id })),
+        Command::Resize {
+            need_prep,
+            need_acc,
+        } => Ok((
+            0,
+            Task::Resize {
+                need_prep,
+                need_acc,
+            },
+        )),
         Command::Collect { key } => Ok((0, Task::Collect { key })),
         Command::Probe { key } => Ok((0, Task::Probe { key })),
+        Command::Read { key } => Ok((0, Task::Read { key })),
         command => match command.change(alloc)? {
             Some(
                 Change {

@@ -183,7 +183,8 @@ pub round_due : {S V : Type 0} (old new : View S V) (key : List ℕ) (result : G
 round_due {S} {V} old new key result was (world.acknowledged collection none is_collection came next) idle =
     due_on old new key due.Round was.due (confirmed_step collection) (ap (λ (c : Council). c.order) next ∙ ap (option_map silent_order) was.due.is_open) (ap (λ (c : Council). c.collection) next)
     (ap (λ (c : CollectionView). course_stepped c.course) (some_is (sym is_collection ∙ was.due.is_collection))) (ap (λ (c : Council). c.exchange) next) idle
-round_due old new key result was (world.probed exchange asked kept is_open is is_probed has_found told) idle = absurd (cc (sym was.due.quiet ∙ is_open))
+round_due old new key result was (world.probed exchange asked kept is_open is plain is_probed has_found told) idle = absurd (cc (sym was.due.quiet ∙ is_open))
+round_due old new key result was (world.read exchange asked era agreement kept is_open is reads safe is_read has_found agrees told) idle = absurd (cc (sym was.due.quiet ∙ is_open))
 round_due old new key result was (world.lists exchange places plan listing is_open is is_plan came next) idle = absurd (cc (sym was.due.quiet ∙ is_open))
 round_due old new key result was (world.confirmed exchange collection removed kept is_open of_it is_collection came next) idle = absurd (cc (sym was.due.quiet ∙ is_open))
 

@@ -1,6 +1,6 @@
 -- What the calls of an exchange do to a world, and those of the operator's call.
 use Rattle.std.proofs.Common.{◌≡◌, ◌≢◌, ◌<◌, ◌≤◌, ℕ, Bool, true, false, List, [], Option, None, Some, slice_get, refl, sym, ap, subst, ◌∙◌, inl, inr, arith, length-drop}
-use Rattle.std.specs.Prelude.{if◌then◌else◌, ◌&&◌, ◌==◌, length, option_map, IsSome}
+use Rattle.std.specs.Prelude.{⊤, if◌then◌else◌, ◌&&◌, ◌==◌, length, option_map, IsSome}
 use Rattle.cas_ballot.specs.declared.ballot.Ballot.{Ballot}
 use Rattle.cas_fate.specs.declared.fate.Leg.{Leg}
 use Rattle.cas_fate.specs.declared.fate.Verdict.{Verdict}
@@ -11,6 +11,10 @@ use Rattle.cas_flow.specs.declared.message.Message.{Message}
 use Rattle.cas_members.specs.declared.plan.PlanStep.{PlanStep}
 use Rattle.cas_members.specs.declared.plan.PlanStep.TheVariants.{Settle, Enter, Finished}
 use Rattle.cas_members.specs.Plan.{next_of}
+use Rattle.cas_quorum.specs.declared.era.Era.{Era}
+use Rattle.cas_record.specs.Agreement.{IsAgreementOf}
+use Rattle.cas_record.specs.declared.agreement.Agreement.{Agreement}
+use Rattle.cas_record.specs.declared.answer.Answer.{Answer}
 use Rattle.cas_record.specs.declared.answer.Answer.TheVariants as answer
 use Rattle.cas_record.specs.declared.operator.Asked.{Asked}
 use Rattle.cas_record.specs.declared.operator.Asked.TheVariants as asked
@@ -30,24 +34,33 @@ use Rattle.cas_model.specs.Step.{Event, Step}
 use Rattle.cas_model.specs.Collection.Step as collects
 use Rattle.cas_model.specs.Collection.Step.{StepAskCollect, AsksCollect, IsQuestionOf, StepGatherCollect, GathersCollect}
 use Rattle.cas_model.specs.Exchanges.Step as council
-use Rattle.cas_model.specs.Exchanges.Step.{StepOrder, StepTell, StepAskAll, AsksAll, StepTurnExchange, TurnsExchange, StepRefuseTurnExchange, StepGather, Gathers, everyone, places_from, listing_in, plan_asked, listing_begun, begun_listing}
+use Rattle.cas_model.specs.Exchanges.Step.{SaysTheSame, StepOrder, StepTell, StepAskAll, AsksAll, StepTurnExchange, TurnsExchange, StepRefuseTurnExchange, StepGather, Gathers, everyone, places_from, listing_in, plan_asked, listing_begun, begun_listing}
 use Rattle.cas_model.specs.Frames.Step as frames
-use Rattle.cas_model.specs.View.{Meaning, View, CallerView}
+use Rattle.cas_model.specs.View.{Meaning, View, CallerView, era_at}
 use Rattle.cas_model.proofs.Places.{some_is}
 use Rattle.cas_world.specs.Calls.Beginning.{HasNoCall}
 use Rattle.cas_world.specs.Exchanges.Exchange as world
-use Rattle.cas_world.specs.Exchanges.Exchange.{asks_as, place_of, turn_of, refusal_of, MayAskMembers, MayAskThis, MayGather, gathering_by, gathering_of, asking_of, WasToldOrder, HasGathered, probed, lists, acknowledged, confirmed, question_in}
+use Rattle.cas_world.specs.Exchanges.Exchange.{asks_as, place_of, turn_of, refusal_of, IsStopped, MayAskMembers, MayAskKey, MayAskThis, MayGather, MayGatherMembers, gathering_by, gathering_of, asking_of, WasToldOrder, HasGathered, probed, lists, acknowledged, confirmed, question_in}
 use Rattle.cas_world.specs.declared.exchange.Exchange.{Exchange}
 use Rattle.cas_world.specs.declared.exchange.Exchange.TheVariants as what
 use Rattle.cas_world.specs.Eras.Plans.{IsUnderWay, IsPartial, step_of}
 use Rattle.casreg_script.specs.Frames.Conditions.{NetworkView, DecidesVerdict, is_to_repeat}
+use Rattle.casreg_script.specs.Exchanges.Exchanges as turns
 use Rattle.casreg_script.specs.Exchanges.Exchanges.{AskTurned, BreaksOffAsking, one_more, HasListed, HasConfirmed, CameOf, IsAsking, KeepsCalls, KeepsOrder, answers_of, listing_left}
+use Rattle.casreg_script.specs.Exchanges.Exchanges.{AsksMembers}
+use Rattle.casreg_script.specs.Exchanges.Probes as inquiries
+use Rattle.casreg_script.specs.Exchanges.Reads as answered
+use Rattle.casreg_script.specs.Exchanges.Reads.{IsRead, AnswersRead}
+use Rattle.cas_record.specs.Reading.{read_of}
+use Rattle.cas_record.specs.declared.read_answer.ReadAnswer.{ReadAnswer}
+use Rattle.cas_record.specs.declared.read_answer.ReadAnswer.TheVariants as read
 use Rattle.casreg_script.specs.Eras.Membership.{TakesStep, left_of, steps_left}
 use Rattle.casreg_script.specs.Exchanges.Orders.{IsFree, KeepsIdle}
 use Rattle.casreg_script.specs.Calls.Playing.{turns_left}
 use Rattle.casreg_script.specs.Frames.Strays.{LetsStrayIn, KeepsUnderWay}
 use Rattle.cas_base.proofs.Bools.{true_or_false}
 use Rattle.casreg_script.proofs.Eras.Rescanning.{with_asked, settles_by, Settles}
+use Rattle.casreg_script.proofs.Frames.Straying.{lets_under_way}
 use Rattle.casreg_script.proofs.Calls.Turns.{front_of, not_held, fewer_taken, fewer_answered, waits_near}
 
 -- ---- the calls of callers
@@ -105,6 +118,7 @@ asking_keeps m old new what.Ages by = collect_ask_keeps m old new by
 asking_keeps m old new what.Remove by = collect_ask_keeps m old new by
 asking_keeps m old new what.List by = ask_keeps m old new _ by
 asking_keeps m old new (what.Probe key) by = ask_keeps m old new _ by
+asking_keeps m old new (what.Read key) by = ask_keeps m old new _ by
 
 pub ask_turn_keeps : {S V : Type 0} (m : Meaning S V) (old new : View S V) (verdict : Verdict) → StepTurnExchange m old verdict new → KeepsCalls old new
 ask_turn_keeps {S} {V} m old new verdict by = by_case by.turn
@@ -130,7 +144,8 @@ gather_keeps {S} {V} old new by = by_case by.gathers
   where
     by_case : Gathers old by.at.exchange new → KeepsCalls old new
     by_case (council.crashed down is) = by_view old _ new is refl refl
-    by_case (council.probed key found up question keeps is) = by_view old _ new is refl refl
+    by_case (council.probed key found up question plain keeps is) = by_view old _ new is refl refl
+    by_case (council.read key era found marks up question reads keeps made is) = by_view old _ new is refl refl
     by_case (council.lists of listing up enough on is) = by_view old _ new is refl refl
     by_case (council.is_short of short up few is) = by_view old _ new is refl refl
     by_case (council.no_memory up is) = by_view old _ new is refl refl
@@ -148,14 +163,15 @@ answers_keep m old new what.Ages by = collect_gather_keeps old new by
 answers_keep m old new what.Remove by = collect_gather_keeps old new by
 answers_keep m old new what.List by = gather_keeps old new by
 answers_keep m old new (what.Probe key) by = gather_keeps old new by
+answers_keep m old new (what.Read key) by = gather_keeps old new by
 
 -- ---- the exchange
 -- the operator's call is open, and no exchange yet
-pub may_ask : {S V : Type 0} (old new : View S V) (key : List ℕ) → IsAtRest old.council → HasNoCall old 0 → StepOrder old (asked.Probe key) new → MayAskMembers new (Probe key)
-may_ask {S} {V} old new key quiet idle by =
-    let keeps = order_keeps old new (asked.Probe key) by in
+pub may_ask : {S V : Type 0} (old new : View S V) (asking : Asked) → IsAtRest old.council → HasNoCall old 0 → StepOrder old asking new → MayAskKey new asking
+may_ask {S} {V} old new asking quiet idle by =
+    let keeps = order_keeps old new asking by in
     record {
-      order = record { asked = asked.Probe key; told = None };
+      order = record { asked = asking; told = None };
       is_open = ap (λ (w : View S V). w.council.order) by.view;
       is_for = refl;
       none_open = ap (λ (w : View S V). w.council.exchange) by.view ∙ quiet.exchange;
@@ -185,7 +201,7 @@ has_asked {S} {V} m old new question by some = by_case by.asks
       order = by.may.order;
       was_open = by.may.is_open;
       is_order = ap (λ (w : View S V). w.council.order) is ∙ by.may.is_open;
-      exchange = council.new_exchange question tag (council.asked_by old question) (length old.marks);
+      exchange = council.new_exchange question tag (council.asked_by old question) (length old.marks) (council.read_era old question);
       is_open = ap (λ (w : View S V). w.council.exchange) is;
       same = refl;
       tag = tag;
@@ -213,6 +229,7 @@ AsksFor view what.Ages question = is_of_collection question ≡ true
 AsksFor view what.Remove question = is_of_collection question ≡ true
 AsksFor view what.List question = question ≡ question_in view query.List
 AsksFor view (what.Probe key) question = question ≡ Probe key
+AsksFor view (what.Read key) question = question ≡ Probe key
 
 pub record HasAskedThis {S V : Type 0} (old : View S V) (exchange : Exchange) (new : View S V) : Type 0 where
   pub question : Question
@@ -233,7 +250,7 @@ has_asked_of_it {S} {V} m old new by some = by_case by.asks
         order = by.may.at.order;
         was_open = by.may.at.is_open;
         is_order = ap (λ (w : View S V). w.council.order) is ∙ by.may.at.is_open;
-        exchange = council.new_exchange question (tomb_of by.may.at.collection.tombstone) (everyone old) (length old.marks);
+        exchange = council.new_exchange question (tomb_of by.may.at.collection.tombstone) (everyone old) (length old.marks) None;
         is_open = ap (λ (w : View S V). w.council.exchange) is;
         same = refl;
         tag = tomb_of by.may.at.collection.tombstone;
@@ -250,6 +267,7 @@ has_asked_this m old new what.Ages by some = let it = has_asked_of_it m old new 
 has_asked_this m old new what.Remove by some = let it = has_asked_of_it m old new by some in record { question = it.0; asks = it.1; asked = it.2 }
 has_asked_this m old new what.List by some = record { question = question_in old query.List; asks = refl; asked = has_asked m old new _ by some }
 has_asked_this m old new (what.Probe key) by some = record { question = Probe key; asks = refl; asked = has_asked m old new _ by some }
+has_asked_this m old new (what.Read key) by some = record { question = Probe key; asks = refl; asked = has_asked m old new _ by some }
 
 pub is_asking : {S V : Type 0} (old new : View S V) (question : Question) → HasAsked old question new → IsAsking new question
 is_asking old new question has = record { order = has.order; is_order = has.is_order; exchange = has.exchange; is_open = has.is_open; same = has.same }
@@ -288,6 +306,36 @@ told_none {S} {V} m old new question was by = record {
   same = refl;
 }
 
+-- ---- it is stopped
+stop_told : {S V : Type 0} (view : View S V) (order : Option OrderView) (why : Answer) (answer_ : OpAnswer) → view.council.order ≡ option_map (told_so (op.Stopped why)) order → WasToldOrder view answer_ → IsStopped answer_
+stop_told view None why answer_ is was = absurd (cc (sym was.is_open ∙ is))
+stop_told view (Some order) why answer_ is was =
+    let said_is : op.Stopped why ≡ was.said = some_is (ap (λ (o : OrderView). o.told) (some_is (sym is ∙ was.is_open)) ∙ was.was_said) in
+    subst IsStopped (subst (λ (a : OpAnswer). SaysTheSame a answer_) (sym said_is) was.same) tt
+
+-- as nobody is asked
+pub asking_stops : {S V : Type 0} (m : Meaning S V) (old new : View S V) (question : Question) (answer_ : OpAnswer) → StepAskAll m old question new → new.council.exchange ≡ None → WasToldOrder new answer_ → IsStopped answer_
+asking_stops {S} {V} m old new question answer_ by none was = by_case by.asks
+  where
+    by_case : AsksAll m old question by.desk new → IsStopped answer_
+    by_case (council.asks now tag flow up room drawn is_now sends is) = absurd (cc (sym none ∙ ap (λ (w : View S V). w.council.exchange) is))
+    by_case (council.is_down down is) = stop_told new old.council.order _ answer_ (ap (λ (w : View S V). w.council.order) is) was
+    by_case (council.is_full up full is) = stop_told new old.council.order _ answer_ (ap (λ (w : View S V). w.council.order) is) was
+    by_case (council.is_spent now up spent kept is_now is) = stop_told new old.council.order _ answer_ (ap (λ (w : View S V). w.council.order) is) was
+    by_case (council.fails now up fault is) = stop_told new old.council.order _ answer_ (ap (λ (w : View S V). w.council.order) is) was
+    by_case (council.no_memory now tag up loss is) = stop_told new old.council.order _ answer_ (ap (λ (w : View S V). w.council.order) is) was
+
+-- a read that goes on is gathered with no listing and no collection
+pub may_gather_read : {S V : Type 0} (old turned : View S V) (exchange : Exchange) (key : List ℕ) (question : Question) → exchange ≡ what.Read key → AsksFor old exchange question → IsAsking turned question → (queue_at turned.flow exchange_place).messages ≡ [] → MayGatherMembers turned
+may_gather_read old turned exchange key question is asks was none = record {
+  order = was.order;
+  is_order = was.is_order;
+  exchange = was.exchange;
+  is_open = was.is_open;
+  beside = ap is_of_collection (was.same ∙ subst (λ (e : Exchange). AsksFor old e question) is asks);
+  none_waits = none;
+}
+
 -- the operator's call stays within its turns
 order_by : {S V : Type 0} (old changed new : View S V) → new ≡ changed → changed.council.order ≡ old.council.order → changed.council.plan ≡ old.council.plan → changed.council.collection ≡ old.council.collection → KeepsOrder old new
 order_by {S} {V} old changed new is order plan collection = record { order = ap (λ (w : View S V). w.council.order) is ∙ order; plan = ap (λ (w : View S V). w.council.plan) is ∙ plan; collection = ap (λ (w : View S V). w.council.collection) is ∙ collection }
@@ -309,6 +357,79 @@ turn_order {S} {V} m old new verdict by = by_case by.turn
     by_case (council.brings_down request acceptor now fall front at stops is) = order_by old _ new is refl refl refl
     by_case (council.arrives reply fall front to_it is) = order_by old _ new is refl refl refl
 
+-- ---- in which era it reads
+-- what it is to read, and behind how many marks it asked, stays
+abbrev pub ReadsOn : ExchangeView → ExchangeView → Type 0
+ReadsOn old new = (new.reads ≡ old.reads) × (new.since ≡ old.since)
+
+turn_reads : {S V : Type 0} (m : Meaning S V) (old new : View S V) (verdict : Verdict) (was now : ExchangeView) → StepTurnExchange m old verdict new → old.council.exchange ≡ Some was → new.council.exchange ≡ Some now → ReadsOn was now
+turn_reads {S} {V} m old new verdict was now by was_open is_open = by_case by.turn
+  where
+    same : by.at.exchange ≡ was
+    same = some_is (sym by.at.is_open ∙ was_open)
+
+    goes_on : (next : ExchangeView) (changed : View S V) → new ≡ changed → changed.council.exchange ≡ Some next → next.reads ≡ by.at.exchange.reads → next.since ≡ by.at.exchange.since → ReadsOn was now
+    goes_on next changed is exchange reads since =
+        let now_is : now ≡ next = some_is (sym is_open ∙ ap (λ (w : View S V). w.council.exchange) is ∙ exchange) in
+        (ap (λ (e : ExchangeView). e.reads) now_is ∙ reads ∙ ap (λ (e : ExchangeView). e.reads) same, ap (λ (e : ExchangeView). e.since) now_is ∙ since ∙ ap (λ (e : ExchangeView). e.since) same)
+
+    by_case : TurnsExchange m old verdict by.front by.at.exchange new → ReadsOn was now
+    by_case (council.held fall is) = goes_on by.at.exchange old is by.at.is_open refl refl
+    by_case (council.gone fall is) = goes_on _ _ is refl refl refl
+    by_case (council.answers request acceptor now_ reply fall front at table is) = goes_on by.at.exchange _ is by.at.is_open refl refl
+    by_case (council.finds_down request acceptor fall front at down is) = goes_on _ _ is refl refl refl
+    by_case (council.brings_down request acceptor now_ fall front at stops is) = goes_on _ _ is refl refl refl
+    by_case (council.arrives reply fall front to_it is) = goes_on _ _ is refl refl refl
+
+pub turns_read : {S V : Type 0} (m : Meaning S V) {by : NetworkView} (old : View S V) (was : ExchangeView) {next : NetworkView} {again : Bool} (new : View S V) (now : ExchangeView) → AskTurned m by old next again new → old.council.exchange ≡ Some was → new.council.exchange ≡ Some now → ReadsOn was now
+turns_read {S} {V} m old was new now turns.none was_open is_open =
+    let same : now ≡ was = some_is (sym is_open ∙ was_open) in
+    (ap (λ (e : ExchangeView). e.reads) same, ap (λ (e : ExchangeView). e.since) same)
+turns_read {S} {V} m {by} old was new now (one_more {before = before} {between = between} {verdict = verdict} {mid = mid} {near = near} frame turned lets waits decides step) was_open is_open =
+    let its : ExchangeView = step.at.exchange in
+    let near_mid : near.council ≡ mid.council = (lets_under_way m before between mid near lets).council in
+    let mid_open : mid.council.exchange ≡ Some its = sym (ap (λ (c : Council). c.exchange) near_mid) ∙ step.at.is_open in
+    let first = turns_read m old was mid its turned was_open mid_open in
+    let then_ = turn_reads m near new verdict its now step step.at.is_open is_open in
+    (then_.0 ∙ first.0, then_.1 ∙ first.1)
+
+-- as it opens
+pub asked_reads : {S V : Type 0} (m : Meaning S V) (old new : View S V) (question : Question) (exchange : ExchangeView) → StepAskAll m old question new → new.council.exchange ≡ Some exchange
+    → (exchange.reads ≡ council.read_era old question) × (exchange.since ≡ length old.marks) × (new.marks ≡ old.marks)
+asked_reads {S} {V} m old new question exchange by is_open = by_case by.asks
+  where
+    not_open : new.council.exchange ≡ None → (exchange.reads ≡ council.read_era old question) × (exchange.since ≡ length old.marks) × (new.marks ≡ old.marks)
+    not_open none = absurd (cc (sym none ∙ is_open))
+
+    by_case : AsksAll m old question by.desk new → (exchange.reads ≡ council.read_era old question) × (exchange.since ≡ length old.marks) × (new.marks ≡ old.marks)
+    by_case (council.asks now tag flow up room drawn is_now sends is) =
+        let same : exchange ≡ council.new_exchange question tag (council.asked_by old question) (length old.marks) (council.read_era old question) = some_is (sym is_open ∙ ap (λ (w : View S V). w.council.exchange) is) in
+        (ap (λ (e : ExchangeView). e.reads) same, ap (λ (e : ExchangeView). e.since) same, ap (λ (w : View S V). w.marks) is)
+    by_case (council.is_down down is) = not_open (ap (λ (w : View S V). w.council.exchange) is ∙ by.may.none_open)
+    by_case (council.is_full up full is) = not_open (ap (λ (w : View S V). w.council.exchange) is ∙ by.may.none_open)
+    by_case (council.is_spent now up spent kept is_now is) = not_open (ap (λ (w : View S V). w.council.exchange) is ∙ by.may.none_open)
+    by_case (council.fails now up fault is) = not_open (ap (λ (w : View S V). w.council.exchange) is ∙ by.may.none_open)
+    by_case (council.no_memory now tag up loss is) = not_open (ap (λ (w : View S V). w.council.exchange) is ∙ by.may.none_open)
+
+-- a read is one in the era of proposer 0, and a probe reads nothing
+era_of_call : {S V : Type 0} (view : View S V) (what_for : Asked) (key : List ℕ) → MayAskKey view what_for → council.read_era view (Probe key) ≡ (if council.asks_to_read what_for then Some (era_at view 0) else None)
+era_of_call view what_for key may =
+    ap (λ (o : Option OrderView). if council.reads_by o (Probe key) then Some (era_at view 0) else None) may.is_open ∙ ap (λ (a : Asked). if council.asks_to_read a then Some (era_at view 0) else None) may.is_for
+
+abbrev pub ReadsFor : {S V : Type 0} → View S V → Exchange → View S V → Type 0
+ReadsFor old (what.Probe key) turned = (exchange : ExchangeView) → turned.council.exchange ≡ Some exchange → exchange.reads ≡ None
+ReadsFor old (what.Read key) turned = (exchange : ExchangeView) → turned.council.exchange ≡ Some exchange → exchange.reads ≡ Some (era_at old 0)
+ReadsFor old other turned = ⊤
+
+pub reads_for : {S V : Type 0} (m : Meaning S V) {by next : NetworkView} {again : Bool} (old asked turned : View S V) (exchange : Exchange) → MayAskThis old exchange → Step m old (asking_of old exchange) asked → HasAskedThis old exchange asked → AskTurned m by asked next again turned → ReadsFor old exchange turned
+reads_for m old asked turned what.Ages may step has turns = tt
+reads_for m old asked turned what.Remove may step has turns = tt
+reads_for m old asked turned what.List may step has turns = tt
+reads_for m old asked turned (what.Probe key) may step has turns = λ now is_open.
+    (turns_read m asked has.asked.exchange turned now turns has.asked.is_open is_open).0 ∙ (asked_reads m old asked (Probe key) has.asked.exchange step has.asked.is_open).0 ∙ era_of_call old _ key may
+reads_for m old asked turned (what.Read key) may step has turns = λ now is_open.
+    (turns_read m asked has.asked.exchange turned now turns has.asked.is_open is_open).0 ∙ (asked_reads m old asked (Probe key) has.asked.exchange step has.asked.is_open).0 ∙ era_of_call old _ key may
+
 -- it is gathered
 pub may_gather : {S V : Type 0} (view : View S V) (question : Question) → IsAsking view question → (queue_at view.flow exchange_place).messages ≡ [] → MayGather view
 may_gather view question is none = elim (true_or_false (is_of_collection is.exchange.question)) [
@@ -325,6 +446,7 @@ step_for old what.Ages question asks = ap gathers_at asks
 step_for old what.Remove question asks = ap gathers_at asks
 step_for old what.List question asks = ap (λ (q : Question). gathers_at (is_of_collection q)) asks
 step_for old (what.Probe key) question asks = ap (λ (q : Question). gathers_at (is_of_collection q)) asks
+step_for old (what.Read key) question asks = ap (λ (q : Question). gathers_at (is_of_collection q)) asks
 
 pub gathered_so : {S V : Type 0} (m : Meaning S V) (old turned new : View S V) (exchange : Exchange) (question : Question) → AsksFor old exchange question → IsAsking turned question → Step m turned (gathering_of turned) new → Step m turned (answers_of exchange) new
 gathered_so m old turned new exchange question asks is by =
@@ -340,7 +462,9 @@ begun_as old asked turned places has keeps plan now was is = some_is (sym is ∙
 
 -- an exchange of a collection went on with it
 confirmed_so : {S V : Type 0} (old asked turned new : View S V) (question : Question) (result : Gathered) → is_of_collection question ≡ true → HasAsked old question asked → KeepsOrder asked turned → IsAsking turned question → HasGathered turned result new → HasConfirmed old result new
-confirmed_so old asked turned new question result of_it has keeps was (probed exchange key kept is_open is is_probed has_found told) = absurd (cc (of_it, ap is_of_collection (asks_this turned question (Probe key) exchange was is_open is)))
+confirmed_so old asked turned new question result of_it has keeps was (probed exchange key kept is_open is plain is_probed has_found told) = absurd (cc (of_it, ap is_of_collection (asks_this turned question (Probe key) exchange was is_open is)))
+confirmed_so old asked turned new question result of_it has keeps was (world.read exchange key era agreement kept is_open is reads safe is_read has_found agrees told) =
+    absurd (cc (of_it, ap is_of_collection (asks_this turned question (Probe key) exchange was is_open is)))
 confirmed_so old asked turned new question result of_it has keeps was (lists exchange places plan listing is_open is is_plan came next) = absurd (cc (of_it, ap is_of_collection (asks_this turned question (NextKeys places) exchange was is_open is)))
 confirmed_so old asked turned new question result of_it has keeps was (acknowledged collection none is_collection came next) = absurd (cc (sym none ∙ was.is_open))
 confirmed_so {S} {V} old asked turned new question result of_it has keeps was (confirmed exchange collection removed kept is_open asks is_collection came next) = record {
@@ -357,18 +481,35 @@ confirmed_so {S} {V} old asked turned new question result of_it has keeps was (c
 }
 
 -- a probe found what the call may tell
-found_so : {S V : Type 0} (old turned new : View S V) (key : List ℕ) (question : Question) (result : Gathered) → question ≡ Probe key → IsAsking turned question → HasGathered turned result new → CameOf (what.Probe key) old result new
-found_so {S} {V} old turned new key question result asks was (probed exchange other kept is_open is is_probed has_found told) =
+found_so : {S V : Type 0} (old turned new : View S V) (key : List ℕ) (question : Question) (result : Gathered) → question ≡ Probe key → IsAsking turned question → ReadsFor old (what.Probe key) turned → HasGathered turned result new → CameOf (what.Probe key) old result new
+found_so {S} {V} old turned new key question result asks was none (probed exchange other kept is_open is plain is_probed has_found told) =
     let key_is : key ≡ other = cc (sym asks ∙ asks_this turned question (Probe other) exchange was is_open is) in
     subst (λ (g : Gathered). CameOf (what.Probe key) old g new) (sym is_probed) (subst (λ (k : List ℕ). WasToldOrder new (op.Probed k kept)) (sym key_is) told)
-found_so old turned new key question result asks was (lists exchange places plan listing is_open is is_plan came next) = absurd (cc (sym asks ∙ asks_this turned question (NextKeys places) exchange was is_open is))
-found_so old turned new key question result asks was (acknowledged collection none is_collection came next) = absurd (cc (sym none ∙ was.is_open))
-found_so old turned new key question result asks was (confirmed exchange collection removed kept is_open of_it is_collection came next) =
+found_so old turned new key question result asks was none (world.read exchange other era agreement kept is_open is reads safe is_read has_found agrees told) = absurd (cc (sym (none exchange is_open) ∙ reads))
+found_so old turned new key question result asks was none (lists exchange places plan listing is_open is is_plan came next) = absurd (cc (sym asks ∙ asks_this turned question (NextKeys places) exchange was is_open is))
+found_so old turned new key question result asks was none (acknowledged collection none_open is_collection came next) = absurd (cc (sym none_open ∙ was.is_open))
+found_so old turned new key question result asks was none (confirmed exchange collection removed kept is_open of_it is_collection came next) =
+    absurd (cc (of_it, ap is_of_collection (asks_this turned question exchange.question exchange was is_open refl), ap is_of_collection asks))
+
+-- and a read, with what the members agree on in the era of proposer 0
+read_so : {S V : Type 0} (old turned new : View S V) (key : List ℕ) (question : Question) (result : Gathered) → question ≡ Probe key → IsAsking turned question → ReadsFor old (what.Read key) turned → HasGathered turned result new → CameOf (what.Read key) old result new
+read_so old turned new key question result asks was its (probed exchange other kept is_open is plain is_probed has_found told) = absurd (cc (sym plain ∙ its exchange is_open))
+read_so {S} {V} old turned new key question result asks was its (world.read exchange other era agreement kept is_open is reads safe is_read has_found agrees told) =
+    let key_is : key ≡ other = cc (sym asks ∙ asks_this turned question (Probe other) exchange was is_open is) in
+    let era_is : era ≡ era_at old 0 = some_is (sym reads ∙ its exchange is_open) in
+    subst (λ (g : Gathered). CameOf (what.Read key) old g new) (sym is_read) (record {
+      told = subst (λ (k : List ℕ). WasToldOrder new (op.Probed k kept)) (sym key_is) told;
+      agrees = subst (λ (e : Era). IsAgreementOf e kept.probes.items agreement) era_is agrees;
+    })
+read_so old turned new key question result asks was its (lists exchange places plan listing is_open is is_plan came next) = absurd (cc (sym asks ∙ asks_this turned question (NextKeys places) exchange was is_open is))
+read_so old turned new key question result asks was its (acknowledged collection none_open is_collection came next) = absurd (cc (sym none_open ∙ was.is_open))
+read_so old turned new key question result asks was its (confirmed exchange collection removed kept is_open of_it is_collection came next) =
     absurd (cc (of_it, ap is_of_collection (asks_this turned question exchange.question exchange was is_open refl), ap is_of_collection asks))
 
 -- a listing went on
 listed_so : {S V : Type 0} (old asked turned new : View S V) (places : List MemberPlace) (result : Gathered) → MayAskMembers old (NextKeys places) → HasAsked old (NextKeys places) asked → KeepsOrder asked turned → IsAsking turned (NextKeys places) → HasGathered turned result new → HasListed old result new
-listed_so old asked turned new places result may has keeps was (probed exchange key kept is_open is is_probed has_found told) = absurd (cc (asks_this turned (NextKeys places) (Probe key) exchange was is_open is))
+listed_so old asked turned new places result may has keeps was (probed exchange key kept is_open is plain is_probed has_found told) = absurd (cc (asks_this turned (NextKeys places) (Probe key) exchange was is_open is))
+listed_so old asked turned new places result may has keeps was (world.read exchange key era agreement kept is_open is reads safe is_read has_found agrees told) = absurd (cc (asks_this turned (NextKeys places) (Probe key) exchange was is_open is))
 listed_so {S} {V} old asked turned new places result may has keeps was (lists exchange other plan listing is_open is is_plan came next) =
     let due = may.is_for.1 in
     let begun : plan ≡ listing_begun places has.tag due.plan = begun_as old asked turned places has keeps due.plan plan due.is_plan is_plan in
@@ -387,22 +528,32 @@ listed_so old asked turned new places result may has keeps was (acknowledged col
 listed_so old asked turned new places result may has keeps was (confirmed exchange collection removed kept is_open of_it is_collection came next) =
     absurd (cc (of_it, ap is_of_collection (asks_this turned (NextKeys places) exchange.question exchange was is_open refl)))
 
-pub came_of : {S V : Type 0} (old asked turned new : View S V) (exchange : Exchange) (result : Gathered) → MayAskThis old exchange → (has : HasAskedThis old exchange asked) → KeepsOrder asked turned → IsAsking turned has.question → HasGathered turned result new → CameOf exchange old result new
-came_of old asked turned new what.Ages result may has keeps was by = confirmed_so old asked turned new has.question result has.asks has.asked keeps was by
-came_of old asked turned new what.Remove result may has keeps was by = confirmed_so old asked turned new has.question result has.asks has.asked keeps was by
-came_of {S} {V} old asked turned new what.List result may has keeps was by =
+pub came_of : {S V : Type 0} (old asked turned new : View S V) (exchange : Exchange) (result : Gathered) → MayAskThis old exchange → (has : HasAskedThis old exchange asked) → KeepsOrder asked turned → IsAsking turned has.question → ReadsFor old exchange turned → HasGathered turned result new → CameOf exchange old result new
+came_of old asked turned new what.Ages result may has keeps was reads by = confirmed_so old asked turned new has.question result has.asks has.asked keeps was by
+came_of old asked turned new what.Remove result may has keeps was reads by = confirmed_so old asked turned new has.question result has.asks has.asked keeps was by
+came_of {S} {V} old asked turned new what.List result may has keeps was reads by =
     listed_so old asked turned new _ result may (subst (λ (q : Question). HasAsked old q asked) has.asks has.asked) keeps (subst (IsAsking turned) has.asks was) by
-came_of old asked turned new (what.Probe key) result may has keeps was by = found_so old turned new key has.question result has.asks was by
+came_of old asked turned new (what.Probe key) result may has keeps was reads by = found_so old turned new key has.question result has.asks was reads by
+came_of old asked turned new (what.Read key) result may has keeps was reads by = read_so old turned new key has.question result has.asks was reads by
 
 -- what was found for a key that was probed
 pub was_probed : {S V : Type 0} (old new : View S V) (key : List ℕ) (result : Gathered) → CameOf (what.Probe key) old result new → IsProbed result
 was_probed old new key (gathered.Probed found) came = tt
+was_probed old new key (gathered.Read agreement found) came = absurd came
 was_probed old new key gathered.More came = absurd came
 was_probed old new key gathered.Listed came = absurd came
 was_probed old new key (gathered.All removed kept) came = absurd came
 
 pub told_found : {S V : Type 0} (old new : View S V) (key : List ℕ) (result : Gathered) (found : Probes) → CameOf (what.Probe key) old result new → result ≡ gathered.Probed found → WasToldOrder new (op.Probed key found)
 told_found old new key result found came is = subst (λ (g : Gathered). CameOf (what.Probe key) old g new) is came
+
+-- and for one that was read
+pub was_read : {S V A : Type 0} (old new : View S V) (key : List ℕ) (result : Gathered) → CameOf (what.Read key) old result new → ((agreement : Agreement) (found : Probes) → result ≡ gathered.Read agreement found → ⊥) → A
+was_read old new key (gathered.Read agreement found) came other = absurd (other agreement found refl)
+was_read old new key (gathered.Probed found) came other = absurd came
+was_read old new key gathered.More came other = absurd came
+was_read old new key gathered.Listed came other = absurd came
+was_read old new key (gathered.All removed kept) came other = absurd came
 
 -- what goes on is not complete
 not_complete : (complete : Bool) → gathered.More ≡ listed_if complete → complete ≡ false
@@ -432,6 +583,7 @@ less_listed {S} {V} old asked turned new places result may has keeps came more l
 pub less_left : {S V : Type 0} (old asked turned new : View S V) (exchange : Exchange) (result : Gathered) → MayAskThis old exchange → HasAskedThis old exchange asked → KeepsOrder asked turned → CameOf exchange old result new → result ≡ gathered.More
     → left_to_list new.council.plan < left_to_list turned.council.plan → listing_left new < listing_left old
 less_left old asked turned new (what.Probe key) result may has keeps came more less = absurd (subst (λ (g : Gathered). CameOf (what.Probe key) old g new) more came)
+less_left old asked turned new (what.Read key) result may has keeps came more less = absurd (subst (λ (g : Gathered). CameOf (what.Read key) old g new) more came)
 less_left old asked turned new what.Ages result may has keeps came more less = absurd (cc (sym more ∙ came.came))
 less_left old asked turned new what.Remove result may has keeps came more less = absurd (cc (sym more ∙ came.came))
 less_left old asked turned new what.List result may has keeps came more less =
@@ -601,6 +753,13 @@ not_probed {A = A} old new found came = by_complete came.listing.complete came.c
     by_complete true is = absurd (cc is)
     by_complete false is = absurd (cc is)
 
+not_read : {S V A : Type 0} (old new : View S V) (agreement : Agreement) (found : Probes) → HasListed old (gathered.Read agreement found) new → A
+not_read {A = A} old new agreement found came = by_complete came.listing.complete came.came
+  where
+    by_complete : (c : Bool) → gathered.Read agreement found ≡ listed_if c → A
+    by_complete true is = absurd (cc is)
+    by_complete false is = absurd (cc is)
+
 not_all : {S V A : Type 0} (old new : View S V) (removed kept : ℕ) → HasListed old (gathered.All removed kept) new → A
 not_all {A = A} old new removed kept came = by_complete came.listing.complete came.came
   where
@@ -611,6 +770,31 @@ not_all {A = A} old new removed kept came = by_complete came.listing.complete ca
 -- what does not go on is complete
 pub is_whole : {S V : Type 0} (old new : View S V) (result : Gathered) → HasListed old result new → (result ≡ gathered.More → ⊥) → HasListed old gathered.Listed new
 is_whole old new (gathered.Probed found) came other = not_probed old new found came
+is_whole old new (gathered.Read agreement found) came other = not_read old new agreement found came
 is_whole old new gathered.More came other = absurd (other refl)
 is_whole old new gathered.Listed came other = came
 is_whole old new (gathered.All removed kept) came other = not_all old new removed kept came
+
+-- ---- a read is answered
+-- by what the members agree on
+pub read_told : {S V : Type 0} (m : Meaning S V) {by next : NetworkView} (key : List ℕ) (old ordered turned new : View S V) (named back : List ℕ) (agreement : Agreement) (found kept : Probes) (answer_ : ReadAnswer) → StepOrder old (asked.Read key) ordered
+    → AsksMembers m by (step.AskAll (Probe key)) step.Gather ordered next turned → IsAgreementOf (era_at ordered 0) found.probes.items agreement → StepTell turned (op.Probed named found) new → named ≡ key → op.Probed named found ≡ op.Probed back kept
+    → answer_ ≡ read_of back agreement kept.probes.items → IsRead m by key old answer_ next new
+read_told {S} {V} m key old ordered turned new named back agreement found kept answer_ orders asks agrees_ tells_it is_named same is =
+    let back_is : named ≡ back = cc same in
+    let kept_is : found ≡ kept = cc same in
+    let answer_is : answer_ ≡ read_of key agreement found.probes.items = is ∙ ap (λ (k : List ℕ). read_of k agreement kept.probes.items) (sym back_is ∙ is_named) ∙ ap (λ (p : Probes). read_of key agreement p.probes.items) (sym kept_is) in
+    record {
+      said = op.Probed key found;
+      inquiry = inquiries.told orders asks (subst (λ (k : List ℕ). StepTell turned (op.Probed k found) new) is_named tells_it);
+      answers = subst (λ (a : ReadAnswer). AnswersRead (era_at old 0) key (op.Probed key found) a) (sym answer_is) (answered.agrees found agreement (subst (λ (w : View S V). IsAgreementOf (era_at w 0) found.probes.items agreement) orders.view agrees_));
+    }
+
+-- or by why it stopped
+pub read_stopped : {S V : Type 0} (m : Meaning S V) {by next : NetworkView} (key : List ℕ) (old ordered turned new : View S V) (said : OpAnswer) (why : Answer) → StepOrder old (asked.Read key) ordered → AsksMembers m by (step.AskAll (Probe key)) step.Gather ordered next turned
+    → StepTell turned said new → said ≡ op.Stopped why → IsRead m by key old (read.Stopped why) next new
+read_stopped m key old ordered turned new said why orders asks tells_it is = record {
+  said = op.Stopped why;
+  inquiry = inquiries.told orders asks (subst (λ (a : OpAnswer). StepTell turned a new) is tells_it);
+  answers = answered.stopped why;
+}

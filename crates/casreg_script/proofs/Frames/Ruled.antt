@@ -6,7 +6,10 @@ use Rattle.cas_fate.specs.declared.fate.Leg.{Leg}
 use Rattle.cas_fate.specs.declared.fate.Verdict.{Verdict}
 use Rattle.cas_record.specs.declared.answer.Answer.{Answer}
 use Rattle.cas_record.specs.declared.operator.Asked.{Asked}
+use Rattle.cas_record.specs.declared.operator.Asked.{Asked}
+use Rattle.cas_record.specs.declared.operator.Asked.TheVariants as asked
 use Rattle.cas_record.specs.declared.operator.OpAnswer.{OpAnswer}
+use Rattle.cas_record.specs.declared.read_answer.ReadAnswer.{ReadAnswer}
 use Rattle.cas_model.specs.Step.{Event}
 use Rattle.cas_model.specs.View.{Meaning, View}
 use Rattle.casreg_script.specs.Calls.Changes as changes
@@ -21,7 +24,8 @@ use Rattle.casreg_script.specs.Eras.Membership as membership
 use Rattle.casreg_script.specs.Eras.Membership.{Advances, HasAdvanced, ChangesMembers}
 use Rattle.casreg_script.specs.Frames.Network.{IsNetwork, NetworkLeaves, Through}
 use Rattle.casreg_script.specs.Exchanges.Probes as probes
-use Rattle.casreg_script.specs.Exchanges.Probes.{IsProbe}
+use Rattle.casreg_script.specs.Exchanges.Probes.{IsInquiry, IsProbe}
+use Rattle.casreg_script.specs.Exchanges.Reads.{IsRead}
 use Rattle.casreg_script.specs.Frames.Strays as strays
 use Rattle.casreg_script.specs.Frames.Strays.{LetsStrayIn}
 use Rattle.casreg_script.specs.declared.halt.Halt.{Halt}
@@ -111,9 +115,15 @@ asks_stay m by next asks gathers old new (exchanges.not_asked step none) = stay_
 asks_stay m by next asks gathers old new (exchanges.no_memory {asked = asked} step fails) = not_asked_stay m by next asked new fails
 asks_stay m by next asks gathers old new (exchanges.gathered {asked = asked} {turned = turned} step turns gathered) = asked_stay m by asked next turns.again turned turns.turned
 
+inquiry_stay : {S V : Type 0} (m : Meaning S V) (by next : NetworkView) (what : Asked) (key : List ℕ) (old new : View S V) (answer : OpAnswer) → IsInquiry m by what key old answer next new → Stay by next
+inquiry_stay m by next what key old new answer (probes.refused is step) = stay_same by
+inquiry_stay m by next what key old new answer (probes.told {ordered = ordered} {asked_all = asked_all} orders asks tells) = asks_stay m by next _ _ ordered asked_all asks
+
 pub probe_stay : {S V : Type 0} (m : Meaning S V) (by next : NetworkView) (key : List ℕ) (old new : View S V) (answer : OpAnswer) → IsProbe m by key old answer next new → Stay by next
-probe_stay m by next key old new answer (probes.refused is step) = stay_same by
-probe_stay m by next key old new answer (probes.told {ordered = ordered} {asked_all = asked_all} orders asks tells) = asks_stay m by next _ _ ordered asked_all asks
+probe_stay m by next key old new answer is = inquiry_stay m by next (asked.Probe key) key old new answer is
+
+pub read_stay : {S V : Type 0} (m : Meaning S V) (by next : NetworkView) (key : List ℕ) (old new : View S V) (answer : ReadAnswer) → IsRead m by key old answer next new → Stay by next
+read_stay m by next key old new answer is = inquiry_stay m by next (asked.Read key) key old new is.said is.inquiry
 
 -- ---- collections
 called_stay : {S V : Type 0} (m : Meaning S V) (tries : ℕ) (by next : NetworkView) (key : List ℕ) (halt after : Halt) (old new : View S V) → IsCalled m tries by key halt old next after new → Stay by next

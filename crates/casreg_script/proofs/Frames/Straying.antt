@@ -1,5 +1,5 @@
 -- What a late frame leaves as it is that strays in.
-use Rattle.std.proofs.Common.{◌≡◌, ℕ, Bool, zero, suc, nat_eq, List, Some, slice_set, inl, inr, refl, sym, ap, subst, ◌∙◌, eqb-true}
+use Rattle.std.proofs.Common.{◌≡◌, ℕ, Bool, nat_eq, List, Some, slice_set, inl, inr, refl, sym, ap, subst, ◌∙◌, eqb-true}
 use Rattle.std.proofs.lemmas.Bool.{eqb-false}
 use Rattle.cas_base.proofs.Bools.{true_or_false}
 use Rattle.cas_flow.specs.declared.message.Message.{Message}

@@ -4,7 +4,11 @@ use Rattle.cas_fate.specs.declared.fate.Verdict.{Verdict}
 use Rattle.cas_flow.specs.Flow.{queue_at}
 use Rattle.cas_flow.specs.Message.{head_of}
 use Rattle.cas_flow.specs.declared.message.Message.{Message}
+use Rattle.cas_quorum.specs.declared.era.Era.{Era}
+use Rattle.cas_record.specs.Agreement.{IsAgreementOf}
+use Rattle.cas_record.specs.declared.agreement.Agreement.{Agreement}
 use Rattle.cas_record.specs.declared.operator.OpAnswer.TheVariants as op
+use Rattle.cas_record.specs.declared.operator.Probes.{Probes}
 use Rattle.cas_world_calls.specs.Council.{listed_if}
 use Rattle.cas_world_calls.specs.declared.council.Gathered.{Gathered}
 use Rattle.cas_world_calls.specs.declared.council.Gathered.TheVariants as came
@@ -13,7 +17,7 @@ use Rattle.cas_model.specs.Council.{Question, ExchangeView, ListingView, OrderVi
 use Rattle.cas_model.specs.Eras.Remaining.{keys_left}
 use Rattle.cas_model.specs.Step.{Event, Step, TurnExchange, RefuseTurnExchange, Gather, GatherCollect}
 use Rattle.cas_model.specs.Exchanges.Step.{everyone, listing_in, places_from}
-use Rattle.cas_model.specs.View.{Meaning, View, IsAt}
+use Rattle.cas_model.specs.View.{Meaning, View, IsAt, era_at}
 use Rattle.cas_world.specs.Exchanges.Exchange.{WasToldOrder}
 use Rattle.cas_world.specs.declared.exchange.Exchange.{Exchange}
 use Rattle.cas_world.specs.declared.exchange.Exchange.TheVariants as what
@@ -62,6 +66,7 @@ answers_of what.Ages = GatherCollect
 answers_of what.Remove = GatherCollect
 answers_of what.List = Gather
 answers_of (what.Probe key) = Gather
+answers_of (what.Read key) = Gather
 
 -- ---- what came of it
 -- the listing of the change of membership that is under way went on to another, and the operator's call goes on
@@ -89,10 +94,17 @@ pub record HasConfirmed {S V : Type 0} (old : View S V) (gathered : Gathered) (n
   pub is_collection : new.council.collection ≡ Some (record (confirmed_step collection) { removed = removed; kept = kept })
   pub came : gathered ≡ came.All removed kept
 
--- what each keeps for the key, as the operator's call may tell; or the next keys; or that a collection goes on
+-- the operator's call may tell what each keeps for the key, by which all agree so in this era
+pub record HasRead {S V : Type 0} (era : Era) (key : List ℕ) (agreement : Agreement) (found : Probes) (new : View S V) : Type 0 where
+  pub told : WasToldOrder new (op.Probed key found)
+  pub agrees : IsAgreementOf era found.probes.items agreement
+
+-- what each keeps for the key, as the operator's call may tell, and what they agree on; or the next keys; or that a collection goes on
 abbrev pub CameOf : {S V : Type 0} → Exchange → View S V → Gathered → View S V → Type 0
 CameOf (what.Probe key) old (came.Probed found) new = WasToldOrder new (op.Probed key found)
 CameOf (what.Probe key) old other new = ⊥
+CameOf (what.Read key) old (came.Read agreement found) new = HasRead (era_at old 0) key agreement found new
+CameOf (what.Read key) old other new = ⊥
 CameOf what.List old result new = HasListed old result new
 CameOf what.Ages old result new = HasConfirmed old result new
 CameOf what.Remove old result new = HasConfirmed old result new

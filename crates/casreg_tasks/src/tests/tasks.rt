@@ -24,6 +24,11 @@ fn key_line(alloc: Global, key: &Key, rest: &[u8]) -> Result<Vec<u8>, AllocError
     Ok(line)
 }
 
+fn sizes_line(alloc: Global, need_prep: u32, need_acc: u32) -> Result<Vec<u8>, AllocError> {
+    let line = format!(in alloc; "resize {need_prep} {need_acc}\n")?;
+    Ok(line.into_bytes())
+}
+
 fn change_line(alloc: Global, key: &Key, program: &Program) -> Result<Vec<u8>, AllocError> {
     let mut rest = b" ".to_vec(alloc)?;
     rest.extend_from_slice(&print_program(alloc, program)?)?;
@@ -35,8 +40,13 @@ fn task_line(alloc: Global, task: &Task) -> Result<Vec<u8>, AllocError> {
         Task::Change { key, program } => change_line(alloc, key, program),
         Task::Join { id } => Ok(member_line(alloc, "join", *id)?.into_bytes()),
         Task::Leave { id } => Ok(member_line(alloc, "leave", *id)?.into_bytes()),
+        Task::Resize {
+            need_prep,
+            need_acc,
+        } => sizes_line(alloc, *need_prep, *need_acc),
         Task::Collect { key } => key_line(alloc, key, b" is collected"),
         Task::Probe { key } => key_line(alloc, key, b" is probed"),
+        Task::Read { key } => key_line(alloc, key, b" is read"),
     }
 }
 
@@ -92,10 +102,10 @@ const ROWS: &[Row] = &[
         tasks: [b"", b"", b""],
     },
     Row {
-        input: b"op leave 9\n2 del a\nop join 4\nop probe a\nop collect b\n1 get c\nop join\n",
-        bad: b"bad 7 no word\n",
+        input: b"op leave 9\n2 del a\nop join 4\nop resize 4 2\nop probe a\nop read c\nop collect b\n1 get c\nop join\n",
+        bad: b"bad 9 no word\n",
         tasks: [
-            b"leave 9\njoin 4\na is probed\nb is collected\n",
+            b"leave 9\njoin 4\nresize 4 2\na is probed\nc is read\nb is collected\n",
             b"c always keep\n",
             b"a always clear\n",
         ],

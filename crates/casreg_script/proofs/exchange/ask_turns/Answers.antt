@@ -1,4 +1,4 @@
-use Rattle.std.proofs.Common.{◌<◌, ℕ, refl, sym, subst}
+use Rattle.std.proofs.Common.{◌<◌, ℕ, sym, subst}
 use Rattle.std.specs.Prelude.{Bool}
 use Rattle.cas_model.specs.Council.{exchange_place}
 use Rattle.cas_model.specs.View.{meaning}

@@ -1,13 +1,18 @@
 use Rattle.std.proofs.Common.{Result, sym, refl, subst, ◌∙◌}
 use Rattle.std.specs.Prelude.{IfOk}
-use Rattle.std.proofs.lemmas.Result.{IfOk-weaker}
+use Rattle.std.proofs.lemmas.Result.{IfOk-weaker, err_from_is_err_and}
 use Rattle.cas_world_calls.specs.declared.council.Gathered.{Gathered}
 use Rattle.cas_world_calls.specs.declared.council.Gathered.TheVariants as came
 use Rattle.cas_record.specs.declared.operator.OpAnswer.{OpAnswer}
-use Rattle.cas_world.specs.Exchanges.Exchange.{HasGathered}
-use Rattle.casreg_script.specs.Exchanges.Exchanges.{CameOf, IsAsking, KeepsOrder, not_asked, no_memory, gathered}
+use Rattle.cas_model.specs.Council.{Probe}
+use Rattle.cas_model.specs.Step.{Step}
+use Rattle.cas_model.specs.View.{meaning}
+use Rattle.cas_world.specs.Exchanges.Exchange.{HasGathered, asking_of}
+use Rattle.cas_world.specs.declared.exchange.Exchange.{Exchange}
+use Rattle.casreg_script.specs.Exchanges.Exchanges.{AllAskTurned, CameOf, IsAsking, KeepsOrder, not_asked, no_memory, gathered}
+use Rattle.casreg_script.specs.Frames.Network.{NetworkLeaves}
 use Rattle.casreg_script.proofs.Outcomes.{on_err, on_ok}
-use Rattle.casreg_script.proofs.Exchanges.Asking.{HasAskedThis, has_asked_this, is_asking, may_gather, gathered_so, came_of, less_left, asking_keeps, answers_keep, both_calls}
+use Rattle.casreg_script.proofs.Exchanges.Asking.{HasAskedThis, ReadsFor, has_asked_this, is_asking, may_gather, may_gather_read, reads_for, asking_stops, gathered_so, came_of, less_left, asking_keeps, answers_keep, both_calls}
 use Rattle.casreg_script.proofs.exchange.exchange.Given.{Over}
 use Rattle.casreg_script.proofs.exchange.exchange.Goals as goal
 
@@ -43,6 +48,13 @@ asked_so g c = has_asked_this _ c.args.world.now c.ask_all.new.self c.args.what 
 still_asking : (g : Over) (c : goal.After-gather g) → IsAsking c.ask_turns.new.world (asked_so g c).question
 still_asking g c = on_ok _ (sym c.is_err.ensures.value ∙ c.if-is_err.false) (c.ask_turns.ensures.asks (asked_so g c).question (is_asking c.args.world.now c.ask_all.new.self (asked_so g c).question (asked_so g c).asked))
 
+-- the turns were made
+turned_by : (g : Over) (c : goal.After-gather g) → NetworkLeaves c.ask_turns.new.network (λ next. AllAskTurned (meaning g.S.Shelf g.V.Disk) c.requires.network.0 c.ask_all.new.self next c.ask_turns.new.world)
+turned_by g c = on_ok _ (sym c.is_err.ensures.value ∙ c.if-is_err.false) c.ask_turns.ensures.through c.requires.network.0 c.requires.network.1
+
+reads_its : (g : Over) (c : goal.After-gather g) → ReadsFor c.args.world.now c.args.what c.ask_turns.new.world
+reads_its g c = reads_for (meaning g.S.Shelf g.V.Disk) c.args.world.now c.ask_all.new.self c.ask_turns.new.world c.args.what c.requires.may c.in_ok-ask_all.ensures.step (asked_so g c) (turned_by g c).has.turned
+
 still_ordered : (g : Over) (c : goal.After-gather g) → KeepsOrder c.ask_all.new.self c.ask_turns.new.world
 still_ordered g c = on_ok _ (sym c.is_err.ensures.value ∙ c.if-is_err.false) c.ask_turns.ensures.order
 
@@ -58,7 +70,7 @@ returns-clause-asks g c by is =
 pub returns-clause-gathered : goal.returns-clause-gathered
 returns-clause-gathered g c =
     IfOk-weaker c.gather.result (λ found. HasGathered c.ask_turns.new.world found c.gather.new.self) (λ found. CameOf c.args.what c.args.world.now found c.gather.new.self)
-    (λ found has. came_of c.args.world.now c.ask_all.new.self c.ask_turns.new.world c.gather.new.self c.args.what found c.requires.may (asked_so g c) (still_ordered g c) (still_asking g c) has)
+    (λ found has. came_of c.args.world.now c.ask_all.new.self c.ask_turns.new.world c.gather.new.self c.args.what found c.requires.may (asked_so g c) (still_ordered g c) (still_asking g c) (reads_its g c) has)
     c.gather.ensures.ok
 
 pub returns-clause-less : goal.returns-clause-less
@@ -72,3 +84,13 @@ returns-clause-calls g c =
     (both_calls c.ask_all.new.self c.ask_turns.new.world c.gather.new.self c.ask_turns.ensures.calls
     (answers_keep _ c.ask_turns.new.world c.gather.new.self c.args.what
     (gathered_so _ c.args.world.now c.ask_turns.new.world c.gather.new.self c.args.what (asked_so g c).question (asked_so g c).asks (still_asking g c) c.gather.ensures.step)))
+
+pub returns-in_err-ask_all-clause-stopped : goal.returns-in_err-ask_all-clause-stopped
+returns-in_err-ask_all-clause-stopped g c key is =
+    let p = err_from_is_err_and c.from_residual.result c.from_residual.ensures.1 in
+    rw (p.1, p.2) (asking_stops (meaning g.S.Shelf g.V.Disk) c.args.world.now c.ask_all.new.self (Probe key) c.in_err-ask_all.field-0.0
+    (subst (λ (e : Exchange). Step (meaning g.S.Shelf g.V.Disk) c.args.world.now (asking_of c.args.world.now e) c.ask_all.new.self) is c.in_err-ask_all.ensures.step) c.in_err-ask_all.ensures.none c.in_err-ask_all.ensures.err)
+
+pub returns-clause-stopped : goal.returns-clause-stopped
+returns-clause-stopped g c key is =
+    c.gather.ensures.stopped (may_gather_read c.args.world.now c.ask_turns.new.world c.args.what key (asked_so g c).question is (asked_so g c).asks (still_asking g c) (turned_by g c).has.none_waits)

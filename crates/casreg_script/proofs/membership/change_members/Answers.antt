@@ -6,7 +6,7 @@ use Rattle.cas_record.specs.declared.operator.Asked.{Asked}
 use Rattle.cas_record.specs.declared.operator.OpAnswer.{OpAnswer}
 use Rattle.cas_model.specs.Exchanges.Step.{StepOrder}
 use Rattle.cas_model.specs.View.{meaning}
-use Rattle.cas_world.specs.Eras.Plans.{asked_to}
+use Rattle.cas_world.specs.Eras.Plans.{asked_of}
 use Rattle.casreg_script.specs.Eras.Membership.{ChangesMembers, refused, told}
 use Rattle.casreg_script.specs.Exchanges.Orders.{IsNotOrdered, full, no_memory}
 use Rattle.casreg_script.proofs.Exchanges.Asking.{both_idle, keeps_idle, order_keeps, tell_keeps, quiet_after}
@@ -14,7 +14,7 @@ use Rattle.casreg_script.proofs.Eras.Entering.{is_ordered, free_then}
 use Rattle.casreg_script.proofs.membership.change_members.Goals as goal
 
 pub carry_out-answer-requires-clause-ordered : goal.carry_out-answer-requires-clause-ordered
-carry_out-answer-requires-clause-ordered g c = is_ordered c.args.world.now c.order.new.self (asked_to c.args.kind c.args.id) (subst (λ (a : Asked). StepOrder c.args.world.now a c.order.new.self) c.asked.ensures c.in-Ok.ensures.ok)
+carry_out-answer-requires-clause-ordered g c = is_ordered c.args.world.now c.order.new.self (asked_of c.args.target.now) (subst (λ (a : Asked). StepOrder c.args.world.now a c.order.new.self) c.asked.ensures c.in-Ok.ensures.ok)
 
 pub carry_out-answer-requires-clause-free : goal.carry_out-answer-requires-clause-free
 carry_out-answer-requires-clause-free g c =
@@ -26,7 +26,7 @@ returns-in-Ok-clause-changes g c by is =
     record {
       view = carried.view;
       is = carried.is;
-      has = subst (λ (a : OpAnswer). ChangesMembers (meaning g.S.Shelf g.V.Disk) c.args.tries by (asked_to c.args.kind c.args.id) c.args.halt.now c.args.world.now a carried.view c.carry_out-answer.new.halt c.tell.new.self) (sym c.tell.ensures.same)
+      has = subst (λ (a : OpAnswer). ChangesMembers (meaning g.S.Shelf g.V.Disk) c.args.tries by (asked_of c.args.target.now) c.args.halt.now c.args.world.now a carried.view c.carry_out-answer.new.halt c.tell.new.self) (sym c.tell.ensures.same)
           (told (subst (λ (a : Asked). StepOrder c.args.world.now a c.order.new.self) c.asked.ensures c.in-Ok.ensures.ok) carried.has c.tell.ensures.step);
     }
 

@@ -9,7 +9,7 @@ use Rattle.cas_model.specs.Council.{Probe}
 use Rattle.cas_model.specs.Step.{AskAll, Gather}
 use Rattle.cas_model.specs.Exchanges.Step.{StepOrder}
 use Rattle.cas_model.specs.View.{meaning}
-use Rattle.cas_world.specs.Exchanges.Exchange.{MayAskMembers, WasToldOrder}
+use Rattle.cas_world.specs.Exchanges.Exchange.{MayAskKey, WasToldOrder}
 use Rattle.cas_world.specs.Eras.Plans.{was_told}
 use Rattle.casreg_script.specs.Exchanges.Exchanges.{AsksMembers}
 use Rattle.casreg_script.specs.Exchanges.Orders.{IsNotOrdered, full, no_memory}
@@ -20,8 +20,8 @@ use Rattle.casreg_script.proofs.probe.probe.Goals.{in-Ok-exchange, in-Err-exchan
 
 pub exchange-requires-clause-may : goal.exchange-requires-clause-may
 exchange-requires-clause-may g c =
-    subst (λ (k : List ℕ). MayAskMembers c.order.new.self (Probe k)) (sym c.in_ok-copy-2.ensures)
-    (may_ask c.args.world.now c.order.new.self c.args.key.now c.requires.quiet c.requires.idle (subst (λ (k : List ℕ). StepOrder c.args.world.now (asked.Probe k) c.order.new.self) c.in_ok-copy.ensures c.in-Ok.ensures.ok))
+    subst (λ (k : List ℕ). MayAskKey c.order.new.self (asked.Probe k)) (sym c.in_ok-copy-2.ensures)
+    (may_ask c.args.world.now c.order.new.self (asked.Probe c.args.key.now) c.requires.quiet c.requires.idle (subst (λ (k : List ℕ). StepOrder c.args.world.now (asked.Probe k) c.order.new.self) c.in_ok-copy.ensures c.in-Ok.ensures.ok))
 
 pub into_probes-requires : goal.into_probes-requires
 into_probes-requires g c = was_probed c.order.new.self c.exchange.new.world c.in_ok-copy-2.field-0 c.in-Ok-exchange.gathered c.in-Ok-exchange.ensures.gathered

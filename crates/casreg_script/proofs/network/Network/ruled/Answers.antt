@@ -1,4 +1,3 @@
-use Rattle.std.proofs.Common.{refl}
 use Rattle.casreg_script.specs.Frames.Network.{by_rules}
 use Rattle.casreg_script.proofs.network.Network.ruled.Goals as goal
 

@@ -2,9 +2,9 @@ use Rattle.std.proofs.Common.{◌≡◌, Option, Some, ap, subst, ◌∙◌}
 use Rattle.std.specs.Prelude.{IfSome, vec_items}
 use Rattle.cas_model.specs.View.{meaning}
 use Rattle.cas_lines.specs.Command.{change_of}
-use Rattle.casreg_script.specs.Script.{Changed, Happened, Shows, Operated, membership_of}
+use Rattle.casreg_script.specs.Script.{Changed, Happened, Shows, Operated, Reads, membership_of}
 use Rattle.casreg_script.specs.Stage.{Stage}
-use Rattle.casreg_script.proofs.Answering.{with_text, without_text, changes_run, happens_run, shows_run, probes_run, collects_run, members_run}
+use Rattle.casreg_script.proofs.Answering.{with_text, without_text, changes_run, happens_run, shows_run, probes_run, reads_run, collects_run, members_run}
 use Rattle.casreg_script.proofs.script.Script.answer_command.Goals as goal
 
 pub returns-in-Show-clause-answers : goal.returns-in-Show-clause-answers
@@ -16,29 +16,43 @@ returns-in-Show-clause-answers g c state line number at is =
 pub returns-in-Join : goal.returns-in-Join
 returns-in-Join g c = record {
   answers = λ state line number at is.
-      let runs = c.in_ok-answer-3.ensures.runs state at in
-      with_text (meaning g.S.Shelf g.V.Disk) c.args.self.now.tries number state line c.run_membership.new.self vec_items c.print_op-in-Join.result (Operated c.in_ok-answer-3.answer) runs.new runs.is_in
-      (members_run (meaning g.S.Shelf g.V.Disk) c.args.self.now.tries c.args.self.now c.run_membership.new.self state line c.args.command.now _ c.in_ok-answer-3.answer at is (ap membership_of c.in-Join.is) runs)
+      let runs = c.in_ok-answer-4.ensures.runs state at in
+      with_text (meaning g.S.Shelf g.V.Disk) c.args.self.now.tries number state line c.run_membership.new.self vec_items c.print_op-in-Join.result (Operated c.in_ok-answer-4.answer) runs.new runs.is_in
+      (members_run (meaning g.S.Shelf g.V.Disk) c.args.self.now.tries c.args.self.now c.run_membership.new.self state line c.args.command.now _ c.in_ok-answer-4.answer at is (ap membership_of c.in-Join.is) runs)
       c.print_op-in-Join.ensures;
   err = λ state line at is.
-      let runs = c.in_ok-answer-3.ensures.runs state at in
-      without_text (meaning g.S.Shelf g.V.Disk) c.args.self.now.tries state line c.run_membership.new.self c.print_op-in-Join.result (Operated c.in_ok-answer-3.answer) runs.new runs.is_in
-      (members_run (meaning g.S.Shelf g.V.Disk) c.args.self.now.tries c.args.self.now c.run_membership.new.self state line c.args.command.now _ c.in_ok-answer-3.answer at is (ap membership_of c.in-Join.is) runs);
+      let runs = c.in_ok-answer-4.ensures.runs state at in
+      without_text (meaning g.S.Shelf g.V.Disk) c.args.self.now.tries state line c.run_membership.new.self c.print_op-in-Join.result (Operated c.in_ok-answer-4.answer) runs.new runs.is_in
+      (members_run (meaning g.S.Shelf g.V.Disk) c.args.self.now.tries c.args.self.now c.run_membership.new.self state line c.args.command.now _ c.in_ok-answer-4.answer at is (ap membership_of c.in-Join.is) runs);
   tries = c.run_membership.ensures.tries;
 }
 
 pub returns-in-Leave : goal.returns-in-Leave
 returns-in-Leave g c = record {
   answers = λ state line number at is.
-      let runs = c.in_ok-answer-4.ensures.runs state at in
-      with_text (meaning g.S.Shelf g.V.Disk) c.args.self.now.tries number state line c.run_membership-in-Leave.new.self vec_items c.print_op-in-Leave.result (Operated c.in_ok-answer-4.answer) runs.new runs.is_in
-      (members_run (meaning g.S.Shelf g.V.Disk) c.args.self.now.tries c.args.self.now c.run_membership-in-Leave.new.self state line c.args.command.now _ c.in_ok-answer-4.answer at is (ap membership_of c.in-Leave.is) runs)
+      let runs = c.in_ok-answer-5.ensures.runs state at in
+      with_text (meaning g.S.Shelf g.V.Disk) c.args.self.now.tries number state line c.run_membership-in-Leave.new.self vec_items c.print_op-in-Leave.result (Operated c.in_ok-answer-5.answer) runs.new runs.is_in
+      (members_run (meaning g.S.Shelf g.V.Disk) c.args.self.now.tries c.args.self.now c.run_membership-in-Leave.new.self state line c.args.command.now _ c.in_ok-answer-5.answer at is (ap membership_of c.in-Leave.is) runs)
       c.print_op-in-Leave.ensures;
   err = λ state line at is.
-      let runs = c.in_ok-answer-4.ensures.runs state at in
-      without_text (meaning g.S.Shelf g.V.Disk) c.args.self.now.tries state line c.run_membership-in-Leave.new.self c.print_op-in-Leave.result (Operated c.in_ok-answer-4.answer) runs.new runs.is_in
-      (members_run (meaning g.S.Shelf g.V.Disk) c.args.self.now.tries c.args.self.now c.run_membership-in-Leave.new.self state line c.args.command.now _ c.in_ok-answer-4.answer at is (ap membership_of c.in-Leave.is) runs);
+      let runs = c.in_ok-answer-5.ensures.runs state at in
+      without_text (meaning g.S.Shelf g.V.Disk) c.args.self.now.tries state line c.run_membership-in-Leave.new.self c.print_op-in-Leave.result (Operated c.in_ok-answer-5.answer) runs.new runs.is_in
+      (members_run (meaning g.S.Shelf g.V.Disk) c.args.self.now.tries c.args.self.now c.run_membership-in-Leave.new.self state line c.args.command.now _ c.in_ok-answer-5.answer at is (ap membership_of c.in-Leave.is) runs);
   tries = c.run_membership-in-Leave.ensures.tries;
+}
+
+pub returns-in-Resize : goal.returns-in-Resize
+returns-in-Resize g c = record {
+  answers = λ state line number at is.
+      let runs = c.in_ok-answer-6.ensures.runs state at in
+      with_text (meaning g.S.Shelf g.V.Disk) c.args.self.now.tries number state line c.run_membership-in-Resize.new.self vec_items c.print_op-in-Resize.result (Operated c.in_ok-answer-6.answer) runs.new runs.is_in
+      (members_run (meaning g.S.Shelf g.V.Disk) c.args.self.now.tries c.args.self.now c.run_membership-in-Resize.new.self state line c.args.command.now _ c.in_ok-answer-6.answer at is (ap membership_of c.in-Resize.is) runs)
+      c.print_op-in-Resize.ensures;
+  err = λ state line at is.
+      let runs = c.in_ok-answer-6.ensures.runs state at in
+      without_text (meaning g.S.Shelf g.V.Disk) c.args.self.now.tries state line c.run_membership-in-Resize.new.self c.print_op-in-Resize.result (Operated c.in_ok-answer-6.answer) runs.new runs.is_in
+      (members_run (meaning g.S.Shelf g.V.Disk) c.args.self.now.tries c.args.self.now c.run_membership-in-Resize.new.self state line c.args.command.now _ c.in_ok-answer-6.answer at is (ap membership_of c.in-Resize.is) runs);
+  tries = c.run_membership-in-Resize.ensures.tries;
 }
 
 pub returns-in-Some : goal.returns-in-Some
@@ -86,16 +100,30 @@ returns-in-Probe g c = record {
   tries = c.run_probe.ensures.tries;
 }
 
+pub returns-in-Read : goal.returns-in-Read
+returns-in-Read g c = record {
+  answers = λ state line number at is.
+      let runs = c.in_ok-answer-2.ensures.runs state at in
+      with_text (meaning g.S.Shelf g.V.Disk) c.args.self.now.tries number state line c.run_read.new.self vec_items c.print_read.result (Reads c.in_ok-answer-2.answer) runs.new runs.is_in
+      (reads_run (meaning g.S.Shelf g.V.Disk) c.args.self.now.tries c.args.self.now c.run_read.new.self state line c.args.command.now c.in-Read.key c.in_ok-answer-2.answer at is c.in-Read.is runs)
+      c.print_read.ensures;
+  err = λ state line at is.
+      let runs = c.in_ok-answer-2.ensures.runs state at in
+      without_text (meaning g.S.Shelf g.V.Disk) c.args.self.now.tries state line c.run_read.new.self c.print_read.result (Reads c.in_ok-answer-2.answer) runs.new runs.is_in
+      (reads_run (meaning g.S.Shelf g.V.Disk) c.args.self.now.tries c.args.self.now c.run_read.new.self state line c.args.command.now c.in-Read.key c.in_ok-answer-2.answer at is c.in-Read.is runs);
+  tries = c.run_read.ensures.tries;
+}
+
 pub returns-in-Collect : goal.returns-in-Collect
 returns-in-Collect g c = record {
   answers = λ state line number at is.
-      let runs = c.in_ok-answer-2.ensures.runs state at in
-      with_text (meaning g.S.Shelf g.V.Disk) c.args.self.now.tries number state line c.run_collection.new.self vec_items c.print_op-in-Collect.result (Operated c.in_ok-answer-2.answer) runs.new runs.is_in
-      (collects_run (meaning g.S.Shelf g.V.Disk) c.args.self.now.tries c.args.self.now c.run_collection.new.self state line c.args.command.now c.in-Collect.key c.in_ok-answer-2.answer at is c.in-Collect.is runs)
+      let runs = c.in_ok-answer-3.ensures.runs state at in
+      with_text (meaning g.S.Shelf g.V.Disk) c.args.self.now.tries number state line c.run_collection.new.self vec_items c.print_op-in-Collect.result (Operated c.in_ok-answer-3.answer) runs.new runs.is_in
+      (collects_run (meaning g.S.Shelf g.V.Disk) c.args.self.now.tries c.args.self.now c.run_collection.new.self state line c.args.command.now c.in-Collect.key c.in_ok-answer-3.answer at is c.in-Collect.is runs)
       c.print_op-in-Collect.ensures;
   err = λ state line at is.
-      let runs = c.in_ok-answer-2.ensures.runs state at in
-      without_text (meaning g.S.Shelf g.V.Disk) c.args.self.now.tries state line c.run_collection.new.self c.print_op-in-Collect.result (Operated c.in_ok-answer-2.answer) runs.new runs.is_in
-      (collects_run (meaning g.S.Shelf g.V.Disk) c.args.self.now.tries c.args.self.now c.run_collection.new.self state line c.args.command.now c.in-Collect.key c.in_ok-answer-2.answer at is c.in-Collect.is runs);
+      let runs = c.in_ok-answer-3.ensures.runs state at in
+      without_text (meaning g.S.Shelf g.V.Disk) c.args.self.now.tries state line c.run_collection.new.self c.print_op-in-Collect.result (Operated c.in_ok-answer-3.answer) runs.new runs.is_in
+      (collects_run (meaning g.S.Shelf g.V.Disk) c.args.self.now.tries c.args.self.now c.run_collection.new.self state line c.args.command.now c.in-Collect.key c.in_ok-answer-3.answer at is c.in-Collect.is runs);
   tries = c.run_collection.ensures.tries;
 }
