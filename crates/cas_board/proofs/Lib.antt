@@ -1,5 +1,6 @@
 pub mod Blamed
 mod Collections
+pub mod Looks
 pub mod Losses
 mod Opened
 mod Operating

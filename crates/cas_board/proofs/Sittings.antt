@@ -30,8 +30,6 @@ use Rattle.cas_board.proofs.Losses.{losses_append, counted_then}
 use Rattle.cas_board.proofs.Passes.{still_pass}
 use Rattle.cas_board_steps.proofs.Fronts.{added_is, mine_append, mine_own, front_goes_on, goes_on_then, wanted_seen}
 use Rattle.cas_board_steps.proofs.Parts.{open_at}
-use Rattle.cas_model.specs.Calls.Step as calls
-use Rattle.cas_record.specs.declared.answer.Answer.TheVariants as answer
 
 -- ---- what may be given back
 module _ {S V : Type 0} (n : ℕ) (before after : View S V) (marks : List Mark) (makes : Makes n before after marks) where

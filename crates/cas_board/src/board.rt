@@ -3,6 +3,7 @@
 ghost use Rattle.std.specs.Prelude.{◌≡◌, ◌≢◌, ◌⊎◌, ◌≤◌, ◌<◌, ◌+◌, ℕ, suc, reverse, vec_len, vec_capacity, All, None, IsSome, IfOk, IfErr};
 ghost use Rattle.std.specs.Option.{ForSome};
 ghost use Rattle.cas_record.specs.Legal.{IsLegal};
+ghost use Rattle.cas_model.specs.Exchanges.Tellings.{AreWritable};
 ghost use Rattle.cas_model_causes.specs.Eras.Tellings.{AreTellingsSo};
 ghost use Rattle.cas_turn.specs.Seen.{Begins};
 ghost use Rattle.cas_turn.specs.Sitting.{fresh_seats};
@@ -145,6 +146,7 @@ impl<D: Disk> Board<D> {
         requires all { vec_len passes ≡ self.seats }
         requires idle { All (λ p. p.holds ≡ None) passes.items }
         ensures legal { D.tells → IsLegal (reverse result.book.marks) }
+        ensures writable { AreWritable result.book.marks }
         ensures tellings { D.tells → AreTellingsSo self.seats (reverse result.book.marks) }
         ensures fronts { All (λ p. Begins p.seen result.book.marks) passes.items }
         ensures mine { All (λ p. mine p.number result.book.marks
@@ -166,6 +168,7 @@ impl<D: Disk> Shared<D> {
     fn into_closed(self) -> Closed<D>
         ensures marks { result.book.marks ≡ self.marks }
         ensures legal { D.tells → IsLegal (reverse result.book.marks) }
+        ensures writable { AreWritable result.book.marks }
         ensures tellings { D.tells
             → AreTellingsSo (suc self.last_proposer) (reverse result.book.marks) }
         ensures kept { D.tells

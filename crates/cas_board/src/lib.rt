@@ -18,4 +18,5 @@ mod probing;
 mod shared;
 
 pub use board::{Board, Closed, Pass};
+pub use probing::Look;
 pub use shared::Shared;

@@ -4,7 +4,7 @@ ghost use Rattle.std.specs.Prelude.{◌≡◌, ◌≢◌, ◌≤◌, ℕ, false,
 ghost use Rattle.cas_record.specs.Legal.{IsLegal};
 ghost use Rattle.cas_model_causes.specs.Eras.Tellings.{AreTellingsSo};
 ghost use Rattle.cas_model.specs.Collection.Step.{keep_always};
-ghost use Rattle.cas_world.specs.Eras.Plans.{asked_to};
+ghost use Rattle.cas_world.specs.Eras.Plans.{asked_of};
 ghost use Rattle.cas_board.specs.Changes.{IsCounted};
 ghost use Rattle.cas_board.specs.Operations.{HasOperated, Operates, WasToldLast};
 ghost use Rattle.cas_board.specs.Passes.{IsPassOf};
@@ -19,14 +19,14 @@ use crate::change::rounds_with;
 use crate::fates::Holds;
 use cas_ballot::AcceptorId;
 use cas_board_steps::{
-    Aim, Begun, Listing, MembersStep, Rescan, Rescanning, Waiting, advance, list_on, order_members,
+    Begun, Listing, MembersStep, Rescan, Rescanning, Waiting, advance, list_on, order_members,
     rescan_on, take_up,
 };
 use cas_change::{Key, Program};
 use cas_disk::Disk;
 use cas_fate::{Fate, Verdict};
 use cas_record::{Answer, Asked, OpAnswer};
-use cas_world::PlanKind;
+use cas_world::Target;
 use std::sync::Wait;
 
 impl<D: Disk> Board<D> {
@@ -57,11 +57,7 @@ impl<D: Disk> Board<D> {
         ensures legal { D.tells → IsLegal (reverse pass.new.seen) }
         ensures tellings { D.tells → AreTellingsSo self.now.seats (reverse pass.new.seen) }
     {
-        let aim = Aim {
-            kind: PlanKind::Join,
-            id,
-        };
-        self.change_members(rt, pass, fate, &aim, tries)
+        self.change_members(rt, pass, fate, &Target::Join(id), tries)
     }
 
     /// The acceptor leaves, as a call of the operator; gives what the operator is told. All else is as for [`Board::join_member`], but that it is
@@ -86,20 +82,18 @@ impl<D: Disk> Board<D> {
         ensures legal { D.tells → IsLegal (reverse pass.new.seen) }
         ensures tellings { D.tells → AreTellingsSo self.now.seats (reverse pass.new.seen) }
     {
-        let aim = Aim {
-            kind: PlanKind::Leave,
-            id,
-        };
-        self.change_members(rt, pass, fate, &aim, tries)
+        self.change_members(rt, pass, fate, &Target::Leave(id), tries)
     }
 
-    /// Runs a change of membership as a call of the operator.
-    fn change_members<R: Wait, F: Fate>(
+    /// Quorums get these sizes, as a call of the operator; gives what the operator is told. All else is as for [`Board::join_member`], but
+    /// that it is [`OpAnswer::Resized`] that tells of its end.
+    pub fn resize<R: Wait, F: Fate>(
         &self,
         rt: &R,
         pass: &mut Pass<D>,
         fate: &mut F,
-        aim: &Aim,
+        need_prep: u32,
+        need_acc: u32,
         tries: u32,
     ) -> OpAnswer
         requires pass { IsPassOf self.now pass.old }
@@ -108,14 +102,42 @@ impl<D: Disk> Board<D> {
         requires some { 1 ≤ tries }
         ensures pass { pass.new ≡ record pass.old { seen = pass.new.seen; own = pass.new.own } }
         ensures free { NothingIsOpen pass.new.own }
-        ensures operates { Operates (asked_to aim.now.kind aim.now.id) (IsRescanMark tries)
+        ensures operates { Operates (Asked.Resize need_prep need_acc) (IsRescanMark tries)
             (F.harm_count fate.old) (F.harm_count fate.new) pass.old pass.new result }
-        ensures answer { IsMembersAnswer (asked_to aim.now.kind aim.now.id) result }
+        ensures answer { IsMembersAnswer (Asked.Resize need_prep need_acc) result }
         ensures legal { D.tells → IsLegal (reverse pass.new.seen) }
         ensures tellings { D.tells → AreTellingsSo self.now.seats (reverse pass.new.seen) }
     {
-        match self.order_members_once(rt, pass, aim) {
-            Ok(program) => self.carry_out(rt, pass, fate, aim, &program, tries),
+        let target = Target::Resize {
+            need_prep,
+            need_acc,
+        };
+        self.change_members(rt, pass, fate, &target, tries)
+    }
+
+    /// Runs a change of membership as a call of the operator.
+    fn change_members<R: Wait, F: Fate>(
+        &self,
+        rt: &R,
+        pass: &mut Pass<D>,
+        fate: &mut F,
+        target: &Target,
+        tries: u32,
+    ) -> OpAnswer
+        requires pass { IsPassOf self.now pass.old }
+        requires operator { pass.old.number ≡ 0 }
+        requires free { NothingIsOpen pass.old.own }
+        requires some { 1 ≤ tries }
+        ensures pass { pass.new ≡ record pass.old { seen = pass.new.seen; own = pass.new.own } }
+        ensures free { NothingIsOpen pass.new.own }
+        ensures operates { Operates (asked_of target.now) (IsRescanMark tries)
+            (F.harm_count fate.old) (F.harm_count fate.new) pass.old pass.new result }
+        ensures answer { IsMembersAnswer (asked_of target.now) result }
+        ensures legal { D.tells → IsLegal (reverse pass.new.seen) }
+        ensures tellings { D.tells → AreTellingsSo self.now.seats (reverse pass.new.seen) }
+    {
+        match self.order_members_once(rt, pass, target) {
+            Ok(program) => self.carry_out(rt, pass, fate, target, &program, tries),
             Err(refusal) => OpAnswer::Stopped(refusal),
         }
     }
@@ -126,25 +148,25 @@ impl<D: Disk> Board<D> {
         rt: &R,
         pass: &mut Pass<D>,
         fate: &mut F,
-        aim: &Aim,
+        target: &Target,
         program: &Program,
         tries: u32,
     ) -> OpAnswer
         requires pass { IsPassOf self.now pass.old }
         requires operator { pass.old.number ≡ 0 }
-        requires ordered { HasOrder (asked_to aim.now.kind aim.now.id) pass.old.own }
+        requires ordered { HasOrder (asked_of target.now) pass.old.own }
         requires program { program.now ≡ keep_always }
         requires some { 1 ≤ tries }
         ensures pass { pass.new ≡ record pass.old { seen = pass.new.seen; own = pass.new.own } }
         ensures told { (lost : ℕ) × IsCounted lost (F.harm_count fate.old) (F.harm_count fate.new)
-            × WasToldLast (asked_to aim.now.kind aim.now.id)
+            × WasToldLast (asked_of target.now)
             (IsRescanMark tries) lost pass.old pass.new result }
-        ensures answer { IsMembersAnswer (asked_to aim.now.kind aim.now.id) result }
+        ensures answer { IsMembersAnswer (asked_of target.now) result }
         ensures legal { D.tells → IsLegal (reverse pass.new.seen) }
         ensures tellings { D.tells → AreTellingsSo self.now.seats (reverse pass.new.seen) }
     {
-        match self.take_up_once(rt, pass, aim) {
-            Ok(()) => self.take_steps(rt, pass, fate, aim, program, tries),
+        match self.take_up_once(rt, pass, target) {
+            Ok(()) => self.take_steps(rt, pass, fate, target, program, tries),
             Err(told) => told,
         }
     }
@@ -155,26 +177,26 @@ impl<D: Disk> Board<D> {
         rt: &R,
         pass: &mut Pass<D>,
         fate: &mut F,
-        aim: &Aim,
+        target: &Target,
         program: &Program,
         tries: u32,
     ) -> OpAnswer
         requires pass { IsPassOf self.now pass.old }
         requires operator { pass.old.number ≡ 0 }
-        requires planned { HasPlan (asked_to aim.now.kind aim.now.id) pass.old.own }
+        requires planned { HasPlan (asked_of target.now) pass.old.own }
         requires program { program.now ≡ keep_always }
         requires some { 1 ≤ tries }
         ensures pass { pass.new ≡ record pass.old { seen = pass.new.seen; own = pass.new.own } }
         ensures told { (lost : ℕ) × IsCounted lost (F.harm_count fate.old) (F.harm_count fate.new)
-            × WasToldLast (asked_to aim.now.kind aim.now.id)
+            × WasToldLast (asked_of target.now)
             (IsRescanMark tries) lost pass.old pass.new result }
-        ensures answer { IsMembersAnswer (asked_to aim.now.kind aim.now.id) result }
+        ensures answer { IsMembersAnswer (asked_of target.now) result }
         ensures legal { D.tells → IsLegal (reverse pass.new.seen) }
         ensures tellings { D.tells → AreTellingsSo self.now.seats (reverse pass.new.seen) }
     {
         let mut holds = Holds::new();
         for _ in rt.forever() {
-            match self.take_step(rt, pass, fate, &mut holds, aim, program, tries) {
+            match self.take_step(rt, pass, fate, &mut holds, target, program, tries) {
                 Ok(()) => {}
                 Err(told) => return told,
             }
@@ -189,28 +211,28 @@ impl<D: Disk> Board<D> {
         pass: &mut Pass<D>,
         fate: &mut F,
         holds: &mut Holds,
-        aim: &Aim,
+        target: &Target,
         program: &Program,
         tries: u32,
     ) -> Result<(), OpAnswer>
         requires pass { IsPassOf self.now pass.old }
         requires operator { pass.old.number ≡ 0 }
-        requires planned { HasPlan (asked_to aim.now.kind aim.now.id) pass.old.own }
+        requires planned { HasPlan (asked_of target.now) pass.old.own }
         requires program { program.now ≡ keep_always }
         requires some { 1 ≤ tries }
         ensures pass { pass.new ≡ record pass.old { seen = pass.new.seen; own = pass.new.own } }
         ensures goes_on { OnOk result ((lost : ℕ) × IsCounted lost (F.harm_count fate.old)
             (F.harm_count fate.new) × HasOperated IsPlanMark lost pass.old pass.new) }
-        ensures planned { OnOk result (HasPlan (asked_to aim.now.kind aim.now.id) pass.new.own) }
+        ensures planned { OnOk result (HasPlan (asked_of target.now) pass.new.own) }
         ensures told { IfErr result (λ told. (lost : ℕ) × IsCounted lost (F.harm_count fate.old)
-            (F.harm_count fate.new) × WasToldLast (asked_to aim.now.kind aim.now.id)
+            (F.harm_count fate.new) × WasToldLast (asked_of target.now)
             (IsRescanMark tries) lost pass.old pass.new told) }
-        ensures answer { IfErr result (IsMembersAnswer (asked_to aim.now.kind aim.now.id)) }
+        ensures answer { IfErr result (IsMembersAnswer (asked_of target.now)) }
         ensures legal { D.tells → IsLegal (reverse pass.new.seen) }
         ensures tellings { D.tells → AreTellingsSo self.now.seats (reverse pass.new.seen) }
     {
-        match self.advance_once(rt, pass, aim, program) {
-            Ok(step) => self.finish_step(rt, pass, fate, holds, aim, step, program, tries),
+        match self.advance_once(rt, pass, target, program) {
+            Ok(step) => self.finish_step(rt, pass, fate, holds, target, step, program, tries),
             Err(told) => Err(told),
         }
     }
@@ -222,14 +244,14 @@ impl<D: Disk> Board<D> {
         pass: &mut Pass<D>,
         fate: &mut F,
         holds: &mut Holds,
-        aim: &Aim,
+        target: &Target,
         step: MembersStep,
         program: &Program,
         tries: u32,
     ) -> Result<(), OpAnswer>
         requires pass { IsPassOf self.now pass.old }
         requires operator { pass.old.number ≡ 0 }
-        requires stands { StandsAt (asked_to aim.now.kind aim.now.id) pass.old.own
+        requires stands { StandsAt (asked_of target.now) pass.old.own
             (wanted_by 0 pass.old.seen) step }
         requires legal { D.tells → IsLegal (reverse pass.old.seen) }
         requires tellings { D.tells → AreTellingsSo self.now.seats (reverse pass.old.seen) }
@@ -238,19 +260,19 @@ impl<D: Disk> Board<D> {
         ensures pass { pass.new ≡ record pass.old { seen = pass.new.seen; own = pass.new.own } }
         ensures goes_on { OnOk result ((lost : ℕ) × IsCounted lost (F.harm_count fate.old)
             (F.harm_count fate.new) × HasOperated IsPlanMark lost pass.old pass.new) }
-        ensures planned { OnOk result (HasPlan (asked_to aim.now.kind aim.now.id) pass.new.own) }
+        ensures planned { OnOk result (HasPlan (asked_of target.now) pass.new.own) }
         ensures told { IfErr result (λ told. (lost : ℕ) × IsCounted lost (F.harm_count fate.old)
-            (F.harm_count fate.new) × WasToldLast (asked_to aim.now.kind aim.now.id)
+            (F.harm_count fate.new) × WasToldLast (asked_of target.now)
             (IsRescanMark tries) lost pass.old pass.new told) }
-        ensures answer { IfErr result (IsMembersAnswer (asked_to aim.now.kind aim.now.id)) }
+        ensures answer { IfErr result (IsMembersAnswer (asked_of target.now)) }
         ensures legal { D.tells → IsLegal (reverse pass.new.seen) }
         ensures tellings { D.tells → AreTellingsSo self.now.seats (reverse pass.new.seen) }
     {
         match step {
             MembersStep::Next => Ok(()),
-            MembersStep::Lists(waits) => self.run_listing(rt, pass, fate, holds, aim, waits),
+            MembersStep::Lists(waits) => self.run_listing(rt, pass, fate, holds, target, waits),
             MembersStep::Rescans(rescan) => {
-                self.run_rescan(rt, pass, fate, holds, aim, rescan, program, tries)
+                self.run_rescan(rt, pass, fate, holds, target, rescan, program, tries)
             }
         }
     }
@@ -263,20 +285,20 @@ impl<D: Disk> Board<D> {
         pass: &mut Pass<D>,
         fate: &mut F,
         holds: &mut Holds,
-        aim: &Aim,
+        target: &Target,
         first: Option<Waiting>,
     ) -> Result<(), OpAnswer>
         requires pass { IsPassOf self.now pass.old }
         requires operator { pass.old.number ≡ 0 }
-        requires lists { HasListing (asked_to aim.now.kind aim.now.id) pass.old.own }
+        requires lists { HasListing (asked_of target.now) pass.old.own }
         ensures pass { pass.new ≡ record pass.old { seen = pass.new.seen; own = pass.new.own } }
         ensures goes_on { OnOk result ((lost : ℕ) × IsCounted lost (F.harm_count fate.old)
             (F.harm_count fate.new) × HasOperated IsPlanMark lost pass.old pass.new) }
-        ensures planned { OnOk result (HasPlan (asked_to aim.now.kind aim.now.id) pass.new.own) }
+        ensures planned { OnOk result (HasPlan (asked_of target.now) pass.new.own) }
         ensures told { IfErr result (λ told. (lost : ℕ)
             × IsCounted lost (F.harm_count fate.old) (F.harm_count fate.new) × WasToldLast
-            (asked_to aim.now.kind aim.now.id) IsPlanMark lost pass.old pass.new told) }
-        ensures answer { IfErr result (IsMembersAnswer (asked_to aim.now.kind aim.now.id)) }
+            (asked_of target.now) IsPlanMark lost pass.old pass.new told) }
+        ensures answer { IfErr result (IsMembersAnswer (asked_of target.now)) }
         ensures legal { D.tells → IsLegal (reverse pass.new.seen) }
         ensures tellings { D.tells → AreTellingsSo self.now.seats (reverse pass.new.seen) }
     {
@@ -284,7 +306,7 @@ impl<D: Disk> Board<D> {
         let mut again = false;
         for _ in rt.forever() {
             let verdict = self.verdict_for(rt, pass, fate, holds, &waits, again);
-            match self.list_on_once(rt, pass, aim, verdict) {
+            match self.list_on_once(rt, pass, target, verdict) {
                 Ok(Listing::Waits(next)) => waits = next,
                 Ok(Listing::Over) => return Ok(()),
                 Err(told) => return Err(told),
@@ -302,14 +324,14 @@ impl<D: Disk> Board<D> {
         pass: &mut Pass<D>,
         fate: &mut F,
         holds: &mut Holds,
-        aim: &Aim,
+        target: &Target,
         rescan: Rescan,
         program: &Program,
         tries: u32,
     ) -> Result<(), OpAnswer>
         requires pass { IsPassOf self.now pass.old }
         requires operator { pass.old.number ≡ 0 }
-        requires rescans { HasRescan (asked_to aim.now.kind aim.now.id)
+        requires rescans { HasRescan (asked_of target.now)
             rescan.begun.call rescan.key pass.old.own }
         requires wanted { wanted_by 0 pass.old.seen
             ≡ Some (wants rescan.begun.call rescan.key program.now) }
@@ -318,11 +340,11 @@ impl<D: Disk> Board<D> {
         ensures pass { pass.new ≡ record pass.old { seen = pass.new.seen; own = pass.new.own } }
         ensures goes_on { OnOk result ((lost : ℕ) × IsCounted lost (F.harm_count fate.old)
             (F.harm_count fate.new) × HasOperated IsPlanMark lost pass.old pass.new) }
-        ensures planned { OnOk result (HasPlan (asked_to aim.now.kind aim.now.id) pass.new.own) }
+        ensures planned { OnOk result (HasPlan (asked_of target.now) pass.new.own) }
         ensures told { IfErr result (λ told. (lost : ℕ) × IsCounted lost (F.harm_count fate.old)
-            (F.harm_count fate.new) × WasToldLast (asked_to aim.now.kind aim.now.id)
+            (F.harm_count fate.new) × WasToldLast (asked_of target.now)
             (IsRescanMark tries) lost pass.old pass.new told) }
-        ensures answer { IfErr result (IsMembersAnswer (asked_to aim.now.kind aim.now.id)) }
+        ensures answer { IfErr result (IsMembersAnswer (asked_of target.now)) }
         ensures legal { D.tells → IsLegal (reverse pass.new.seen) }
         ensures tellings { D.tells → AreTellingsSo self.now.seats (reverse pass.new.seen) }
     {
@@ -334,7 +356,7 @@ impl<D: Disk> Board<D> {
             let verdict = self.verdict_at(rt, pass, fate, holds, &stage, again);
             rounds = rounds_with(rounds, &stage);
             let more = rounds < tries;
-            match self.rescan_on_once(rt, pass, aim, call, &key, program, verdict, more) {
+            match self.rescan_on_once(rt, pass, target, call, &key, program, verdict, more) {
                 Ok(Rescanning::Goes(next)) => stage = next,
                 Ok(Rescanning::Counted) => return Ok(()),
                 Err(told) => return Err(told),
@@ -349,7 +371,7 @@ impl<D: Disk> Board<D> {
         &self,
         rt: &R,
         pass: &mut Pass<D>,
-        aim: &Aim,
+        target: &Target,
     ) -> Result<Program, Answer>
         requires pass { IsPassOf self.now pass.old }
         requires operator { pass.old.number ≡ 0 }
@@ -358,35 +380,40 @@ impl<D: Disk> Board<D> {
         ensures front { FrontGoesOn pass.old.number pass.old.seen pass.new.seen [] }
         ensures counted { rescanned_in pass.new.own ≡ rescanned_in pass.old.own }
         ensures program { IfOk result (λ program. program ≡ keep_always) }
-        ensures ordered { OnOk result (HasOrder (asked_to aim.now.kind aim.now.id) pass.new.own) }
+        ensures ordered { OnOk result (HasOrder (asked_of target.now) pass.new.own) }
         ensures refused { IfErr result (λ why. IsRefusalBehind (length pass.new.seen) why
             × NothingIsOpen pass.new.own) }
         ensures legal { D.tells → IsLegal (reverse pass.new.seen) }
         ensures tellings { D.tells → AreTellingsSo self.now.seats (reverse pass.new.seen) }
     {
         let mut shared = self.turn.hold(rt, pass);
-        let ordered = order_members(self.alloc, &mut shared.world, aim);
+        let ordered = order_members(self.alloc, &mut shared.world, target);
         self.give_back(rt, pass, shared);
         ordered
     }
 
     /// A hold in which the change of membership begins, unless it is under way.
-    fn take_up_once<R: Wait>(&self, rt: &R, pass: &mut Pass<D>, aim: &Aim) -> Result<(), OpAnswer>
+    fn take_up_once<R: Wait>(
+        &self,
+        rt: &R,
+        pass: &mut Pass<D>,
+        target: &Target,
+    ) -> Result<(), OpAnswer>
         requires pass { IsPassOf self.now pass.old }
         requires operator { pass.old.number ≡ 0 }
-        requires ordered { HasOrder (asked_to aim.now.kind aim.now.id) pass.old.own }
+        requires ordered { HasOrder (asked_of target.now) pass.old.own }
         ensures pass { pass.new ≡ record pass.old { seen = pass.new.seen; own = pass.new.own } }
         ensures front { OnOk result (FrontGoesOn pass.old.number pass.old.seen pass.new.seen []) }
         ensures counted { OnOk result (rescanned_in pass.new.own ≡ rescanned_in pass.old.own) }
-        ensures planned { OnOk result (HasPlan (asked_to aim.now.kind aim.now.id) pass.new.own) }
+        ensures planned { OnOk result (HasPlan (asked_of target.now) pass.new.own) }
         ensures told { IfErr result
-            (WasToldLast (asked_to aim.now.kind aim.now.id) IsPlanMark 0 pass.old pass.new) }
-        ensures answer { IfErr result (IsMembersAnswer (asked_to aim.now.kind aim.now.id)) }
+            (WasToldLast (asked_of target.now) IsPlanMark 0 pass.old pass.new) }
+        ensures answer { IfErr result (IsMembersAnswer (asked_of target.now)) }
         ensures legal { D.tells → IsLegal (reverse pass.new.seen) }
         ensures tellings { D.tells → AreTellingsSo self.now.seats (reverse pass.new.seen) }
     {
         let mut shared = self.turn.hold(rt, pass);
-        let taken_up = take_up(&mut shared.world, aim);
+        let taken_up = take_up(&mut shared.world, target);
         self.give_back(rt, pass, shared);
         taken_up
     }
@@ -396,25 +423,25 @@ impl<D: Disk> Board<D> {
         &self,
         rt: &R,
         pass: &mut Pass<D>,
-        aim: &Aim,
+        target: &Target,
         program: &Program,
     ) -> Result<MembersStep, OpAnswer>
         requires pass { IsPassOf self.now pass.old }
         requires operator { pass.old.number ≡ 0 }
-        requires planned { HasPlan (asked_to aim.now.kind aim.now.id) pass.old.own }
+        requires planned { HasPlan (asked_of target.now) pass.old.own }
         requires program { program.now ≡ keep_always }
         ensures pass { pass.new ≡ record pass.old { seen = pass.new.seen; own = pass.new.own } }
         ensures goes_on { OnOk result (HasOperated IsPlanMark 0 pass.old pass.new) }
         ensures step { IfOk result
-            (StandsAt (asked_to aim.now.kind aim.now.id) pass.new.own (wanted_by 0 pass.new.seen)) }
+            (StandsAt (asked_of target.now) pass.new.own (wanted_by 0 pass.new.seen)) }
         ensures told { IfErr result
-            (WasToldLast (asked_to aim.now.kind aim.now.id) IsPlanMark 0 pass.old pass.new) }
-        ensures answer { IfErr result (IsMembersAnswer (asked_to aim.now.kind aim.now.id)) }
+            (WasToldLast (asked_of target.now) IsPlanMark 0 pass.old pass.new) }
+        ensures answer { IfErr result (IsMembersAnswer (asked_of target.now)) }
         ensures legal { D.tells → IsLegal (reverse pass.new.seen) }
         ensures tellings { D.tells → AreTellingsSo self.now.seats (reverse pass.new.seen) }
     {
         let mut shared = self.turn.hold(rt, pass);
-        let step = advance(&mut shared.world, aim, program);
+        let step = advance(&mut shared.world, target, program);
         self.give_back(rt, pass, shared);
         step
     }
@@ -424,23 +451,23 @@ impl<D: Disk> Board<D> {
         &self,
         rt: &R,
         pass: &mut Pass<D>,
-        aim: &Aim,
+        target: &Target,
         verdict: Verdict,
     ) -> Result<Listing, OpAnswer>
         requires pass { IsPassOf self.now pass.old }
         requires operator { pass.old.number ≡ 0 }
-        requires lists { HasListing (asked_to aim.now.kind aim.now.id) pass.old.own }
+        requires lists { HasListing (asked_of target.now) pass.old.own }
         ensures pass { pass.new ≡ record pass.old { seen = pass.new.seen; own = pass.new.own } }
         ensures goes_on { OnOk result (HasOperated IsPlanMark (harm_by verdict) pass.old pass.new) }
-        ensures listed { IfOk result (IsListedTo (asked_to aim.now.kind aim.now.id) pass.new.own) }
-        ensures told { IfErr result (WasToldLast (asked_to aim.now.kind aim.now.id) IsPlanMark
+        ensures listed { IfOk result (IsListedTo (asked_of target.now) pass.new.own) }
+        ensures told { IfErr result (WasToldLast (asked_of target.now) IsPlanMark
             (harm_by verdict) pass.old pass.new) }
-        ensures answer { IfErr result (IsMembersAnswer (asked_to aim.now.kind aim.now.id)) }
+        ensures answer { IfErr result (IsMembersAnswer (asked_of target.now)) }
         ensures legal { D.tells → IsLegal (reverse pass.new.seen) }
         ensures tellings { D.tells → AreTellingsSo self.now.seats (reverse pass.new.seen) }
     {
         let mut shared = self.turn.hold(rt, pass);
-        let listing = list_on(&mut shared.world, aim, verdict);
+        let listing = list_on(&mut shared.world, target, verdict);
         self.give_back(rt, pass, shared);
         listing
     }
@@ -450,7 +477,7 @@ impl<D: Disk> Board<D> {
         &self,
         rt: &R,
         pass: &mut Pass<D>,
-        aim: &Aim,
+        target: &Target,
         call: u32,
         key: &Key,
         program: &Program,
@@ -459,25 +486,25 @@ impl<D: Disk> Board<D> {
     ) -> Result<Rescanning, OpAnswer>
         requires pass { IsPassOf self.now pass.old }
         requires operator { pass.old.number ≡ 0 }
-        requires rescans { HasRescan (asked_to aim.now.kind aim.now.id) call key.now pass.old.own }
+        requires rescans { HasRescan (asked_of target.now) call key.now pass.old.own }
         requires wanted { wanted_by 0 pass.old.seen ≡ Some (wants call key.now program.now) }
         ensures pass { pass.new ≡ record pass.old { seen = pass.new.seen; own = pass.new.own } }
         ensures goes_on { OnOk result (HasOperated IsPlanMark (harm_by verdict) pass.old pass.new) }
         ensures wanted { IfOk result (λ now. now ≢ Rescanning.Counted
             → wanted_by 0 pass.new.seen ≡ wanted_by 0 pass.old.seen) }
         ensures rescans { IfOk result
-            (IsRescannedTo (asked_to aim.now.kind aim.now.id) call key.now pass.new.own) }
+            (IsRescannedTo (asked_of target.now) call key.now pass.new.own) }
         ensures rounds { IfOk result (RoundsAreKept may_repeat pass.old.own pass.new.own) }
         ensures told { (tries : ℕ) → (may_repeat ≡ false → rounds_after pass.old.own ≡ tries)
-            → IfErr result (WasToldLast (asked_to aim.now.kind aim.now.id)
+            → IfErr result (WasToldLast (asked_of target.now)
             (IsRescanMark tries) (harm_by verdict) pass.old pass.new) }
-        ensures answer { IfErr result (IsMembersAnswer (asked_to aim.now.kind aim.now.id)) }
+        ensures answer { IfErr result (IsMembersAnswer (asked_of target.now)) }
         ensures legal { D.tells → IsLegal (reverse pass.new.seen) }
         ensures tellings { D.tells → AreTellingsSo self.now.seats (reverse pass.new.seen) }
     {
         let mut shared = self.turn.hold(rt, pass);
         let world = &mut shared.world;
-        let rescanning = rescan_on(world, aim, call, key, program, verdict, may_repeat);
+        let rescanning = rescan_on(world, target, call, key, program, verdict, may_repeat);
         self.give_back(rt, pass, shared);
         rescanning
     }

@@ -1,3 +1,6 @@
+pub mod Agreed
 pub mod Councils
 pub mod Operating
 pub mod Probes
+pub mod Reads
+pub mod Truth

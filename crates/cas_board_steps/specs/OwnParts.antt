@@ -4,6 +4,7 @@ use Rattle.std.specs.Prelude.{ℕ, zero, suc, if◌then◌else◌, List, [], ◌
 use Rattle.cas_world_calls.specs.Collecting.{is_sought}
 use Rattle.cas_collect.specs.declared.collect.CollectStep.{CollectStep}
 use Rattle.cas_collect.specs.declared.collect.CollectStep.TheVariants as collect
+use Rattle.cas_quorum.specs.declared.era.Era.{Era}
 use Rattle.cas_record.specs.declared.operator.Asked.{Asked}
 use Rattle.cas_record.specs.declared.operator.Asked.TheVariants as asked
 use Rattle.cas_world_calls.specs.Council.{due_key}
@@ -69,9 +70,13 @@ abbrev pub harms_part : Question → List ℕ → ℕ
 harms_part (Probe key) harmed = length harmed
 harms_part other harmed = 0
 
+-- whether it reads its key
+abbrev pub reads_part : Option Era → ℕ
+reads_part reads = if is_some reads then 1 else 0
+
 abbrev pub exchange_part : Option ExchangeView → List ℕ
 exchange_part None = []
-exchange_part (Some exchange) = framed 2 (exchange.since ∷ harms_part exchange.question exchange.harmed ∷ length (asked_of exchange) ∷ asked_of exchange ++ question_part exchange.question)
+exchange_part (Some exchange) = framed 2 (exchange.since ∷ harms_part exchange.question exchange.harmed ∷ reads_part exchange.reads ∷ length (asked_of exchange) ∷ asked_of exchange ++ question_part exchange.question)
 
 -- the key that it is to propose anew, if one is due
 abbrev pub due_part : Option (List ℕ) → List ℕ

@@ -12,7 +12,6 @@ mod orders;
 pub use collections::{Course, KeyCollection, go_on_collecting, order_collection};
 pub use deeds::{Begun, Stage, Waiting, begin, first_frame, go_on, let_in, stage_of};
 pub use membership::{
-    Aim, Listing, MembersStep, Rescan, Rescanning, advance, list_on, order_members, rescan_on,
-    take_up,
+    Listing, MembersStep, Rescan, Rescanning, advance, list_on, order_members, rescan_on, take_up,
 };
-pub use orders::{ProbeOrder, Probing, ask_probe, go_on_probing, order_probe};
+pub use orders::{Heard, Inquiry, ProbeOrder, Probing, ask_probe, go_on_probing, order_probe};

@@ -100,7 +100,7 @@ ask_collect_blamed {S} {V} m old new is by = by_case by.asks
   where
     by_case : collect.AsksCollect m old by.may.at by.desk new → IsBlamed m new
     by_case (collect.asks question flow up asks room aged sends view) =
-        subst (IsBlamed m) (sym view) (on_council m is (record old.council { exchange = Some (new_exchange question (tomb_of by.may.at.collection.tombstone) (everyone old) (length old.marks)) }) refl is.order tt is.later
+        subst (IsBlamed m) (sym view) (on_council m is (record old.council { exchange = Some (new_exchange question (tomb_of by.may.at.collection.tombstone) (everyone old) (length old.marks) None) }) refl is.order tt is.later
         (λ exchange same acceptor member. is.used 0 acceptor (subst (λ (e : ExchangeView). has_member e.members acceptor ≡ true) (sym (some_is same)) member)))
     by_case (collect.is_down down view) = subst (IsBlamed m) (sym view) (on_telling m is (told.Stopped answer.Down) (record { one = by.desk; at = by.may.at_desk; failed = is.failed 0 by.desk by.may.at_desk down }))
     by_case (collect.is_full question up asks full view) = subst (IsBlamed m) (sym view) (on_telling m is (told.Stopped answer.RecordFull) tt)

@@ -1,5 +1,5 @@
 -- What the operator's calls leave true of a cluster that nobody stops, but for changes of membership and collections.
-use Rattle.std.proofs.Common.{◌≡◌, ◌<◌, ℕ, Bool, true, false, List, [], Option, None, Some, refl, sym, ap, subst, ◌∙◌, inl, inr}
+use Rattle.std.proofs.Common.{◌≡◌, ◌<◌, ℕ, Bool, true, false, List, [], ◌∷◌, ◌++◌, map, Option, None, Some, reverse, refl, sym, ap, subst, ◌∙◌, inl, inr}
 use Rattle.std.specs.Prelude.{not, length, option_map, unwrap_or, slice_get, slice_set, Contains, if◌then◌else◌}
 use Rattle.cas_base.proofs.Bools.{and_left}
 use Rattle.cas_ballot.specs.Members.{has_member}
@@ -16,7 +16,10 @@ use Rattle.cas_quorum.specs.declared.era.Era.{Era}
 use Rattle.cas_record.specs.declared.answer.Answer.{Answer}
 use Rattle.cas_record.specs.declared.answer.Answer.TheVariants as answer
 use Rattle.cas_record.specs.declared.mark.Mark.{Mark}
-use Rattle.cas_record.specs.declared.mark.Mark.TheVariants.{Harmed}
+use Rattle.cas_record.specs.declared.mark.Acknowledgment.{Acknowledgment}
+use Rattle.cas_record.specs.declared.mark.Mark.TheVariants.{Acked, Harmed, Voted}
+use Rattle.cas_protocol.specs.Reads.{acknowledgment_of}
+use Rattle.cas_model.specs.Exchanges.Read.{MarksRead, counted as is_counted, nothing, holders_of}
 use Rattle.cas_record.specs.declared.operator.Asked.{Asked}
 use Rattle.cas_record.specs.declared.operator.Asked.TheVariants as asked
 use Rattle.cas_record.specs.declared.operator.OpAnswer.{OpAnswer}
@@ -27,7 +30,7 @@ use Rattle.cas_model.specs.Eras.Course.{later_of}
 use Rattle.cas_model.specs.Eras.Listings.{counted, missing, why_short, greatest_age}
 use Rattle.cas_model.specs.Safe.{IsSafe, IsAskingSafe, IsExchangeSafe}
 use Rattle.cas_model.specs.Exchanges.Step as council
-use Rattle.cas_model.specs.Exchanges.Step.{StepOrder, StepTell, StepAskAll, StepTurnExchange, StepRefuseTurnExchange, StepGather, SaysTheSame, finished, told_over, told_marks, everyone, asked_by, new_exchange, plan_asked, listing_begun, listing_for, HasTag, WhereDrawn, harmed_exchange, harms, hears}
+use Rattle.cas_model.specs.Exchanges.Step.{StepOrder, StepTell, StepAskAll, StepTurnExchange, StepRefuseTurnExchange, StepGather, SaysTheSame, finished, told_over, told_marks, everyone, asked_by, new_exchange, read_era, plan_asked, listing_begun, listing_for, HasTag, WhereDrawn, harmed_exchange, harms, hears}
 use Rattle.cas_model.specs.Calls.Desks.{FailsToDraw}
 use Rattle.cas_model.specs.View.{DiskMeaning, Meaning, View, CallerView, era_at}
 use Rattle.cas_model.proofs.Places.{some_is, newest_or_older, contains_none, contains_at}
@@ -108,7 +111,7 @@ ask_blamed {S} {V} m old question new is by = by_case by.asks
     by_case : council.AsksAll m old question by.desk new → IsBlamed m new
     by_case (council.asks now tag flow up room tags now_is sends view) =
         subst (IsBlamed m) (sym view) (on_council m (desk_goes_on m is 0 by.desk now by.may.at_desk (tag_low m.disks _ by.desk now tag tags.has_tag) (ap (λ (d : DeskView V). d.down) now_is))
-        (record old.council { exchange = Some (new_exchange question tag (asked_by old question) (length old.marks)); plan = plan_asked question tag old.council.plan }) refl
+        (record old.council { exchange = Some (new_exchange question tag (asked_by old question) (length old.marks) (read_era old question)); plan = plan_asked question tag old.council.plan }) refl
         (desk_goes_on m is 0 by.desk now by.may.at_desk (tag_low m.disks _ by.desk now tag tags.has_tag) (ap (λ (d : DeskView V). d.down) now_is)).order tt
         (λ era there. is.later era (later_asked question tag old.council.plan era there))
         (λ exchange same acceptor member. is.used 0 acceptor (asked_everyone old question acceptor (subst (λ (e : ExchangeView). has_member e.members acceptor ≡ true) (sym (some_is same)) member))))
@@ -182,12 +185,30 @@ short_nobody heard short is = by_age (greatest_age heard)
     by_age None = is
     by_age (Some least) = refl
 
+-- what a read marks blames nobody
+votes_nobody : (key : List ℕ) (ballot : Ballot) (a : Acknowledgment) (by : List ℕ) (mark : Mark) → Contains (map (λ acceptor. Voted acceptor key ballot) by ++ Acked a ∷ []) mark → blame_by mark ≡ Nobody
+votes_nobody key ballot a [] mark there = elim (newest_or_older [] there) [
+  | inl now ↦ ap blame_by (sym now)
+  | inr none ↦ absurd (contains_none none)
+]
+votes_nobody key ballot a (one ∷ by) mark there = elim (newest_or_older (map (λ acceptor. Voted acceptor key ballot) by ++ Acked a ∷ []) there) [
+  | inl now ↦ ap blame_by (sym now)
+  | inr later ↦ votes_nobody key ballot a by mark later
+]
+
+read_nobody : (era : Era) (key : List ℕ) (found : List Answered) (older marks : List Mark) → MarksRead era key found older marks → (mark : Mark) → Contains marks mark → blame_by mark ≡ Nobody
+read_nobody era key found older marks (is_counted accepted agree above same) mark there =
+    votes_nobody key accepted.ballot (acknowledgment_of key accepted (holders_of accepted.ballot found)) (holders_of accepted.ballot found) mark (subst (λ (l : List Mark). Contains l mark) same there)
+read_nobody era key found older marks (nothing none same) mark there = absurd (contains_none (subst (λ (l : List Mark). Contains l mark) same there))
+
 pub gather_blamed : {S V : Type 0} (m : Meaning S V) (old new : View S V) → IsBlamed m old → StepGather old new → IsBlamed m new
 gather_blamed {S} {V} m old new is by = by_case by.gathers
   where
     by_case : council.Gathers old by.at.exchange new → IsBlamed m new
     by_case (council.crashed down view) = subst (IsBlamed m) (sym view) (on_gathered m is (told.Stopped answer.Crashed) (broken_fair m is by.at.exchange by.at.is_open down))
-    by_case (council.probed key found up question keeps view) = subst (IsBlamed m) (sym view) (on_gathered m is (told.Probed key found) tt)
+    by_case (council.probed key found up question plain keeps view) = subst (IsBlamed m) (sym view) (on_gathered m is (told.Probed key found) tt)
+    by_case (council.read key era found marks up question reads keeps made view) =
+        subst (IsBlamed m) (sym view) (on_marks m (on_gathered m is (told.Probed key found) tt) marks (λ mark there. fair_nobody m old.acceptors old.desks (blame_by mark) (read_nobody era key by.at.exchange.told (reverse old.marks) marks made mark there)))
     by_case (council.lists of listing up enough on view) =
         subst (IsBlamed m) (sym view) (on_council m is (record (hushed old.council) { exchange = None; plan = Some (with_listing of.plan listing) }) refl (hushed_order m old.acceptors old.desks old.council.order) tt
         (λ era there. is.later era (subst (λ (p : Option PlanView). Contains (later_of p) era) (sym of.is_plan) (later_listing of.plan listing era there))) (λ exchange none. absurd (cc none)))

@@ -26,6 +26,7 @@ asking_stops_none view this.Ages = refl
 asking_stops_none view this.Remove = refl
 asking_stops_none view this.List = refl
 asking_stops_none view (this.Probe key) = refl
+asking_stops_none view (this.Read key) = refl
 
 gathering_stops_none : (exchange : Option ExchangeView) → is_stop (gathering_by exchange) ≡ false
 gathering_stops_none None = refl

@@ -22,7 +22,8 @@ use Rattle.cas_model_causes.proofs.Exchanges.Asking.{probes_ask_all}
 use Rattle.cas_model_causes.proofs.Exchanges.Current.{probes_are_current}
 use Rattle.cas_model_causes.proofs.Exchanges.Probed.{probes_tell_so}
 use Rattle.cas_model_causes.proofs.Exchanges.TooOld.{probes_are_unaged}
-use Rattle.cas_model_causes.specs.Eras.Tellings.{AreTellingsSo, IsPassingBy, TellingsAreTrue}
+use Rattle.cas_model.specs.Exchanges.Tellings.{WasToldSo}
+use Rattle.cas_model_causes.specs.Eras.Tellings.{AreTellingsSo, IsPassing, TellingsAreTrue}
 use Rattle.cas_board_world.specs.Steady.{AreDesksUp, AreMembersUp, WereMembers, IsBlamed, IsFair, IsSteady, blame_by_call, blame_by_order, blame_by_exchange}
 
 -- each proposer works in the first era, and one that is not there in one without members
@@ -70,7 +71,7 @@ none_at (past at) none = cc none
 opening_truly : {S V : Type 0} (m : Meaning S V) (members : List ℕ) (view : View S V) → IsOpening m members view → TellingsAreTrue view
 opening_truly {S} {V} m members view is = record {
   tellings = subst (λ (l : List Mark). AreTellingsSo (suc view.last_proposer) (reverse l)) (sym is.marks) (record { so = λ at. absurd (none_at at refl) });
-  passing = subst (λ (c : Council). IsPassingBy c.order) (sym is.council) tt;
+  passing = subst (λ (c : Council). WasToldSo IsPassing c.order) (sym is.council) tt;
 }
 
 pub opening_steady : {S V : Type 0} (m : Meaning S V) (members : List ℕ) (view : View S V) → IsOpening m members view → HasPlaces view → AreMembersUp members view.acceptors → AreDesksUp view.desks → IsSteady m view

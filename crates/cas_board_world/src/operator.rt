@@ -9,8 +9,8 @@ ghost use Rattle.cas_model.specs.Step.{Step, Order as Orders, RefuseOrder, Tell,
 ghost use Rattle.cas_model.specs.View.{meaning, reserved_in_all};
 ghost use Rattle.cas_board_world.specs.Steady.{IsSteady};
 ghost use Rattle.cas_world.specs.Collection.Collect.{AreRemovalsDone};
-ghost use Rattle.cas_world.specs.Exchanges.Exchange.{MayAskThis, MayGather, HasGathered, asking_of, gathering_of, WasToldOrder};
-ghost use Rattle.cas_world.specs.Eras.Plans.{HasCollectedAll, HasFinished, MayTell, asked_to, IsUnderWay, MayOpenPlan, MayEnterNext};
+ghost use Rattle.cas_world.specs.Exchanges.Exchange.{MayAskThis, MayGather, MayGatherMembers, HasGathered, IsStopped, asking_of, gathering_of, WasToldOrder};
+ghost use Rattle.cas_world.specs.Eras.Plans.{HasCollectedAll, HasFinished, MayTell, asked_of, IsUnderWay, MayOpenPlan, MayEnterNext};
 
 use crate::world::SteadyWorld;
 use cas_ballot::AcceptorId;
@@ -18,7 +18,7 @@ use cas_change::Key;
 use cas_disk::Disk;
 use cas_record::{Answer, Asked, OpAnswer};
 use cas_slot::Shelf;
-use cas_world::{Exchange, Gathered, PlanKind};
+use cas_world::{Exchange, Gathered, Target};
 
 impl<S: Shelf, V: Disk> SteadyWorld<S, V> {
     /// As [`World::order`].
@@ -73,6 +73,7 @@ impl<S: Shelf, V: Disk> SteadyWorld<S, V> {
         ensures less { result ≡ Ok Gathered.More
             → left_to_list self.new.council.plan < left_to_list self.old.council.plan }
         ensures err { IfErr result (WasToldOrder self.new) }
+        ensures stopped { MayGatherMembers self.old → IfErr result IsStopped }
     {
         self.world.gather()
     }
@@ -88,14 +89,14 @@ impl<S: Shelf, V: Disk> SteadyWorld<S, V> {
         self.world.due_key()
     }
 
-    /// As [`World::open_plan`].
-    pub fn open_plan(&mut self, kind: PlanKind, id: AcceptorId) -> Result<(), OpAnswer>
-        requires { MayOpenPlan self.old (asked_to kind id) }
+    /// As [`World::open_change`].
+    pub fn open_change(&mut self, target: &Target) -> Result<(), OpAnswer>
+        requires { MayOpenPlan self.old (asked_of target.now) }
         ensures step { Step (meaning S.Shelf V.Disk) self.old OpensPlan self.new }
-        ensures ok { OnOk result (IsUnderWay self.new (asked_to kind id)) }
+        ensures ok { OnOk result (IsUnderWay self.new (asked_of target.now)) }
         ensures err { IfErr result (WasToldOrder self.new) }
     {
-        self.world.open_plan(kind, id)
+        self.world.open_change(target)
     }
 
     /// As [`World::enter_era`].

@@ -13,7 +13,7 @@ ghost use Rattle.cas_proposer.specs.Round.{is_preparing};
 ghost use Rattle.cas_record.specs.Legal.{IsLegal};
 ghost use Rattle.cas_world.specs.Collection.Collect.{renewal_in};
 ghost use Rattle.cas_world.specs.Exchanges.Exchange.{place_of};
-ghost use Rattle.cas_world.specs.Eras.Plans.{HasFinished, IsFor, IsAtEnd, IsPartial, IsUnderWay, asked_to, step_of, rescanned_of, entrant_of};
+ghost use Rattle.cas_world.specs.Eras.Plans.{HasFinished, IsFor, IsAtEnd, IsPartial, IsUnderWay, asked_of, step_of, rescanned_of, entrant_of};
 ghost use Rattle.cas_world.specs.Readers.{next_number, closed_in, IsVerdictIn};
 
 use crate::world::SteadyWorld;
@@ -26,7 +26,7 @@ use cas_quorum::Era;
 use cas_record::{Answer, Asked, OpAnswer, Record};
 use cas_round::RoundVerdict;
 use cas_slot::Shelf;
-use cas_world::PlanKind;
+use cas_world::Target;
 
 impl<S: Shelf, V: Disk> SteadyWorld<S, V> {
     /// As [`World::record`]. What the operator was told of changes of membership and of collections is so in it.
@@ -122,14 +122,14 @@ impl<S: Shelf, V: Disk> SteadyWorld<S, V> {
     }
 
     /// As [`World::finished_answer`].
-    pub fn finished_answer(&self, kind: PlanKind, id: AcceptorId) -> OpAnswer
-        requires under_way { IsUnderWay self.now (asked_to kind id) }
+    pub fn finished_answer(&self, target: &Target) -> OpAnswer
+        requires under_way { IsUnderWay self.now (asked_of target.now) }
         requires end { IsAtEnd self.now }
         ensures finished { HasFinished self.now result }
-        ensures names { finished (asked_to kind id) (era_at self.now 0).number
+        ensures names { finished (asked_of target.now) (era_at self.now 0).number
             (rescanned_of self.now.council.plan) result }
     {
-        self.world.finished_answer(kind, id)
+        self.world.finished_answer(target)
     }
 
     /// As [`World::enter_next`].

@@ -201,7 +201,8 @@ silent_now : (key : List ℕ) (due : CollectStep) (round : ℕ) (council now : C
 silent_now key due round council now at is = is ∙ ap (option_map silent_order) at.order
 
 gathered_silently : {S V : Type 0} (old new : View S V) (result : Gathered) → world.HasGathered old result new → ((k : List ℕ) (x : ExchangeView) → old.council.exchange ≡ Some x → is_of_collection x.question ≡ true) → new.council.order ≡ option_map silent_order old.council.order
-gathered_silently old new result (world.probed exchange key found is_open question is keeps told) of_it = absurd (cc (sym (of_it key exchange is_open) ∙ ap is_of_collection question))
+gathered_silently old new result (world.probed exchange key found is_open question plain is keeps told) of_it = absurd (cc (sym (of_it key exchange is_open) ∙ ap is_of_collection question))
+gathered_silently old new result (world.read exchange key era agreement found is_open question reads safe is keeps agrees told) of_it = absurd (cc (sym (of_it key exchange is_open) ∙ ap is_of_collection question))
 gathered_silently old new result (world.lists exchange places plan listing is_open question is_plan is next) of_it = absurd (cc (sym (of_it [] exchange is_open) ∙ ap is_of_collection question))
 gathered_silently old new result (world.acknowledged collection none is_collection is next) of_it = ap (λ (c : Council). c.order) next
 gathered_silently old new result (world.confirmed exchange collection removed kept is_open of_this is_collection is next) of_it = ap (λ (c : Council). c.order) next

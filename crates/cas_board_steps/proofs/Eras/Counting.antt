@@ -27,7 +27,7 @@ use Rattle.cas_board_steps.specs.Eras.Counting.{CountsTo, HasRisen, TellsCount}
 use Rattle.cas_board_steps.specs.Mine.{mine, call_of, AreOfCall, done_calls}
 use Rattle.cas_board_steps.specs.Calls.Open.{rescanned_behind, rescanned_in}
 use Rattle.cas_board_steps.specs.Exchanges.Orders.{IsAskingHarm}
-use Rattle.cas_board_steps.specs.OwnParts.{asked_of, asked_part, harms_part, question_part, step_part, round_part, open_part, caller_part, order_part, exchange_part, plan_part, collection_part, council_part, own_part}
+use Rattle.cas_board_steps.specs.OwnParts.{asked_of, asked_part, harms_part, reads_part, question_part, step_part, round_part, open_part, caller_part, order_part, exchange_part, plan_part, collection_part, council_part, own_part}
 use Rattle.cas_board_steps.proofs.Exchanges.Councils.{whole_is}
 use Rattle.cas_board_steps.proofs.Fronts.{mine_append, mine_own}
 use Rattle.cas_board_steps.proofs.Exchanges.Operating.{told_mine, tells_of}
@@ -242,7 +242,7 @@ order_skipped (Some order) later = skip_part ((if is_some order.told then 1 else
 exchange_skipped : (exchange : Option ExchangeView) (later : List ℕ) → rescanned_behind 0 (exchange_part exchange ++ later) ≡ rescanned_behind 0 later
 exchange_skipped None later = refl
 exchange_skipped (Some exchange) later =
-    skip_part (exchange.since ∷ harms_part exchange.question exchange.harmed ∷ length (asked_of exchange) ∷ asked_of exchange ++ question_part exchange.question) later
+    skip_part (exchange.since ∷ harms_part exchange.question exchange.harmed ∷ reads_part exchange.reads ∷ length (asked_of exchange) ∷ asked_of exchange ++ question_part exchange.question) later
 
 collection_skipped : (collection : Option CollectionView) → rescanned_behind 0 (collection_part collection) ≡ 0
 collection_skipped None = refl

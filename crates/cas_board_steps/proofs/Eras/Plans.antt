@@ -41,9 +41,9 @@ use Rattle.cas_board_steps.proofs.Calls.Events.{only_one, desks_set}
 use Rattle.cas_model.proofs.Places.{some_is, at_one, at_set}
 use Rattle.cas_world.specs.Exchanges.Exchange as world
 use Rattle.cas_world.specs.Exchanges.Exchange.{MayAskMembers, MayGather, HasGathered, WasToldOrder, asks_as, place_of, turn_of, refusal_of, gathering_by, gathering_of, question_in}
-use Rattle.cas_world.specs.declared.plans.PlanKind.{PlanKind}
-use Rattle.cas_world.specs.declared.plans.PlanKind.TheVariants.{Join, Leave}
-use Rattle.cas_world.specs.Eras.Plans.{asked_to, HasFinished, IsFor, IsUnderWay, IsPartial, MayEnterNext, MayOpenPlan, entrant_of, rescanned_of, step_of}
+use Rattle.cas_world.specs.declared.plans.Target.{Target}
+use Rattle.cas_world.specs.declared.plans.Target.TheVariants as target
+use Rattle.cas_world.specs.Eras.Plans.{asked_of, HasFinished, IsFor, IsUnderWay, IsPartial, MayEnterNext, MayOpenPlan, entrant_of, rescanned_of, step_of}
 use Rattle.cas_model.specs.Eras.Course.{next_era}
 use Rattle.cas_model_causes.specs.Eras.Tellings.{IsPassing}
 use Rattle.cas_board_steps.specs.Calls.Deeds.{harm_by}
@@ -429,7 +429,7 @@ lists_or_tells {S} {V} m old new asked places was by = by_case by.asks
           opens = λ some none. record {
             no_call = none;
             order = order_now;
-            exchange = council.new_exchange (NextKeys places) tag (council.asked_by old (NextKeys places)) (length old.marks);
+            exchange = council.new_exchange (NextKeys places) tag (council.asked_by old (NextKeys places)) (length old.marks) (council.read_era old (NextKeys places));
             is_open = ap (λ (w : View S V). w.council.exchange) is;
             places = places;
             question = refl;
@@ -551,7 +551,8 @@ gathers_list {S} {V} old new asked was by = by_case by.gathers
 
     by_case : Gathers old by.at.exchange new → GathersList old new asked
     by_case (council.crashed down is) = stopped answer.Crashed (leaves _ is refl refl refl refl) (ap (λ (w : View S V). w.council.order) is) (ap (λ (w : View S V). rescanned_of w.council.plan) is)
-    by_case (council.probed other found up question keeps is) = absurd (cc (sym asks ∙ question))
+    by_case (council.probed other found up question plain keeps is) = absurd (cc (sym asks ∙ question))
+    by_case (council.read other era found marks up question reads keeps made is) = absurd (cc (sym asks ∙ question))
     by_case (council.is_short of short up few is) = stopped _ (leaves _ is refl refl refl refl) (ap (λ (w : View S V). w.council.order) is) (ap (λ (w : View S V). rescanned_of w.council.plan) is)
     by_case (council.no_memory up is) = stopped (answer.NoMemory false) (leaves _ is refl refl refl refl) (ap (λ (w : View S V). w.council.order) is) (ap (λ (w : View S V). rescanned_of w.council.plan) is)
     by_case (council.lists of listing up enough on is) =
@@ -576,7 +577,8 @@ gather_list_held {S} {V} m old new asked result has kept step_ gathered_ =
     was = is_listing old asked has
 
     on : ((caller : CallerView) → IsAt new.callers 0 caller → caller.call ≡ None) → HasGathered old result new → IsChanging new asked
-    on none (world.probed exchange other found is_open question is keeps told) = absurd (cc (sym question ∙ ap (λ (x : ExchangeView). x.question) (some_is (sym is_open ∙ was.is_open)) ∙ was.question))
+    on none (world.probed exchange other found is_open question plain is keeps told) = absurd (cc (sym question ∙ ap (λ (x : ExchangeView). x.question) (some_is (sym is_open ∙ was.is_open)) ∙ was.question))
+    on none (world.read exchange other era agreement found is_open question reads safe is keeps agrees told) = absurd (cc (sym question ∙ ap (λ (x : ExchangeView). x.question) (some_is (sym is_open ∙ was.is_open)) ∙ was.question))
     on none (world.lists exchange places plan listing is_open question is_plan is next) = record {
       no_call = none;
       order = ap (λ (k : Council). k.order) next ∙ ap (option_map silent_order) was.order;
@@ -679,6 +681,7 @@ pub ordered_still : {S V : Type 0} (view : View S V) (asked : Asked) → HasPlan
 ordered_still view asked has = subst (λ (o : Option OrderView). IsSome o) (sym (is_changing view asked has).order) refl
 
 -- the answer at its end names what was asked for
-pub names_it : (kind : PlanKind) (id era rescanned : ℕ) (answer : OpAnswer) → finished (asked_to kind id) era rescanned answer → IsMembersAnswer (asked_to kind id) answer
-names_it Join id era rescanned answer is = subst (IsMembersAnswer (asked.Join id)) (sym is) refl
-names_it Leave id era rescanned answer is = subst (IsMembersAnswer (asked.Leave id)) (sym is) refl
+pub names_it : (to : Target) (era rescanned : ℕ) (answer : OpAnswer) → finished (asked_of to) era rescanned answer → IsMembersAnswer (asked_of to) answer
+names_it (target.Join id) era rescanned answer is = subst (IsMembersAnswer (asked.Join id)) (sym is) refl
+names_it (target.Leave id) era rescanned answer is = subst (IsMembersAnswer (asked.Leave id)) (sym is) refl
+names_it (target.Resize need_prep need_acc) era rescanned answer is = subst (IsMembersAnswer (asked.Resize need_prep need_acc)) (sym is) refl

@@ -8,9 +8,10 @@ use Rattle.cas_model.specs.Collection.State.{CollectionView}
 use Rattle.cas_model.specs.Council.{MemberPlace, Question, Probe, NextKeys, NewAges, Removal, ExchangeView, OrderView, PlanView, Council}
 use Rattle.cas_model.specs.View.{View, CallView, CallerView, IsAt}
 use Rattle.cas_model.proofs.Places.{some_is}
-use Rattle.cas_board_steps.specs.OwnParts.{framed, open_part, caller_part, asked_part, due_part, question_part, asked_of, harms_part, order_part, exchange_part, plan_part, collection_part, council_part, own_part}
+use Rattle.cas_board_steps.specs.OwnParts.{framed, open_part, caller_part, asked_part, due_part, question_part, asked_of, harms_part, reads_part, order_part, exchange_part, plan_part, collection_part, council_part, own_part}
 use Rattle.cas_board_steps.specs.Calls.Open.{NothingIsOpen}
-use Rattle.cas_board_steps.specs.Exchanges.Orders.{new_order, HasOrder, HasProbe, HasHarms, WasAskedBehind}
+use Rattle.cas_board_steps.specs.Exchanges.Orders.{asked_for, reads_flag, new_order, HasOrder, HasProbe, HasHarms, WasAskedBehind}
+use Rattle.cas_board_steps.specs.declared.orders.Inquiry.{Inquiry}
 
 -- ---- lists in front of others
 pub append_same : (p q r s : List ℕ) → length p ≡ length q → p ++ r ≡ q ++ s → (p ≡ q) × (r ≡ s)
@@ -58,7 +59,7 @@ order_as_part None = refl
 order_as_part (Some order) = refl
 
 exchange_body : ExchangeView → List ℕ
-exchange_body exchange = exchange.since ∷ harms_part exchange.question exchange.harmed ∷ length (asked_of exchange) ∷ asked_of exchange ++ question_part exchange.question
+exchange_body exchange = exchange.since ∷ harms_part exchange.question exchange.harmed ∷ reads_part exchange.reads ∷ length (asked_of exchange) ∷ asked_of exchange ++ question_part exchange.question
 
 exchange_as_part : (x : Option ExchangeView) → exchange_part x ≡ part_of 2 (option_map exchange_body x)
 unfolding exchange_body
@@ -192,17 +193,19 @@ pub record IsLikeExchange (open_ : Option ExchangeView) (exchange : ExchangeView
   pub asked : asked_of now ≡ asked_of exchange
   pub question : question_part now.question ≡ question_part exchange.question
   pub harms : harms_part now.question now.harmed ≡ harms_part exchange.question exchange.harmed
+  pub reads : reads_part now.reads ≡ reads_part exchange.reads
   pub since : now.since ≡ exchange.since
 
 pub exchange_told : (x : Option ExchangeView) (exchange : ExchangeView) → exchange_part x ≡ exchange_part (Some exchange) → IsLikeExchange x exchange
 exchange_told None exchange e = absurd (let h : 9 ≡ 2 = ap kind_of e in omega (arith, h))
 exchange_told (Some now) exchange e =
-    let body : now.since ∷ harms_part now.question now.harmed ∷ length (asked_of now) ∷ asked_of now ++ question_part now.question ≡ exchange.since ∷ harms_part exchange.question exchange.harmed ∷ length (asked_of exchange) ∷ asked_of exchange ++ question_part exchange.question = body_same 2 _ _ e in
+    let body : now.since ∷ harms_part now.question now.harmed ∷ reads_part now.reads ∷ length (asked_of now) ∷ asked_of now ++ question_part now.question ≡ exchange.since ∷ harms_part exchange.question exchange.harmed ∷ reads_part exchange.reads ∷ length (asked_of exchange) ∷ asked_of exchange ++ question_part exchange.question = body_same 2 _ _ e in
     let since : now.since ≡ exchange.since = cc body in
+    let reads : reads_part now.reads ≡ reads_part exchange.reads = cc body in
     let harms : harms_part now.question now.harmed ≡ harms_part exchange.question exchange.harmed = cc body in
     let long : length (asked_of now) ≡ length (asked_of exchange) = cc body in
     let both = append_same (asked_of now) (asked_of exchange) (question_part now.question) (question_part exchange.question) long (cc body) in
-    record { now = now; is_open = refl; asked = both.0; question = both.1; harms = harms; since = since }
+    record { now = now; is_open = refl; asked = both.0; question = both.1; harms = harms; reads = reads; since = since }
 
 -- a change of membership for the same, with the same key due
 pub record IsLikePlan (open_ : Option PlanView) (plan : PlanView) : Type 0 where
@@ -319,27 +322,29 @@ is_ordered view asked has =
       collection = no_collection view.council.collection (it.like.collection ∙ ap collection_part has.collection);
     }
 
-pub record IsProbed {S V : Type 0} (view : View S V) (key members : List ℕ) : Type 0 where
+pub record IsProbed {S V : Type 0} (view : View S V) (asks_for : Inquiry) (key members : List ℕ) : Type 0 where
   pub no_call : (caller : CallerView) → IsAt view.callers 0 caller → caller.call ≡ None
-  pub order : view.council.order ≡ Some (new_order (asked.Probe key))
+  pub order : view.council.order ≡ Some (new_order (asked_for asks_for key))
   pub exchange : ExchangeView
   pub is_open : view.council.exchange ≡ Some exchange
   pub question : exchange.question ≡ Probe key
+  pub reads : reads_part exchange.reads ≡ reads_flag asks_for
   pub asks : asked_of exchange ≡ members
 
-pub has_probe : {S V : Type 0} (view : View S V) (key members : List ℕ) → IsProbed view key members → HasProbe key members (own_part view 0)
-has_probe view key members is = record { council = view.council; is = own_is_council view is.no_call; order = is.order; exchange = is.exchange; is_open = is.is_open; question = is.question; asks = is.asks }
+pub has_probe : {S V : Type 0} (view : View S V) (asks_for : Inquiry) (key members : List ℕ) → IsProbed view asks_for key members → HasProbe asks_for key members (own_part view 0)
+has_probe view asks_for key members is = record { council = view.council; is = own_is_council view is.no_call; order = is.order; exchange = is.exchange; is_open = is.is_open; question = is.question; reads = is.reads; asks = is.asks }
 
-pub is_probed : {S V : Type 0} (view : View S V) (key members : List ℕ) → HasProbe key members (own_part view 0) → IsProbed view key members
-is_probed view key members has =
+pub is_probed : {S V : Type 0} (view : View S V) (asks_for : Inquiry) (key members : List ℕ) → HasProbe asks_for key members (own_part view 0) → IsProbed view asks_for key members
+is_probed view asks_for key members has =
     let it = none_beside view has.council has.is in
     let x = exchange_told view.council.exchange has.exchange (it.like.exchange ∙ ap exchange_part has.is_open) in
     record {
       no_call = it.no_call;
-      order = order_told view.council.order (asked.Probe key) (it.like.order ∙ ap order_part has.order);
+      order = order_told view.council.order (asked_for asks_for key) (it.like.order ∙ ap order_part has.order);
       exchange = x.now;
       is_open = x.is_open;
       question = probe_told x.now.question key (x.question ∙ ap question_part has.question);
+      reads = x.reads ∙ has.reads;
       asks = x.asked ∙ has.asks;
     }
 

@@ -10,6 +10,7 @@ use Rattle.cas_base.proofs.Bools.{and_left, or_cases, or_left}
 use Rattle.cas_fate.specs.declared.fate.Verdict.{Verdict}
 use Rattle.cas_flow.specs.Flow.{queue_at}
 use Rattle.cas_proposer.specs.Desk.{DeskView}
+use Rattle.cas_quorum.specs.declared.era.Era.{Era}
 use Rattle.cas_record.proofs.Tests.{nat_same, nat_is}
 use Rattle.cas_record.specs.declared.answer.Answer.TheVariants as answer
 use Rattle.cas_record.specs.declared.mark.Mark.{Mark}
@@ -44,7 +45,7 @@ use Rattle.cas_board_steps.specs.Kept.{IsKept, Makes}
 use Rattle.cas_board_steps.specs.Mine.{mine, losses}
 use Rattle.cas_board_steps.specs.Exchanges.Orders.{IsAskingHarm, OperatesIn, IsToldIn}
 use Rattle.cas_board_steps.specs.Owners.{owner_of, MayAdd}
-use Rattle.cas_board_steps.specs.OwnParts.{framed, asked_of, harms_part, question_part, order_part, exchange_part, plan_part, collection_part, council_part, own_part}
+use Rattle.cas_board_steps.specs.OwnParts.{framed, asked_of, harms_part, reads_part, question_part, order_part, exchange_part, plan_part, collection_part, council_part, own_part}
 use Rattle.cas_board_steps.proofs.Calls.Acts.{spares_same, spares_set, SparesRounds, spares_rounds, rounds_then, Acts, makes_of, kept_by}
 use Rattle.cas_board_steps.proofs.Exchanges.Councils.{idle_free, own_is_council}
 use Rattle.cas_board_steps.proofs.Calls.Events.{Fine, fine_none, fine_votes, fine_harm, gone_harms, only_one}
@@ -261,6 +262,7 @@ pub record TurnsAsking {S V : Type 0} (most : ℕ) (old new : View S V) (exchang
   pub next : ExchangeView
   pub council : new.council ≡ record old.council { exchange = Some next }
   pub question : next.question ≡ exchange.question
+  pub reads : next.reads ≡ exchange.reads
   pub since : next.since ≡ exchange.since
   pub asked : asked_of next ≡ asked_of exchange
   pub harmed : length next.harmed ≤ length exchange.harmed + length (mine 0 marks)
@@ -320,6 +322,7 @@ turns_asking {S} {V} m v old new by = by_case by.turn
       next = council.harmed_exchange by.at.exchange member;
       council = ap (λ (w : View S V). w.council) is ∙ councils;
       question = refl;
+      reads = refl;
       since = refl;
       asked = refl;
       harmed = harmed_more by.at.exchange member down;
@@ -333,6 +336,7 @@ turns_asking {S} {V} m v old new by = by_case by.turn
       next = by.at.exchange;
       council = ap (λ (w : View S V). w.council) is ∙ same_council;
       question = refl;
+      reads = refl;
       since = refl;
       asked = refl;
       harmed = omega arith;
@@ -345,6 +349,7 @@ turns_asking {S} {V} m v old new by = by_case by.turn
       next = by.at.exchange;
       council = ap (λ (w : View S V). w.council) is ∙ same_council;
       question = refl;
+      reads = refl;
       since = refl;
       asked = refl;
       harmed = omega arith;
@@ -358,22 +363,24 @@ turns_asking {S} {V} m v old new by = by_case by.turn
       next = record by.at.exchange { told = hears reply by.at.exchange.told };
       council = ap (λ (w : View S V). w.council) is;
       question = refl;
+      reads = refl;
       since = refl;
       asked = hears_named reply by.at.exchange.told;
       harmed = omega arith;
     }
 
 -- caller 0's own part stays as it is, where it is no probe
-parts_kept : (c : Council) (next exchange : ExchangeView) → c.exchange ≡ Some exchange → next.question ≡ exchange.question → next.since ≡ exchange.since → asked_of next ≡ asked_of exchange → harms_part next.question next.harmed ≡ harms_part exchange.question exchange.harmed → council_part (record c { exchange = Some next }) ≡ council_part c
-parts_kept c next exchange is_open question since asks harms =
-    ap₂ (λ (s n : ℕ). order_part c.order ++ framed 2 (s ∷ n ∷ length (asked_of next) ∷ asked_of next ++ question_part next.question) ++ plan_part c.plan ++ collection_part c.collection) since harms
-    ∙ ap₂ (λ (q : Question) (l : List ℕ). order_part c.order ++ framed 2 (exchange.since ∷ harms_part exchange.question exchange.harmed ∷ length l ∷ l ++ question_part q) ++ plan_part c.plan ++ collection_part c.collection) question asks
+parts_kept : (c : Council) (next exchange : ExchangeView) → c.exchange ≡ Some exchange → next.question ≡ exchange.question → next.reads ≡ exchange.reads → next.since ≡ exchange.since → asked_of next ≡ asked_of exchange → harms_part next.question next.harmed ≡ harms_part exchange.question exchange.harmed → council_part (record c { exchange = Some next }) ≡ council_part c
+parts_kept c next exchange is_open question reads since asks harms =
+    ap₂ (λ (s n : ℕ). order_part c.order ++ framed 2 (s ∷ n ∷ reads_part next.reads ∷ length (asked_of next) ∷ asked_of next ++ question_part next.question) ++ plan_part c.plan ++ collection_part c.collection) since harms
+    ∙ ap (λ (r : Option Era). order_part c.order ++ framed 2 (exchange.since ∷ harms_part exchange.question exchange.harmed ∷ reads_part r ∷ length (asked_of next) ∷ asked_of next ++ question_part next.question) ++ plan_part c.plan ++ collection_part c.collection) reads
+    ∙ ap₂ (λ (q : Question) (l : List ℕ). order_part c.order ++ framed 2 (exchange.since ∷ harms_part exchange.question exchange.harmed ∷ reads_part exchange.reads ∷ length l ∷ l ++ question_part q) ++ plan_part c.plan ++ collection_part c.collection) question asks
     ∙ ap (λ (o : Option ExchangeView). order_part c.order ++ exchange_part o ++ plan_part c.plan ++ collection_part c.collection) (sym is_open)
 
 pub own_kept : {S V : Type 0} (most : ℕ) (old new : View S V) (exchange : ExchangeView) → old.council.exchange ≡ Some exchange → TurnsAsking most old new exchange → ((caller : CallerView) → IsAt old.callers 0 caller → caller.call ≡ None) → ((harmed : List ℕ) → harms_part exchange.question harmed ≡ 0) → own_part new 0 ≡ own_part old 0
 own_kept most old new exchange is_open turns none no_probe =
     own_is_council new (none_then old new turns.marks turns.leaves none) ∙ ap council_part turns.council
-    ∙ parts_kept old.council turns.next exchange is_open turns.question turns.since turns.asked (ap (λ (q : Question). harms_part q turns.next.harmed) turns.question ∙ no_probe turns.next.harmed ∙ sym (no_probe exchange.harmed))
+    ∙ parts_kept old.council turns.next exchange is_open turns.question turns.reads turns.since turns.asked (ap (λ (q : Question). harms_part q turns.next.harmed) turns.question ∙ no_probe turns.next.harmed ∙ sym (no_probe exchange.harmed))
     ∙ sym (own_is_council old none)
 
 -- no memory is found for it, and the operator is told

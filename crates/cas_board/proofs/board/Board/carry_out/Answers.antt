@@ -1,5 +1,5 @@
 use Rattle.std.proofs.Common.{ap, ◌∙◌}
-use Rattle.cas_world.specs.Eras.Plans.{asked_to}
+use Rattle.cas_world.specs.Eras.Plans.{asked_of}
 use Rattle.cas_board_steps.specs.Eras.Membership.{IsPlanMark, IsRescanMark}
 use Rattle.cas_board_steps.proofs.Calls.Tries.{rescan_within}
 use Rattle.cas_board.proofs.Sittings.{counted_none}
@@ -14,9 +14,9 @@ pub returns-in-Ok-clause-told : goal.returns-in-Ok-clause-told
 returns-in-Ok-clause-told g c = (
   c.take_steps.ensures.told.0,
   c.take_steps.ensures.told.1,
-  told_behind (asked_to c.args.aim.now.kind c.args.aim.now.id) (IsRescanMark c.args.tries) c.take_steps.ensures.told.0 c.args.pass.now c.take_up_once.new.pass c.take_steps.new.pass c.take_steps.result (ap (λ s. s.number) c.take_up_once.ensures.pass) c.in-Ok.ensures.front c.in-Ok.ensures.counted c.take_steps.ensures.told.2,
+  told_behind (asked_of c.args.target.now) (IsRescanMark c.args.tries) c.take_steps.ensures.told.0 c.args.pass.now c.take_up_once.new.pass c.take_steps.new.pass c.take_steps.result (ap (λ s. s.number) c.take_up_once.ensures.pass) c.in-Ok.ensures.front c.in-Ok.ensures.counted c.take_steps.ensures.told.2,
 )
 
 pub returns-in-Err-clause-told : goal.returns-in-Err-clause-told
 returns-in-Err-clause-told g c =
-    (0, counted_none (g.F.Fate.harm_count c.args.fate.now), told_less IsPlanMark (IsRescanMark c.args.tries) (rescan_within c.args.tries) (λ enters proposer era. tt) (asked_to c.args.aim.now.kind c.args.aim.now.id) 0 c.args.pass.now c.take_up_once.new.pass c.in-Err.told c.in-Err.ensures.told)
+    (0, counted_none (g.F.Fate.harm_count c.args.fate.now), told_less IsPlanMark (IsRescanMark c.args.tries) (rescan_within c.args.tries) (λ enters proposer era. tt) (asked_of c.args.target.now) 0 c.args.pass.now c.take_up_once.new.pass c.in-Err.told c.in-Err.ensures.told)

@@ -1,5 +1,5 @@
 use Rattle.std.proofs.Common.{refl, ap, ◌∙◌}
-use Rattle.cas_world.specs.Eras.Plans.{asked_to}
+use Rattle.cas_world.specs.Eras.Plans.{asked_of}
 use Rattle.cas_board_steps.specs.Eras.Membership.{IsRescanMark}
 use Rattle.cas_board.specs.Operations.{is_not_begun}
 use Rattle.cas_board.proofs.Sittings.{counted_none}
@@ -16,8 +16,8 @@ returns-in-Ok-clause-free g c =
 
 pub returns-in-Ok-clause-operates : goal.returns-in-Ok-clause-operates
 returns-in-Ok-clause-operates g c =
-    operates_told (asked_to c.args.aim.now.kind c.args.aim.now.id) (IsRescanMark c.args.tries) c.carry_out.ensures.told.0 _ _ c.args.pass.now c.carry_out.new.pass c.carry_out.result c.carry_out.ensures.told.1
-    (told_behind (asked_to c.args.aim.now.kind c.args.aim.now.id) (IsRescanMark c.args.tries) c.carry_out.ensures.told.0 c.args.pass.now c.order_members_once.new.pass c.carry_out.new.pass c.carry_out.result (ap (λ s. s.number) c.order_members_once.ensures.pass) c.order_members_once.ensures.front c.order_members_once.ensures.counted c.carry_out.ensures.told.2)
+    operates_told (asked_of c.args.target.now) (IsRescanMark c.args.tries) c.carry_out.ensures.told.0 _ _ c.args.pass.now c.carry_out.new.pass c.carry_out.result c.carry_out.ensures.told.1
+    (told_behind (asked_of c.args.target.now) (IsRescanMark c.args.tries) c.carry_out.ensures.told.0 c.args.pass.now c.order_members_once.new.pass c.carry_out.new.pass c.carry_out.result (ap (λ s. s.number) c.order_members_once.ensures.pass) c.order_members_once.ensures.front c.order_members_once.ensures.counted c.carry_out.ensures.told.2)
 
 pub returns-in-Err-clause-free : goal.returns-in-Err-clause-free
 returns-in-Err-clause-free g c =

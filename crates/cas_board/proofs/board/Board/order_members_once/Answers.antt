@@ -1,5 +1,5 @@
 use Rattle.std.proofs.Common.{[], length, sym, ap, subst, ◌∙◌}
-use Rattle.cas_world.specs.Eras.Plans.{asked_to}
+use Rattle.cas_world.specs.Eras.Plans.{asked_of}
 use Rattle.cas_board_steps.specs.Calls.Deeds.{IsRefusalBehind}
 use Rattle.cas_board_steps.specs.Kept.{Makes}
 use Rattle.cas_board_steps.specs.Calls.Open.{NothingIsOpen}
@@ -25,7 +25,7 @@ returns-clause-front g c =
 
 pub returns-clause-ordered : goal.returns-clause-ordered
 returns-clause-ordered g c =
-    on_ok c.order_members-ordered.result (subst (HasOrder (asked_to c.args.aim.now.kind c.args.aim.now.id)) (sym (operator_own c.hold-shared.result c.order_members-ordered.new.world c.args.pass.now c.give_back.new.pass (was_held 0 c.hold-shared.result c.order_members-ordered.new.world c.args.pass.now c.hold-shared.new.seat c.give_back.new.pass c.hold-shared.ensures.seen c.hold-shared.ensures.own c.hold-shared.ensures.seat (sym (ap (λ s. s.number) c.hold-shared.ensures.seat ∙ c.requires.operator)) c.give_back.ensures.pass)))) c.order_members-ordered.ensures.ordered
+    on_ok c.order_members-ordered.result (subst (HasOrder (asked_of c.args.target.now)) (sym (operator_own c.hold-shared.result c.order_members-ordered.new.world c.args.pass.now c.give_back.new.pass (was_held 0 c.hold-shared.result c.order_members-ordered.new.world c.args.pass.now c.hold-shared.new.seat c.give_back.new.pass c.hold-shared.ensures.seen c.hold-shared.ensures.own c.hold-shared.ensures.seat (sym (ap (λ s. s.number) c.hold-shared.ensures.seat ∙ c.requires.operator)) c.give_back.ensures.pass)))) c.order_members-ordered.ensures.ordered
 
 pub returns-clause-refused : goal.returns-clause-refused
 returns-clause-refused g c =

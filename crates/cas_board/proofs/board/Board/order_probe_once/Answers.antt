@@ -1,10 +1,9 @@
 use Rattle.std.proofs.Common.{[], length, sym, ap, subst, ◌∙◌}
-use Rattle.cas_record.specs.declared.operator.Asked.TheVariants as asked
 use Rattle.cas_world.specs.Eras.Plans.{rescanned_of}
 use Rattle.cas_board_steps.specs.Calls.Deeds.{IsRefusalBehind}
 use Rattle.cas_board_steps.specs.Kept.{Makes}
 use Rattle.cas_board_steps.specs.Calls.Open.{NothingIsOpen}
-use Rattle.cas_board_steps.specs.Exchanges.Orders.{HasOrder}
+use Rattle.cas_board_steps.specs.Exchanges.Orders.{asked_for, HasOrder}
 use Rattle.cas_board_steps.specs.OwnParts.{own_part}
 use Rattle.cas_board.proofs.Sittings.{was_held, gives_back}
 use Rattle.cas_board.proofs.Operating.{operator_part, operator_made, operator_own, on_ok, if_err, still_counted}
@@ -22,7 +21,7 @@ pub returns-clause-front : goal.returns-clause-front
 returns-clause-front g c = operator_made c.hold-shared.result c.order_probe-ordered.new.world c.args.pass.now c.give_back.new.pass (was_held 0 c.hold-shared.result c.order_probe-ordered.new.world c.args.pass.now c.hold-shared.new.seat c.give_back.new.pass c.hold-shared.ensures.seen c.hold-shared.ensures.own c.hold-shared.ensures.seat (sym (ap (λ s. s.number) c.hold-shared.ensures.seat ∙ c.requires.operator)) c.give_back.ensures.pass) [] (subst (λ v. Makes 0 v c.order_probe-ordered.new.world []) c.shared.view_is c.order_probe-ordered.ensures.makes)
 
 pub returns-clause-ordered : goal.returns-clause-ordered
-returns-clause-ordered g c = on_ok c.order_probe-ordered.result (subst (HasOrder (asked.Probe c.args.key.now)) (sym (operator_own c.hold-shared.result c.order_probe-ordered.new.world c.args.pass.now c.give_back.new.pass (was_held 0 c.hold-shared.result c.order_probe-ordered.new.world c.args.pass.now c.hold-shared.new.seat c.give_back.new.pass c.hold-shared.ensures.seen c.hold-shared.ensures.own c.hold-shared.ensures.seat (sym (ap (λ s. s.number) c.hold-shared.ensures.seat ∙ c.requires.operator)) c.give_back.ensures.pass)))) c.order_probe-ordered.ensures.ordered
+returns-clause-ordered g c = on_ok c.order_probe-ordered.result (subst (HasOrder (asked_for c.args.inquiry c.args.key.now)) (sym (operator_own c.hold-shared.result c.order_probe-ordered.new.world c.args.pass.now c.give_back.new.pass (was_held 0 c.hold-shared.result c.order_probe-ordered.new.world c.args.pass.now c.hold-shared.new.seat c.give_back.new.pass c.hold-shared.ensures.seen c.hold-shared.ensures.own c.hold-shared.ensures.seat (sym (ap (λ s. s.number) c.hold-shared.ensures.seat ∙ c.requires.operator)) c.give_back.ensures.pass)))) c.order_probe-ordered.ensures.ordered
 
 pub returns-clause-refused : goal.returns-clause-refused
 returns-clause-refused g c =

@@ -1,5 +1,5 @@
 use Rattle.std.proofs.Common.{sym, subst, ◌∙◌}
-use Rattle.cas_world.specs.Eras.Plans.{asked_to}
+use Rattle.cas_world.specs.Eras.Plans.{asked_of}
 use Rattle.cas_board_steps.specs.Calls.Deeds.{harm_by}
 use Rattle.cas_board_steps.specs.Eras.Membership.{HasListing, IsListedTo, IsPlanMark}
 use Rattle.cas_board.proofs.Passes.{still_pass}
@@ -33,7 +33,7 @@ returns-in-Err-clause-pass g c =
 
 pub returns-in-Err-clause-told : goal.returns-in-Err-clause-told
 returns-in-Err-clause-told g c =
-    order_ends IsPlanMark _ _ c.args.pass.now c.loop.pass c.verdict_for-verdict.new.pass c.loop.invariant.run c.verdict_for-verdict.ensures.pass (harm_by c.verdict_for-verdict.result) _ c.list_on_once.new.pass c.verdict_for-verdict.ensures.front c.verdict_for-verdict.ensures.counted c.list_on_once.ensures.pass (asked_to c.args.aim.now.kind c.args.aim.now.id) c.in-Err.told c.in-Err.ensures.told
+    order_ends IsPlanMark _ _ c.args.pass.now c.loop.pass c.verdict_for-verdict.new.pass c.loop.invariant.run c.verdict_for-verdict.ensures.pass (harm_by c.verdict_for-verdict.result) _ c.list_on_once.new.pass c.verdict_for-verdict.ensures.front c.verdict_for-verdict.ensures.counted c.list_on_once.ensures.pass (asked_of c.args.target.now) c.in-Err.told c.in-Err.ensures.told
 
 pub loop-init : goal.loop-init
 loop-init g c =
@@ -41,12 +41,12 @@ loop-init g c =
 
 pub list_on_once-requires-clause-lists : goal.list_on_once-requires-clause-lists
 list_on_once-requires-clause-lists g c =
-    subst (HasListing (asked_to c.args.aim.now.kind c.args.aim.now.id)) (sym (order_own IsPlanMark _ _ c.args.pass.now c.loop.pass c.verdict_for-verdict.new.pass c.loop.invariant.run c.verdict_for-verdict.ensures.pass)) c.loop.invariant.lists
+    subst (HasListing (asked_of c.args.target.now)) (sym (order_own IsPlanMark _ _ c.args.pass.now c.loop.pass c.verdict_for-verdict.new.pass c.loop.invariant.run c.verdict_for-verdict.ensures.pass)) c.loop.invariant.lists
 
 pub returns-in-Ok-Over-clause-planned : goal.returns-in-Ok-Over-clause-planned
 returns-in-Ok-Over-clause-planned g c =
-    subst (IsListedTo (asked_to c.args.aim.now.kind c.args.aim.now.id) c.list_on_once.new.pass.own) c.in-Ok-Over.field-0-is c.in-Ok-Over.ensures.listed
+    subst (IsListedTo (asked_of c.args.target.now) c.list_on_once.new.pass.own) c.in-Ok-Over.field-0-is c.in-Ok-Over.ensures.listed
 
 pub loop-preserved : goal.loop-preserved
 loop-preserved g c =
-    record { run = order_goes_on IsPlanMark _ _ c.args.pass.now c.loop.pass c.verdict_for-verdict.new.pass c.loop.invariant.run c.verdict_for-verdict.ensures.pass (harm_by c.verdict_for-verdict.result) _ c.list_on_once.new.pass c.verdict_for-verdict.ensures.front c.verdict_for-verdict.ensures.counted c.list_on_once.ensures.pass c.in-Ok-Waits.ensures.goes_on; lists = subst (IsListedTo (asked_to c.args.aim.now.kind c.args.aim.now.id) c.list_on_once.new.pass.own) c.in-Ok-Waits.field-0-is c.in-Ok-Waits.ensures.listed }
+    record { run = order_goes_on IsPlanMark _ _ c.args.pass.now c.loop.pass c.verdict_for-verdict.new.pass c.loop.invariant.run c.verdict_for-verdict.ensures.pass (harm_by c.verdict_for-verdict.result) _ c.list_on_once.new.pass c.verdict_for-verdict.ensures.front c.verdict_for-verdict.ensures.counted c.list_on_once.ensures.pass c.in-Ok-Waits.ensures.goes_on; lists = subst (IsListedTo (asked_of c.args.target.now) c.list_on_once.new.pass.own) c.in-Ok-Waits.field-0-is c.in-Ok-Waits.ensures.listed }

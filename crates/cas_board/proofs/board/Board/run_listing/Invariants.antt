@@ -1,4 +1,4 @@
-use Rattle.cas_world.specs.Eras.Plans.{asked_to}
+use Rattle.cas_world.specs.Eras.Plans.{asked_of}
 use Rattle.cas_board_steps.specs.Eras.Membership.{HasListing, IsPlanMark}
 use Rattle.cas_board.proofs.Operating.{HasRunOrder}
 use Rattle.cas_board.proofs.board.Board.run_listing.Given as goal
@@ -6,5 +6,5 @@ use Rattle.cas_board.proofs.board.Board.run_listing.Given as goal
 abbrev pub invariant-loop : goal.invariant-loop
 invariant-loop g l = record {
   run : HasRunOrder IsPlanMark (g.F.Fate.harm_count l.initial.fate) (g.F.Fate.harm_count l.fate) l.initial.pass l.pass;
-  lists : HasListing (asked_to l.aim.kind l.aim.id) l.pass.own;
+  lists : HasListing (asked_of l.target) l.pass.own;
 }

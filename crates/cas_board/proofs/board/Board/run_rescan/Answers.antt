@@ -1,6 +1,6 @@
 use Rattle.std.proofs.Common.{sym, ap, subst, ◌∙◌}
 use Rattle.std.proofs.lemmas.Bool.{ltb-true, ltb-false}
-use Rattle.cas_world.specs.Eras.Plans.{asked_to}
+use Rattle.cas_world.specs.Eras.Plans.{asked_of}
 use Rattle.cas_board_steps.specs.Calls.Deeds.{harm_by}
 use Rattle.cas_board_steps.specs.Eras.Membership.{HasRescan, RoundsAreKept, IsRescannedTo, IsPlanMark, IsRescanMark}
 use Rattle.cas_board_steps.specs.Calls.Stages.{tells_met}
@@ -37,7 +37,7 @@ returns-in-Err-clause-pass g c =
 
 pub returns-in-Err-clause-told : goal.returns-in-Err-clause-told
 returns-in-Err-clause-told g c =
-    order_ends (IsRescanMark c.args.tries) _ _ c.args.pass.now c.loop.pass c.verdict_at-verdict.new.pass (run_less IsPlanMark (IsRescanMark c.args.tries) (rescan_within c.args.tries) (λ enters proposer era. tt) _ _ c.args.pass.now c.loop.pass c.loop.invariant.run) c.verdict_at-verdict.ensures.pass (harm_by c.verdict_at-verdict.result) _ c.rescan_on_once.new.pass c.verdict_at-verdict.ensures.front c.verdict_at-verdict.ensures.counted c.rescan_on_once.ensures.pass (asked_to c.args.aim.now.kind c.args.aim.now.id) c.in-Err.told
+    order_ends (IsRescanMark c.args.tries) _ _ c.args.pass.now c.loop.pass c.verdict_at-verdict.new.pass (run_less IsPlanMark (IsRescanMark c.args.tries) (rescan_within c.args.tries) (λ enters proposer era. tt) _ _ c.args.pass.now c.loop.pass c.loop.invariant.run) c.verdict_at-verdict.ensures.pass (harm_by c.verdict_at-verdict.result) _ c.rescan_on_once.new.pass c.verdict_at-verdict.ensures.front c.verdict_at-verdict.ensures.counted c.rescan_on_once.ensures.pass (asked_of c.args.target.now) c.in-Err.told
     (c.in-Err.ensures.told c.args.tries (λ no_more. rounds_spent c.args.tries c.loop.rounds (tells_met c.loop.stage) c.verdict_at-verdict.new.pass.own (tried_asked c.args.tries c.loop.rounds (tells_met c.loop.stage) c.loop.pass c.verdict_at-verdict.new.pass c.verdict_at-verdict.ensures.pass c.loop.invariant.tried) c.rounds_with-rounds.result c.rounds_with-rounds.ensures (ltb-false _ _ no_more)))
 
 pub loop-init : goal.loop-init
@@ -46,7 +46,7 @@ loop-init g c =
 
 pub rescan_on_once-requires-clause-rescans : goal.rescan_on_once-requires-clause-rescans
 rescan_on_once-requires-clause-rescans g c =
-    subst (HasRescan (asked_to c.args.aim.now.kind c.args.aim.now.id) c.args.rescan.begun.call c.args.rescan.key) (sym (order_own IsPlanMark _ _ c.args.pass.now c.loop.pass c.verdict_at-verdict.new.pass c.loop.invariant.run c.verdict_at-verdict.ensures.pass)) c.loop.invariant.rescans
+    subst (HasRescan (asked_of c.args.target.now) c.args.rescan.begun.call c.args.rescan.key) (sym (order_own IsPlanMark _ _ c.args.pass.now c.loop.pass c.verdict_at-verdict.new.pass c.loop.invariant.run c.verdict_at-verdict.ensures.pass)) c.loop.invariant.rescans
 
 pub rescan_on_once-requires-clause-wanted : goal.rescan_on_once-requires-clause-wanted
 rescan_on_once-requires-clause-wanted g c =
@@ -54,14 +54,14 @@ rescan_on_once-requires-clause-wanted g c =
 
 pub returns-in-Ok-Counted-clause-planned : goal.returns-in-Ok-Counted-clause-planned
 returns-in-Ok-Counted-clause-planned g c =
-    subst (IsRescannedTo (asked_to c.args.aim.now.kind c.args.aim.now.id) c.args.rescan.begun.call c.args.rescan.key c.rescan_on_once.new.pass.own) c.in-Ok-Counted.field-0-is c.in-Ok-Counted.ensures.rescans
+    subst (IsRescannedTo (asked_of c.args.target.now) c.args.rescan.begun.call c.args.rescan.key c.rescan_on_once.new.pass.own) c.in-Ok-Counted.field-0-is c.in-Ok-Counted.ensures.rescans
 
 pub loop-preserved : goal.loop-preserved
 loop-preserved g c =
     let kept = subst (RoundsAreKept _ c.verdict_at-verdict.new.pass.own c.rescan_on_once.new.pass.own) c.in-Ok-Goes.field-0-is c.in-Ok-Goes.ensures.rounds in
     record {
       run = order_goes_on IsPlanMark _ _ c.args.pass.now c.loop.pass c.verdict_at-verdict.new.pass c.loop.invariant.run c.verdict_at-verdict.ensures.pass (harm_by c.verdict_at-verdict.result) _ c.rescan_on_once.new.pass c.verdict_at-verdict.ensures.front c.verdict_at-verdict.ensures.counted c.rescan_on_once.ensures.pass c.in-Ok-Goes.ensures.goes_on;
-      rescans = subst (IsRescannedTo (asked_to c.args.aim.now.kind c.args.aim.now.id) c.args.rescan.begun.call c.args.rescan.key c.rescan_on_once.new.pass.own) c.in-Ok-Goes.field-0-is c.in-Ok-Goes.ensures.rescans;
+      rescans = subst (IsRescannedTo (asked_of c.args.target.now) c.args.rescan.begun.call c.args.rescan.key c.rescan_on_once.new.pass.own) c.in-Ok-Goes.field-0-is c.in-Ok-Goes.ensures.rescans;
       wanted = c.in-Ok-Goes.ensures.wanted (not_counted c.in-Ok-Goes.field-0 c.in-Ok-Goes.next c.in-Ok-Goes.field-0-is) ∙ wanted_still c.loop.pass.number c.loop.pass.seen c.verdict_at-verdict.new.pass.seen (ap (λ s. s.number) c.loop.invariant.run.pass ∙ c.requires.operator) c.verdict_at-verdict.ensures.wanted ∙ c.loop.invariant.wanted;
       tried = tried_on c.args.tries c.loop.rounds (tells_met c.loop.stage) c.verdict_at-verdict.new.pass.own (tried_asked c.args.tries c.loop.rounds (tells_met c.loop.stage) c.loop.pass c.verdict_at-verdict.new.pass c.verdict_at-verdict.ensures.pass c.loop.invariant.tried)
           c.rounds_with-rounds.result (tells_met c.in-Ok-Goes.next) c.rescan_on_once.new.pass.own c.rounds_with-rounds.ensures kept.rounds kept.met (λ met. ltb-true _ _ (kept.repeats met));

@@ -1,5 +1,5 @@
 use Rattle.std.proofs.Common.{ap, ◌∙◌}
-use Rattle.cas_world.specs.Eras.Plans.{asked_to}
+use Rattle.cas_world.specs.Eras.Plans.{asked_of}
 use Rattle.cas_board_steps.specs.Eras.Membership.{IsPlanMark, IsRescanMark}
 use Rattle.cas_board_steps.proofs.Calls.Tries.{rescan_within}
 use Rattle.cas_board.proofs.Sittings.{counted_none}
@@ -21,8 +21,8 @@ returns-in-Ok-clause-goes_on g c =
 
 pub returns-in-Ok-clause-told : goal.returns-in-Ok-clause-told
 returns-in-Ok-clause-told g c =
-    if_err c.finish_step.result (step_tells (IsRescanMark c.args.tries) _ _ c.args.pass.now c.advance_once.new.pass c.finish_step.new.pass c.advance_once.ensures.pass c.finish_step.ensures.pass (operated_less IsPlanMark (IsRescanMark c.args.tries) (rescan_within c.args.tries) (λ enters proposer era. tt) 0 c.args.pass.now c.advance_once.new.pass c.in-Ok.ensures.goes_on) (asked_to c.args.aim.now.kind c.args.aim.now.id)) c.finish_step.ensures.told
+    if_err c.finish_step.result (step_tells (IsRescanMark c.args.tries) _ _ c.args.pass.now c.advance_once.new.pass c.finish_step.new.pass c.advance_once.ensures.pass c.finish_step.ensures.pass (operated_less IsPlanMark (IsRescanMark c.args.tries) (rescan_within c.args.tries) (λ enters proposer era. tt) 0 c.args.pass.now c.advance_once.new.pass c.in-Ok.ensures.goes_on) (asked_of c.args.target.now)) c.finish_step.ensures.told
 
 pub returns-in-Err-clause-told : goal.returns-in-Err-clause-told
 returns-in-Err-clause-told g c =
-    (0, counted_none (g.F.Fate.harm_count c.args.fate.now), told_less IsPlanMark (IsRescanMark c.args.tries) (rescan_within c.args.tries) (λ enters proposer era. tt) (asked_to c.args.aim.now.kind c.args.aim.now.id) 0 c.args.pass.now c.advance_once.new.pass c.in-Err.told c.in-Err.ensures.told)
+    (0, counted_none (g.F.Fate.harm_count c.args.fate.now), told_less IsPlanMark (IsRescanMark c.args.tries) (rescan_within c.args.tries) (λ enters proposer era. tt) (asked_of c.args.target.now) 0 c.args.pass.now c.advance_once.new.pass c.in-Err.told c.in-Err.ensures.told)

@@ -1,5 +1,5 @@
 use Rattle.std.proofs.Common.{refl, ap, ◌∙◌}
-use Rattle.cas_world.specs.Eras.Plans.{asked_to}
+use Rattle.cas_world.specs.Eras.Plans.{asked_of}
 use Rattle.cas_board_steps.specs.Eras.Membership.{IsPlanMark, IsRescanMark}
 use Rattle.cas_board_steps.proofs.Calls.Tries.{rescan_within}
 use Rattle.cas_board.proofs.Passes.{still_pass}
@@ -29,7 +29,7 @@ returns-in-Err-clause-pass g c =
 
 pub returns-in-Err-clause-told : goal.returns-in-Err-clause-told
 returns-in-Err-clause-told g c =
-    order_ends (IsRescanMark c.args.tries) _ _ c.args.pass.now c.loop.pass c.loop.pass (run_less IsPlanMark (IsRescanMark c.args.tries) (rescan_within c.args.tries) (λ enters proposer era. tt) _ _ c.args.pass.now c.loop.pass c.loop.invariant.run) refl c.in-Err.ensures.told.0 _ c.take_step.new.pass (stays c.loop.pass) c.in-Err.ensures.told.1 c.take_step.ensures.pass (asked_to c.args.aim.now.kind c.args.aim.now.id) c.in-Err.told c.in-Err.ensures.told.2
+    order_ends (IsRescanMark c.args.tries) _ _ c.args.pass.now c.loop.pass c.loop.pass (run_less IsPlanMark (IsRescanMark c.args.tries) (rescan_within c.args.tries) (λ enters proposer era. tt) _ _ c.args.pass.now c.loop.pass c.loop.invariant.run) refl c.in-Err.ensures.told.0 _ c.take_step.new.pass (stays c.loop.pass) c.in-Err.ensures.told.1 c.take_step.ensures.pass (asked_of c.args.target.now) c.in-Err.told c.in-Err.ensures.told.2
 
 pub loop-preserved : goal.loop-preserved
 loop-preserved g c =
