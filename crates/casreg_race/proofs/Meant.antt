@@ -8,7 +8,7 @@ use Rattle.cas_model.proofs.Places.{some_is}
 use Rattle.cas_record.proofs.Tests.{nat_same}
 use Rattle.cas_lines.specs.Command.{AskedChange, change_of}
 use Rattle.cas_lines.specs.declared.command.Command.{Command}
-use Rattle.cas_lines.specs.declared.command.Command.TheVariants.{Join, Leave, Collect, Probe}
+use Rattle.cas_lines.specs.declared.command.Command.TheVariants.{Join, Leave, Resize, Collect, Probe, Read}
 use Rattle.casreg_tasks.specs.Tasks.{race_line_in, task_of, asked_in, onto_tasks, tasks_of}
 use Rattle.casreg_tasks.specs.declared.tasks.Task.{Task}
 use Rattle.casreg_tasks.specs.declared.tasks.Task.TheVariants as task
@@ -24,8 +24,10 @@ of_change (Some a) asked is = subst IsMeant (some_is is) tt
 of_command : (command : Command) (asked : ℕ × Task) → task_of command ≡ Some asked → IsMeant asked
 of_command (Join id) asked is = subst IsMeant (some_is is) refl
 of_command (Leave id) asked is = subst IsMeant (some_is is) refl
+of_command (Resize need_prep need_acc) asked is = subst IsMeant (some_is is) refl
 of_command (Collect key) asked is = subst IsMeant (some_is is) refl
 of_command (Probe key) asked is = subst IsMeant (some_is is) refl
+of_command (Read key) asked is = subst IsMeant (some_is is) refl
 of_command command asked is = of_change (change_of command) asked is
 
 of_line : (said : Result (Option Command) TextRefusal) (asked : ℕ × Task) → asked_in said ≡ Some asked → IsMeant asked

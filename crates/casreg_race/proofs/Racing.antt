@@ -1,4 +1,5 @@
 -- What a caller of a race has run, task by task.
+use Rattle.std.specs.Prelude.{IfOk, Result}
 use Rattle.std.proofs.Common.{◌≡◌, ◌≤◌, ◌+◌, ℕ, List, [], ◌∷◌, ◌++◌, length, Some, inl, inr, refl, sym, ap, subst, ◌∙◌, append-nil, length-append, arith}
 use Rattle.cas_change.specs.declared.program.Clause.{Clause}
 use Rattle.cas_record.specs.declared.answer.Answer.{Answer}
@@ -8,6 +9,7 @@ use Rattle.cas_record.specs.declared.operator.Asked.{Asked}
 use Rattle.cas_record.specs.declared.operator.Asked.TheVariants as ask
 use Rattle.cas_record.specs.declared.operator.OpAnswer.{OpAnswer}
 use Rattle.cas_record.specs.declared.operator.OpAnswer.TheVariants as op
+use Rattle.cas_record.specs.declared.read_answer.ReadAnswer.{ReadAnswer}
 use Rattle.cas_model.specs.Exchanges.Step.{told_marks}
 use Rattle.cas_turn.specs.Seen.{Begins}
 use Rattle.cas_turn.specs.Sitting.{Sitting, Turning}
@@ -16,22 +18,25 @@ use Rattle.cas_board_steps.specs.Calls.Deeds.{IsRefusalBehind}
 use Rattle.cas_board_steps.specs.Eras.Counting.{EntersEras}
 use Rattle.cas_board_steps.specs.Mine.{mine, losses, done_calls, FrontGoesOn}
 use Rattle.cas_board_steps.specs.Calls.Open.{NothingIsOpen, rescanned_in}
-use Rattle.cas_board_steps.specs.Exchanges.Orders.{IsSilentAtMost, IsTrueProbe}
+use Rattle.cas_board_steps.specs.Exchanges.Orders.{IsAgreedIn, IsAskingHarm, IsSilentAtMost, IsTrueProbe}
 use Rattle.cas_board_steps.proofs.Eras.Counting.{done_append, risen_by}
 use Rattle.cas_board_steps.proofs.Fronts.{goes_on_then}
 use Rattle.cas_board.proofs.Losses.{losses_append, counted_then}
 use Rattle.cas_board.specs.Changes.{IsCounted, Answers}
 use Rattle.cas_board.specs.Changes.Answers.{is_answered, is_not_begun}
+use Rattle.cas_board.specs.Looks.{told_by_look}
 use Rattle.cas_board.specs.Operations.{IsSilentSince, Operates}
 use Rattle.cas_board.specs.Operations as operations
+use Rattle.cas_board.specs.declared.probing.Look.{Look}
+use Rattle.cas_read.specs.Read.{answer_by, HasRead, IsAnswerSo}
 use Rattle.casreg_tasks.specs.declared.tasks.Task.{Task}
 use Rattle.casreg_tasks.specs.declared.tasks.Task.TheVariants as task
 use Rattle.casreg_race.specs.declared.told.Told.{Told}
 use Rattle.casreg_race.specs.declared.told.Told.TheVariants as said
-use Rattle.casreg_race.specs.Runs.{asked_by, IsOrderMark, ProbeIsTrue, AnswersOrder, IsReady, ChangeIsAnswered, IsOperated, TaskIsAnswered, CountsOn, IsCountedOn, HasRun, HasRunTask, HasRaced}
+use Rattle.casreg_race.specs.Runs.{asked_by, IsOrderMark, ProbeIsTrue, ReadIsTrue, AnswersOrder, IsReady, ChangeIsAnswered, IsOperated, TaskIsAnswered, CountsOn, IsCountedOn, HasRun, HasRunTask, HasRaced}
 use Rattle.casreg_race.specs.Runs as runs
 use Rattle.casreg_race.specs.Runs.ChangeIsAnswered.{is_called, is_turned_away}
-use Rattle.casreg_race.specs.Runs.TaskIsAnswered.{is_change, is_operated}
+use Rattle.casreg_race.specs.Runs.TaskIsAnswered.{is_change, is_operated, is_read}
 use Rattle.casreg_race.specs.Runs.HasRun.{nothing, one_more}
 
 -- ---- longer records
@@ -55,6 +60,9 @@ module _ (tells : Type 0) (all later : List Mark) (begins : Begins all later) (t
   found_later : {earlier own : List Mark} {answered : OpAnswer} → ProbeIsTrue tells all n earlier own answered → ProbeIsTrue tells later n earlier own answered
   found_later found = record { before = found.before; front = found.front; goes_on = found.goes_on; begins = begins_both found.front all later found.begins begins; made = found.made; silent = found.silent; truly = found.truly }
 
+  read_later : {earlier own : List Mark} {key : List ℕ} {looked : Result Look Answer} → ReadIsTrue tells all n earlier own key looked → ReadIsTrue tells later n earlier own key looked
+  read_later read = record { before = read.before; front = read.front; goes_on = read.goes_on; begins = begins_both read.front all later read.begins begins; made = read.made; silent = read.silent; found = read.found; agrees = read.agrees; truly = read.truly }
+
   answers_later : (earlier own : List Mark) (asked : Asked) (answered : OpAnswer) → AnswersOrder tells all n earlier own asked answered → AnswersOrder tells later n earlier own asked answered
   answers_later earlier own (ask.Join id) answered is = is
   answers_later earlier own (ask.Leave id) answered is = is
@@ -66,6 +74,7 @@ module _ (tells : Type 0) (all later : List Mark) (begins : Begins all later) (t
   answered_later : {earlier : List Mark} {asked : Task} {told : Told} {own : List Mark} → TaskIsAnswered tells all tries n earlier asked told own → TaskIsAnswered tells later tries n earlier asked told own
   answered_later (is_change change) = is_change (changed_longer (length all) (length later) tries n _ _ _ _ (length_begins all later begins) change)
   answered_later (is_operated is operated answers) = is_operated is (operated_longer (length all) (length later) tries _ _ _ (length_begins all later begins) operated) (answers_later _ _ _ _ answers)
+  answered_later (is_read operated names read) = is_read (operated_longer (length all) (length later) tries _ _ _ (length_begins all later begins) operated) names (read_later read)
 
   pub ran_later : {first : List Mark} {counted next : ℕ} {tasks : List Task} {answers : List Told} {marks : List Mark} → HasRun tells all tries n first counted tasks answers marks next → HasRun tells later tries n first counted tasks answers marks next
   ran_later nothing = nothing
@@ -103,6 +112,21 @@ found_in tells old new told own operator goes few truly = record {
   begins = record { behind = []; whole = append-nil new.seen };
   made = refl;
   silent = silent_own old new told own operator goes few;
+  truly = truly;
+}
+
+-- the same of a read
+read_in : {V : Type 0} (tells : Type 0) (old new : Sitting V Mark) (key : List ℕ) (looked : Result Look Answer) (own : List Mark) → old.number ≡ 0 → FrontGoesOn old.number old.seen new.seen own → IsSilentSince 0 old new (told_by_look key looked)
+    → (tells → IsTrueProbe old.seen new.seen (told_by_look key looked)) → IfOk looked (λ look. IsAgreedIn tells tells new.seen look.found look.agreement) → (tells → IsAnswerSo old.seen new.seen (answer_by key looked)) → ReadIsTrue tells new.seen old.number (mine old.number old.seen) own key looked
+read_in tells old new key looked own operator goes few found agrees truly = record {
+  before = old.seen;
+  front = new.seen;
+  goes_on = goes.begins;
+  begins = record { behind = []; whole = append-nil new.seen };
+  made = refl;
+  silent = silent_own old new (told_by_look key looked) own operator goes few;
+  found = found;
+  agrees = agrees;
   truly = truly;
 }
 
@@ -145,6 +169,32 @@ module _ {V : Type 0} (tells : Type 0) (tries harms harms_then : ℕ) (old new :
     counts = counts (marks ++ told_marks asked told) front;
   }
   order_ran order asked told is answers counts (operations.is_not_begun why refusal stopped counted front kept) = record { own = []; front = front; answered = is_operated is (runs.is_not_begun why refusal stopped) (answers [] front); counted = counted; counts = counts [] front }
+
+  module _ (key : List ℕ) (answer : ReadAnswer) (read : HasRead tells key harms harms_then old new answer) (operator : old.number ≡ 0) (truly : tells → IsAnswerSo old.seen new.seen answer) (kept : rescanned_in new.own ≡ rescanned_in old.own) where
+    abbrev looked : Result Look Answer
+    looked = read.looked
+
+    abbrev told : OpAnswer
+    told = told_by_look key looked
+
+    read_is_true : (own : List Mark) → FrontGoesOn old.number old.seen new.seen own → ReadIsTrue tells new.seen old.number (mine old.number old.seen) own key looked
+    read_is_true own goes = read_in tells old new key looked own operator goes read.silent read.found read.agrees (λ t. subst (λ (a : ReadAnswer). IsAnswerSo old.seen new.seen a) read.is (truly t))
+
+    as_read : (own : List Mark) → FrontGoesOn old.number old.seen new.seen own → IsOperated (length new.seen) tries (ask.Read key) told own → TaskIsAnswered tells new.seen tries old.number (mine old.number old.seen) (task.Read key) (said.Read answer) own
+    as_read own goes operated = subst (λ (a : ReadAnswer). TaskIsAnswered tells new.seen tries old.number (mine old.number old.seen) (task.Read key) (said.Read a) own) (sym read.is) (is_read operated read.names (read_is_true own goes))
+
+    read_operated : Operates (ask.Read key) IsAskingHarm harms harms_then old new told → HasRunTask tells tries harms harms_then (task.Read key) (said.Read answer) old new
+    read_operated (operations.is_told marks front last all_such counted told_count) = record {
+      own = marks ++ told_marks (ask.Read key) told;
+      front = front;
+      answered = as_read (marks ++ told_marks (ask.Read key) told) front (runs.is_told marks all_such);
+      counted = subst (λ (k : ℕ). IsCounted k harms harms_then) (sym (losses_append marks (told_marks (ask.Read key) told) ∙ (let none = told_none (ask.Read key) told in let e : losses marks + losses (told_marks (ask.Read key) told) ≡ losses marks = omega (arith, none) in e))) counted;
+      counts = kept;
+    }
+    read_operated (operations.is_not_begun why refusal stopped counted front nothing_counted) = record { own = []; front = front; answered = as_read [] front (runs.is_not_begun why refusal stopped); counted = counted; counts = kept }
+
+    pub read_ran : (order : Task) → order ≡ task.Read key → HasRunTask tells tries harms harms_then order (said.Read answer) old new
+    read_ran order is = subst (λ (t : Task). HasRunTask tells tries harms harms_then t (said.Read answer) old new) (sym is) (read_operated read.operates)
 
 -- ---- task by task
 module _ {V : Type 0} (tells : Type 0) (tries : ℕ) where

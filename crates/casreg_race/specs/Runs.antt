@@ -1,5 +1,5 @@
 -- What the callers of a race are asked and answered, and what of their own marks tells it.
-use Rattle.std.specs.Prelude.{◌≡◌, ◌≤◌, ◌+◌, ℕ, suc, true, List, [], ◌∷◌, ◌++◌, length, All, Option, Some, None, IfSome, slice_get}
+use Rattle.std.specs.Prelude.{◌≡◌, ◌≤◌, ◌+◌, ℕ, suc, true, List, [], ◌∷◌, ◌++◌, length, All, Option, Some, None, IfSome, IfOk, Result, slice_get}
 use Rattle.cas_ballot.specs.Members.{IsMemberSet}
 use Rattle.cas_change.specs.declared.program.Clause.{Clause}
 use Rattle.cas_record.specs.declared.answer.Answer.{Answer}
@@ -19,9 +19,12 @@ use Rattle.cas_board_steps.specs.Calls.Deeds.{IsRefusalBehind}
 use Rattle.cas_board_steps.specs.Eras.Membership.{IsMembersAnswer, IsRescanMark}
 use Rattle.cas_board_steps.specs.Mine.{mine, AreOfCall, losses, done_calls, FrontGoesOn}
 use Rattle.cas_board_steps.specs.Calls.Open.{NothingIsOpen, rescanned_in}
-use Rattle.cas_board_steps.specs.Exchanges.Orders.{IsAskingHarm, IsProbeAnswer, IsSilentAtMost, IsTrueProbe}
+use Rattle.cas_board_steps.specs.Exchanges.Orders.{IsAgreedIn, IsAskingHarm, IsProbeAnswer, IsSilentAtMost, IsTrueProbe}
 use Rattle.cas_board.specs.Changes.{IsCounted}
+use Rattle.cas_board.specs.Looks.{told_by_look}
 use Rattle.cas_board.specs.Passes.{IsPassOf}
+use Rattle.cas_board.specs.declared.probing.Look.{Look}
+use Rattle.cas_read.specs.Read.{answer_by, IsAnswerSo}
 use Rattle.casreg_tasks.specs.Tasks.{tasks_of}
 use Rattle.casreg_tasks.specs.declared.tasks.Task.{Task}
 use Rattle.casreg_tasks.specs.declared.tasks.Task.TheVariants as task
@@ -34,8 +37,10 @@ abbrev pub asked_by : Task → Option Asked
 asked_by (task.Change key program) = None
 asked_by (task.Join id) = Some (ask.Join id)
 asked_by (task.Leave id) = Some (ask.Leave id)
+asked_by (task.Resize need_prep need_acc) = Some (ask.Resize need_prep need_acc)
 asked_by (task.Collect key) = Some (ask.Collect key)
 asked_by (task.Probe key) = Some (ask.Probe key)
+asked_by (task.Read key) = Some (ask.Read key)
 
 -- the operator, who is caller 0, alone is asked for what is an operator's
 abbrev pub IsMeantFor : ℕ → Task → Type 0
@@ -64,6 +69,10 @@ pub data IsOperated (made tries : ℕ) (asked : Asked) (answered : OpAnswer) : L
   is_told : (before : List Mark) → All (IsOrderMark tries asked) before → IsOperated made tries asked answered (before ++ told_marks asked answered)
   is_not_begun : (why : Answer) → IsRefusalBehind made why → answered ≡ Stopped why → IsOperated made tries asked answered []
 
+-- it names the key, and acceptors in rising order, each once; or it says what stopped the call
+abbrev pub NamesMembers : List ℕ → OpAnswer → Type 0
+NamesMembers key answered = (members : List ℕ) × IsMemberSet members × IsProbeAnswer key members answered
+
 -- A probe that made these marks of its own, and before which the caller had made those: no more members told nothing than it made marks. Where
 -- disks tell what they keep, what it found is true of a front of the record, and at or above what was acknowledged in the one with which it
 -- began, in which all the earlier marks stand.
@@ -76,20 +85,34 @@ pub record ProbeIsTrue (tells : Type 0) (all : List Mark) (n : ℕ) (earlier own
   pub silent : IsSilentAtMost (length own) answered
   pub truly : tells → IsTrueProbe before front answered
 
+-- The same of a read, whose answer is made from what its members agree on in that front. Where disks tell what they keep, it is so by that
+-- front and by the one with which the read began.
+pub record ReadIsTrue (tells : Type 0) (all : List Mark) (n : ℕ) (earlier own : List Mark) (key : List ℕ) (looked : Result Look Answer) : Type 0 where
+  pub before : List Mark
+  pub front : List Mark
+  pub goes_on : Begins before front
+  pub begins : Begins front all
+  pub made : mine n before ≡ earlier
+  pub silent : IsSilentAtMost (length own) (told_by_look key looked)
+  pub found : tells → IsTrueProbe before front (told_by_look key looked)
+  pub agrees : IfOk looked (λ look. IsAgreedIn tells tells front look.found look.agreement)
+  pub truly : tells → IsAnswerSo before front (answer_by key looked)
+
 -- The answer names the acceptor or the key that was asked for, or says what stopped the call. A probe asked all members for the key, and tells
--- what each of them told.
+-- what each of them told. A read is answered otherwise.
 abbrev pub AnswersOrder : Type 0 → List Mark → ℕ → List Mark → List Mark → Asked → OpAnswer → Type 0
 AnswersOrder tells all n earlier own (ask.Join id) answered = IsMembersAnswer (ask.Join id) answered
 AnswersOrder tells all n earlier own (ask.Leave id) answered = IsMembersAnswer (ask.Leave id) answered
 AnswersOrder tells all n earlier own (ask.Resize need_prep need_acc) answered = IsMembersAnswer (ask.Resize need_prep need_acc) answered
 AnswersOrder tells all n earlier own (ask.Collect key) answered = IsCollectAnswer key answered
-AnswersOrder tells all n earlier own (ask.Probe key) answered = ((members : List ℕ) × IsMemberSet members × IsProbeAnswer key members answered) × ProbeIsTrue tells all n earlier own answered
+AnswersOrder tells all n earlier own (ask.Probe key) answered = NamesMembers key answered × ProbeIsTrue tells all n earlier own answered
 AnswersOrder tells all n earlier own (ask.Read key) answered = ⊥
 
 -- the caller's marks of one task, with what it was answered, in a record with these marks
 pub data TaskIsAnswered (tells : Type 0) (all : List Mark) (tries n : ℕ) (earlier : List Mark) : Task → Told → List Mark → Type 0 where
   is_change : {key : List ℕ} {program : List Clause} {answered : Answer} {own : List Mark} → ChangeIsAnswered (length all) tries n key program answered own → TaskIsAnswered tells all tries n earlier (task.Change key program) (said.Change answered) own
   is_operated : {asked : Asked} {order : Task} {answered : OpAnswer} {own : List Mark} → asked_by order ≡ Some asked → IsOperated (length all) tries asked answered own → AnswersOrder tells all n earlier own asked answered → TaskIsAnswered tells all tries n earlier order (said.Operator answered) own
+  is_read : {key : List ℕ} {looked : Result Look Answer} {own : List Mark} → IsOperated (length all) tries (ask.Read key) (told_by_look key looked) own → NamesMembers key (told_by_look key looked) → ReadIsTrue tells all n earlier own key looked → TaskIsAnswered tells all tries n earlier (task.Read key) (said.Read (answer_by key looked)) own
 
 -- ---- what a change of membership counts
 -- A call for a join or a leave that made these marks of its own adds one for each call of caller 0 that was answered done in it to the number
@@ -101,6 +124,7 @@ CountsOn before answered own next = HasRisen before 0 (done_calls own) (count_to
 abbrev pub IsCountedOn : ℕ → Task → Told → List Mark → ℕ → Type 0
 IsCountedOn before (task.Join id) (said.Operator answered) own next = CountsOn before answered own next
 IsCountedOn before (task.Leave id) (said.Operator answered) own next = CountsOn before answered own next
+IsCountedOn before (task.Resize need_prep need_acc) (said.Operator answered) own next = CountsOn before answered own next
 IsCountedOn before other answered own next = next ≡ before
 
 -- The caller's marks of its tasks, one after another behind its first ones, with these answers. So many keys had a change of membership under way

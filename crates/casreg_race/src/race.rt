@@ -3,6 +3,7 @@
 ghost use Rattle.std.specs.Prelude.{◌≡◌, ◌≤◌, ◌<◌, ◌+◌, ◌++◌, ℕ, List, [], map, reverse, length, vec_items, vec_len, vec_capacity, slice_index_or, All, IfOk, IfSome, OnOk, OnErr, IsErrOf};
 ghost use Rattle.std.specs.Io.KnownBytes.{Appends, IsAtEnd};
 ghost use Rattle.cas_base.specs.Faults.{Rose};
+ghost use Rattle.cas_model.specs.Exchanges.Tellings.{AreWritable};
 ghost use Rattle.cas_model_causes.specs.Eras.Tellings.{AreTellingsSo};
 ghost use Rattle.cas_lines.specs.Lines.{TooLong, TooMany, Whole, ending_of};
 ghost use Rattle.cas_store.specs.Kept.{AreKept};
@@ -79,6 +80,7 @@ pub fn race_on<R: Threads + Wait + Sync, S: Source, K: Sink, D: Disk + Send + Dr
     requires room { vec_capacity passes ≡ proposers + 1 }
     requires fates { vec_len fates.old ≡ 17 }
     ensures legal { D.tells → IsLegal (reverse result.1.book.marks) }
+    ensures writable { AreWritable result.1.book.marks }
     ensures tellings { D.tells → AreTellingsSo (proposers + 1) (reverse result.1.book.marks) }
     ensures kept { D.tells
         → AreKept D.may_leave (reverse result.1.book.marks) result.1.rack.acceptors.items }

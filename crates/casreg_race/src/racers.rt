@@ -9,6 +9,7 @@ use crate::told::Told;
 use cas_board::{Board, Pass};
 use cas_disk::Disk;
 use cas_fate::Fate;
+use cas_read::read;
 use casreg_tasks::tasks::Task;
 use std::sync::Wait;
 use std::thread;
@@ -194,7 +195,12 @@ fn run_task<R: Wait, D: Disk, F: Fate>(
         }
         Task::Join { id } => Told::Operator(board.join_member(rt, pass, fate, *id, tries)),
         Task::Leave { id } => Told::Operator(board.leave_member(rt, pass, fate, *id, tries)),
+        Task::Resize {
+            need_prep,
+            need_acc,
+        } => Told::Operator(board.resize(rt, pass, fate, *need_prep, *need_acc, tries)),
         Task::Collect { key } => Told::Operator(board.collect(rt, pass, fate, key, tries)),
         Task::Probe { key } => Told::Operator(board.probe(rt, pass, fate, key)),
+        Task::Read { key } => Told::Read(read(board, rt, pass, fate, key)),
     }
 }

@@ -4,7 +4,8 @@ ghost use Rattle.std.specs.Prelude.{◌≡◌, IfOk};
 ghost use Rattle.std.specs.List.{flat_map};
 ghost use Rattle.casreg_race.specs.Texts.{told_line};
 
-use cas_lines::answer::{print_answer, print_op};
+use cas_lines::answer::{print_answer, print_op, print_read};
+use cas_read::ReadAnswer;
 use cas_record::{Answer, OpAnswer};
 use std::alloc::{AllocError, Global};
 
@@ -15,6 +16,8 @@ pub enum Told {
     Change(Answer),
     /// What a call of the operator was answered.
     Operator(OpAnswer),
+    /// What a read of the operator was answered.
+    Read(ReadAnswer),
 }
 
 impl Told {
@@ -25,6 +28,7 @@ impl Told {
         match self {
             Told::Change(answer) => print_answer(alloc, caller, answer),
             Told::Operator(answer) => print_op(alloc, answer),
+            Told::Read(answer) => print_read(alloc, answer),
         }
     }
 }
