@@ -1,21 +1,64 @@
 -- How a run ends with its record behind all else.
-use Rattle.std.proofs.Common.{◌≡◌, ◌<◌, ◌≤◌, ℕ, zero, suc, Bool, List, Option, refl, sym, ◌∙◌, subst, inl, inr, arith}
+use Rattle.std.proofs.Common.{◌≡◌, ◌<◌, ◌≤◌, ℕ, ◌^◌, zero, suc, Bool, true, cond, List, [], ◌∷◌, length, Option, refl, sym, ap, ◌∙◌, subst, inl, inr, arith}
+use Rattle.std.specs.Io.KnownBytes.{Appends}
 use Rattle.std.specs.Prelude.{◌⊎◌}
 use Rattle.cas_base.specs.Faults.{Rose}
-use Rattle.cas_lines.specs.Lines.{Ending, Whole, TooMany, TooLong}
+use Rattle.cas_audit.specs.Spelling.Printing.{has_text}
+use Rattle.cas_audit.specs.Spelling.Texts.{Spells}
+use Rattle.cas_lines.specs.Lines.{lines_of, Ending, Whole, TooMany, TooLong}
 use Rattle.cas_record.specs.declared.mark.Mark.{Mark}
+use Rattle.cas_record.specs.declared.mark.Mark.TheVariants.{Begun, Proposed, Voted, Acked, Floor, EraEntered, Ended, Harmed, Told}
+use Rattle.cas_model.specs.Exchanges.Tellings.{AreToldAnswers, AreWritable}
+use Rattle.cas_model.proofs.Places.{contains_new, contains_older}
 use Rattle.cas_store.specs.Rack.{RackMeaning}
 use Rattle.cas_store.specs.declared.rack.Rack.{Rack}
+use Rattle.casreg_tasks.specs.Texts.{WroteFrontOf}
+use Rattle.casreg_marks.specs.Marks.{with_text, record_text}
 use Rattle.casreg_marks.specs.declared.marks.MarksFault.{MarksFault}
 use Rattle.casreg_marks.specs.declared.marks.MarksFault.TheVariants as fault
 use Rattle.casreg_command.specs.Causes.{AreDisksToBlame, UsesDisks, status_of}
-use Rattle.casreg_command.specs.Records.{EndsBehindMarks, IsComplete, unasked, incomplete, whole, cut_off}
+use Rattle.casreg_command.specs.Records.{WroteRecord, EndsBehindMarks, IsComplete, unasked, incomplete, whole, cut_off}
 use Rattle.casreg_command.specs.Status.{status_of_marks}
 use Rattle.casreg_command.specs.declared.status.Status.{Status}
 use Rattle.casreg_command.specs.declared.status.Status.TheVariants as status
 use Rattle.casreg_command.specs.declared.words.Request.{Request}
 use Rattle.casreg_command.specs.declared.words.Request.TheVariants as request
 
+-- ---- what is written
+-- a text has a line for this mark
+its_text : (mark : Mark) (marks : List Mark) → AreToldAnswers (mark ∷ marks) → has_text mark ≡ true
+its_text (Begun caller number key program) marks told = refl
+its_text (Proposed proposal) marks told = refl
+its_text (Voted acceptor key ballot) marks told = refl
+its_text (Acked acknowledgment) marks told = refl
+its_text (Floor key ballot state) marks told = refl
+its_text (EraEntered proposer era) marks told = refl
+its_text (Ended caller number proposed answer) marks told = refl
+its_text (Harmed caller number down) marks told = refl
+its_text (Told asks said) marks told = told asks said (contains_new (Told asks said) marks)
+
+-- and for each of these
+all_with_text : (marks : List Mark) → AreToldAnswers marks → with_text marks ≡ marks
+all_with_text [] told = refl
+all_with_text (mark ∷ marks) told =
+    ap (λ b. cond b (mark ∷ with_text marks) (with_text marks)) (its_text mark marks told)
+    ∙ ap (λ (l : List Mark). mark ∷ l) (all_with_text marks (λ asks said has. told asks said (contains_older marks has)))
+
+pub wrote_record : (marks : List Mark) (old new : Option (List ℕ)) → AreWritable marks → Appends old new (record_text (with_text marks))
+    → (length marks < 2 ^ 32 → Spells (lines_of (record_text (with_text marks))) (with_text marks)) → WroteRecord marks old new
+wrote_record marks old new writable written spells =
+    let all : with_text marks ≡ marks = all_with_text marks writable.told in
+    let spelled : Spells (lines_of (record_text marks)) marks = subst (λ (l : List Mark). Spells (lines_of (record_text l)) l) all (spells (omega (arith, writable.few))) in
+    record {
+      written = subst (λ (l : List Mark). Appends old new (record_text l)) all written;
+      spells = spelled;
+      audited = λ legal finding found. found.legal.1 (record { marks = marks; spelled = spelled; legal = legal });
+    }
+
+pub wrote_front : (marks : List Mark) (old new : Option (List ℕ)) → AreWritable marks → WroteFrontOf (λ text. text ≡ record_text (with_text marks)) old new → WroteFrontOf (λ text. text ≡ record_text marks) old new
+wrote_front marks old new writable front = subst (λ (l : List Mark). WroteFrontOf (λ text. text ≡ record_text l) old new) (all_with_text marks writable.told) front
+
+-- ---- how a run ends
 -- it ends as it had, or the record could not be written whole
 pub behind_is : {asked : Bool} {marks : List Mark} {before : Status} {old new : Option (List ℕ)} {result : Status} → EndsBehindMarks asked marks before old new result
     → (result ≡ before) ⊎ ((why : MarksFault) × (result ≡ status_of_marks why))

@@ -1,14 +1,16 @@
 -- What an audit writes, and a command behind all other output: its record.
-use Rattle.std.specs.Prelude.{◌≡◌, ◌<◌, ◌^◌, ⊤, ℕ, Bool, true, false, List, length, Option}
+use Rattle.std.specs.Prelude.{◌≡◌, ⊤, ℕ, Bool, true, false, List, reverse, Option}
 use Rattle.std.specs.Io.KnownBytes.{Appends}
 use Rattle.cas_lines.specs.Lines.{lines_of}
 use Rattle.cas_lines.specs.Sink.{AppendsFront}
+use Rattle.cas_record.specs.Legal.{IsLegal}
 use Rattle.cas_record.specs.declared.mark.Mark.{Mark}
 use Rattle.cas_audit.specs.Spelling.Texts.{Spells, IsFound, finding_line}
 use Rattle.cas_audit.specs.declared.finding.Finding.{Finding}
+use Rattle.cas_audit.specs.declared.finding.Finding.TheVariants.{Legal}
 use Rattle.casreg_tasks.specs.Tasks.{AreAllLines}
 use Rattle.casreg_tasks.specs.Texts.{WroteFrontOf}
-use Rattle.casreg_marks.specs.Marks.{with_text, record_text}
+use Rattle.casreg_marks.specs.Marks.{record_text}
 use Rattle.casreg_marks.specs.declared.marks.MarksFault.{MarksFault}
 use Rattle.casreg_command.specs.Status.{status_of_marks}
 use Rattle.casreg_command.specs.declared.status.Status.{Status}
@@ -52,10 +54,11 @@ IsComplete status.WriteFault = ⊥
 IsComplete status.NoMemory = ⊥
 IsComplete other = ⊤
 
--- the text of these marks was written, as far as lines can spell them; an audit of it reads just these
+-- The text of these marks was written. Its lines spell just these, and whoever audits it finds it legal, if the marks are.
 pub record WroteRecord (marks : List Mark) (old new : Option (List ℕ)) : Type 0 where
-  pub written : Appends old new (record_text (with_text marks))
-  pub spells : length marks < 2 ^ 32 → Spells (lines_of (record_text (with_text marks))) (with_text marks)
+  pub written : Appends old new (record_text marks)
+  pub spells : Spells (lines_of (record_text marks)) marks
+  pub audited : IsLegal (reverse marks) → (finding : Finding) → IsFound (lines_of (record_text marks)) finding → finding ≡ Legal
 
 -- How a run ends that had ended so, with these marks, once its record is written where that is asked for: as it had, and nothing more was
 -- written, where it is not asked for or what stands before it is not all there; as it had, and the record was written; or a front of the
@@ -64,4 +67,4 @@ pub data EndsBehindMarks (asked : Bool) (marks : List Mark) (ended : Status) (ol
   unasked : asked ≡ false → new ≡ old → result ≡ ended → EndsBehindMarks asked marks ended old new result
   incomplete : (IsComplete ended → ⊥) → new ≡ old → result ≡ ended → EndsBehindMarks asked marks ended old new result
   whole : asked ≡ true → IsComplete ended → WroteRecord marks old new → result ≡ ended → EndsBehindMarks asked marks ended old new result
-  cut_off : (why : MarksFault) → asked ≡ true → IsComplete ended → WroteFrontOf (λ text. text ≡ record_text (with_text marks)) old new → result ≡ status_of_marks why → EndsBehindMarks asked marks ended old new result
+  cut_off : (why : MarksFault) → asked ≡ true → IsComplete ended → WroteFrontOf (λ text. text ≡ record_text marks) old new → result ≡ status_of_marks why → EndsBehindMarks asked marks ended old new result

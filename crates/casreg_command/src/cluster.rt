@@ -4,6 +4,7 @@ ghost use Rattle.std.specs.Prelude.{◌≡◌, ◌≢◌, ◌≤◌, ◌↔◌, 
 ghost use Rattle.std.specs.Io.KnownBytes.{IsAtEnd};
 ghost use Rattle.cas_base.specs.Faults.{Rose};
 ghost use Rattle.cas_lines.specs.Lines.{Ending, Whole, ending_of, FailsBehind};
+ghost use Rattle.cas_model.specs.Exchanges.Tellings.{AreWritable};
 ghost use Rattle.cas_model.specs.Council.{IsAtRest};
 ghost use Rattle.cas_model.specs.View.{meaning};
 ghost use Rattle.cas_store.specs.Rack.{rack_meaning};
@@ -289,6 +290,7 @@ fn answer_script<S: Source, K: Sink, D: Disk + Drop>(
     requires known { store.world.last_proposer ≡ options.proposers }
     requires idle { AllIdle store.world }
     requires quiet { IsAtRest store.world.council }
+    ensures writable { AreWritable result.1.marks }
     ensures ran { RanLeaving (meaning ⟦<DiskShelf<D> as Shelf>⟧ D.Disk) D.tells options.tries
         (FailsBehind S.take_gives source.old source.new) (S.remaining source.old)
         (K.contents sink.old) (K.contents sink.new) store.world result.1.marks result.0 result.2 }

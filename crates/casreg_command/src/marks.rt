@@ -2,6 +2,7 @@
 
 ghost use Rattle.std.specs.Prelude.{◌≡◌, ◌≤◌, ◌↔◌, IsTrue};
 ghost use Rattle.cas_base.specs.Faults.{Rose};
+ghost use Rattle.cas_model.specs.Exchanges.Tellings.{AreWritable};
 ghost use Rattle.casreg_command.specs.Records.{EndsBehindMarks, IsComplete};
 
 use crate::status::Status;
@@ -11,7 +12,7 @@ use casreg_marks::write_marks;
 use std::alloc::Global;
 
 /// Writes the record of a run that had ended so, where it is asked for and all that stands before it was written, and gives the status with
-/// which the run ends then.
+/// which the run ends then. The record is one of a store: a text can have all of its marks.
 pub(crate) fn end_with_marks<K: Sink>(
     alloc: Global,
     asked: bool,
@@ -19,6 +20,7 @@ pub(crate) fn end_with_marks<K: Sink>(
     record: &Record,
     sink: &mut K,
 ) -> Status
+    requires writable { AreWritable «record».now.marks }
     ensures ends { EndsBehindMarks asked «record».now.marks ended
         (K.contents sink.old) (K.contents sink.new) result }
     ensures never_falls { K.faults_of sink.old ≤ K.faults_of sink.new }

@@ -2,6 +2,7 @@
 
 ghost use Rattle.std.specs.Prelude.{◌≡◌, ◌≢◌, ◌≤◌, ◌+◌, map, vec_len, vec_capacity, All, IfSome};
 ghost use Rattle.std.specs.Io.KnownBytes.{IsAtEnd};
+ghost use Rattle.cas_model.specs.Exchanges.Tellings.{AreWritable};
 ghost use Rattle.cas_base.specs.Faults.{Rose};
 ghost use Rattle.cas_lines.specs.Lines.{Ending, ending_of};
 ghost use Rattle.cas_turn.specs.Sitting.{fresh_seats};
@@ -90,6 +91,7 @@ fn race_lines<R: Threads + Wait + Sync, S: Source, K: Sink, D: Disk + Send + Dro
     requires idle { All (λ pass. IsPassOf board pass × NothingIsOpen pass.own) passes.items }
     requires room { vec_capacity passes ≡ options.proposers + 1 }
     requires fates { vec_len fates.old ≡ 17 }
+    ensures writable { AreWritable result.1.book.marks }
     ensures raced { RacedTo (rack_meaning D.Disk) options
         (S.remaining source.old) (K.contents sink.old) (K.contents sink.new)
         (map F.harm_count fates.old.items) (map F.harm_count fates.new.items)
