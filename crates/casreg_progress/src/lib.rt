@@ -1,4 +1,4 @@
-//! A change that nothing stands against: its line in a script is answered done.
+//! A change that nothing stands against: its line in a script is answered done. And what a read answers along a script is so.
 //!
 //! Definitions and laws, and no code that runs. A law is the contract of a function that does nothing.
 #![tactic(auto)]
@@ -7,7 +7,7 @@ ghost use Rattle.cas_model.specs.View.{meaning};
 ghost use Rattle.casreg_progress.specs.Faults.{FaultlessLinesStayUp};
 ghost use Rattle.casreg_progress.specs.Lines.{ReadyLinesAreDone};
 ghost use Rattle.casreg_progress.specs.Openings.{FirstLinesAreDone};
-ghost use Rattle.casreg_progress.specs.Runs.{LinesKeepSafe, RunsAreDone};
+ghost use Rattle.casreg_progress.specs.Runs.{LinesKeepRemembered, LinesKeepSafe, RunsAreDone, RunsReadSo};
 
 use cas_disk::Disk;
 use cas_slot::Shelf;
@@ -38,9 +38,21 @@ pub fn lines_keep_safe<S: Shelf, V: Disk>()
     ensures { LinesKeepSafe (meaning S.Shelf V.Disk) }
 {}
 
+/// Each line of a script leaves a remembered cluster remembered, if shelves and disks tell what they keep.
+pub fn lines_keep_remembered<S: Shelf, V: Disk>()
+    ensures { LinesKeepRemembered (meaning S.Shelf V.Disk) }
+{}
+
 /// So along a whole script over a safe cluster, each change line that nothing stood against in the state before it, and
 /// after which the members and its proposer are up, was answered done, at the ballot of its proposer's next round, or that there was no
 /// memory: whatever went before it.
 pub fn runs_are_done<S: Shelf, V: Disk>()
     ensures { RunsAreDone (meaning S.Shelf V.Disk) }
+{}
+
+/// Along a whole script over a remembered cluster, what each read was answered is so, if shelves and disks tell what they keep. A state at
+/// a ballot above zero is what the history up to that ballot leaves. This history goes on from all that was settled before the line, and
+/// begins what is settled behind it. At ballot zero the state is empty, and what was settled before the line leaves the empty state.
+pub fn runs_read_so<S: Shelf, V: Disk>()
+    ensures { RunsReadSo (meaning S.Shelf V.Disk) }
 {}

@@ -14,7 +14,7 @@ ghost use Rattle.cas_world.specs.Exchanges.Exchange.{WasToldOrder};
 ghost use Rattle.cas_world.specs.Eras.Plans.{HasCollectedAll};
 ghost use Rattle.cas_world.specs.Readers.{next_number};
 ghost use Rattle.casreg_script.specs.Calls.Changes.{EndsPrepareBy, IsAcceptedBy, IsRoundBy};
-ghost use Rattle.casreg_script.specs.Collection.Collecting.{HasStopped, IsBuried, IsDue, IsInRound, IsRunning};
+ghost use Rattle.casreg_script.specs.Collection.Collecting.{HasStopped, IsTombstoneSet, IsDue, IsInRound, IsRunning};
 ghost use Rattle.casreg_script.specs.Collection.Collections.{AreTombstoneRounds, EndsReading, EndsVoting, HasRounds, HasTaken, IsCalled, CollectsWhole, IsCollection};
 ghost use Rattle.casreg_script.specs.Frames.Conditions.{NetworkView};
 ghost use Rattle.casreg_script.specs.Frames.Network.{IsNetwork, Through};
@@ -110,7 +110,7 @@ fn carry_out<S: Shelf, V: Disk>(
         → IsNetwork network.old by → (next : NetworkView) × IsNetwork network.new next }
     ensures idle { KeepsIdle world.old world.new }
 {
-    bury(world, network, halt, tries, key, program)?;
+    set_tombstone(world, network, halt, tries, key, program)?;
     take_steps(world, network)
 }
 
@@ -119,12 +119,12 @@ fn take_steps<S: Shelf, V: Disk>(
     world: &mut World<S, V>,
     network: &mut Network,
 ) -> Result<(), OpAnswer>
-    requires buried { (key : List ℕ) × IsBuried world.old key }
+    requires tombstone_set { (key : List ℕ) × IsTombstoneSet world.old key }
     requires network { (by : NetworkView) × IsNetwork network.old by }
     ensures taken { Through network.old network.new
         (λ by next. HasTaken (meaning S.Shelf V.Disk) by world.old next world.new) }
     ensures end { (key : List ℕ)
-        → IsBuried world.old key → OnOk result (IsDue world.new key EndStep) }
+        → IsTombstoneSet world.old key → OnOk result (IsDue world.new key EndStep) }
     ensures told { IfErr result (WasToldOrder world.new) }
     ensures network { (by : NetworkView)
         → IsNetwork network.old by → (next : NetworkView) × IsNetwork network.new next }
@@ -140,7 +140,7 @@ fn take_steps<S: Shelf, V: Disk>(
 
 /// Runs the call of the collection, by which the tombstone is proposed. Where a held state was read it is over without an end. An `Err` is
 /// what the operator's call was told.
-fn bury<S: Shelf, V: Disk>(
+fn set_tombstone<S: Shelf, V: Disk>(
     world: &mut World<S, V>,
     network: &mut Network,
     halt: &mut Halt,
@@ -155,7 +155,7 @@ fn bury<S: Shelf, V: Disk>(
     requires network { (by : NetworkView) × IsNetwork network.old by }
     ensures called { Through network.old network.new (λ by next. IsCalled (meaning S.Shelf V.Disk)
         tries by key.now halt.old world.old next halt.new world.new) }
-    ensures buried { OnOk result (IsBuried world.new key.now) }
+    ensures tombstone_set { OnOk result (IsTombstoneSet world.new key.now) }
     ensures told { IfErr result (WasToldOrder world.new) }
     ensures network { (by : NetworkView)
         → IsNetwork network.old by → (next : NetworkView) × IsNetwork network.new next }
@@ -192,7 +192,7 @@ fn call_for<S: Shelf, V: Disk>(
         tries by key.now halt.old world.old next halt.new world.new) }
     ensures stopped { IfOk result (λ told. IfSome told
         (HasStopped world.new (record { number = call; key = key.now; program = keep_always }))) }
-    ensures buried { IfOk result (λ told. IfNone told (IsBuried world.new key.now)) }
+    ensures tombstone_set { IfOk result (λ told. IfNone told (IsTombstoneSet world.new key.now)) }
     ensures told { IfErr result (WasToldOrder world.new) }
     ensures none { OnErr result (HasNoCall world.new 0) }
     ensures network { (by : NetworkView)
@@ -259,7 +259,7 @@ fn rounds<S: Shelf, V: Disk>(
       key = key.now;
       program = keep_always;
     })) }
-    ensures buried { IfNone result (IsBuried world.new key.now) }
+    ensures tombstone_set { IfNone result (IsTombstoneSet world.new key.now) }
     ensures network { (by : NetworkView)
         → IsNetwork network.old by → (next : NetworkView) × IsNetwork network.new next }
 {
@@ -289,8 +289,8 @@ fn round<S: Shelf, V: Disk>(
         (meaning S.Shelf V.Disk) by 0 halt.old world.old next halt.new world.new) }
     ensures stopped { (asked : Wanted)
         → IsRunning world.old asked → IfSome result (HasStopped world.new asked) }
-    ensures buried { (asked : Wanted)
-        → IsRunning world.old asked → IfNone result (IsBuried world.new asked.key) }
+    ensures tombstone_set { (asked : Wanted)
+        → IsRunning world.old asked → IfNone result (IsTombstoneSet world.new asked.key) }
     ensures network { (by : NetworkView)
         → IsNetwork network.old by → (next : NetworkView) × IsNetwork network.new next }
 {
@@ -318,8 +318,8 @@ fn prepare<S: Shelf, V: Disk>(
     ensures same_halt { OnOk result (halt.new ≡ halt.old) }
     ensures plays { (asked : Wanted) → IsInRound world.old asked false
         → result ≡ Ok Reading.Empty → IsInRound world.new asked true }
-    ensures buried { (asked : Wanted) (version : ℕ) → IsInRound world.old asked false
-        → result ≡ Ok (Reading.Held version) → IsBuried world.new asked.key }
+    ensures tombstone_set { (asked : Wanted) (version : ℕ) → IsInRound world.old asked false
+        → result ≡ Ok (Reading.Held version) → IsTombstoneSet world.new asked.key }
     ensures refused { OnErr result (Through network.old network.new (λ by next.
         IsRoundBy (EndsReading (meaning S.Shelf V.Disk)) (EndsVoting (meaning S.Shelf V.Disk))
         (meaning S.Shelf V.Disk) by 0 halt.old world.old next halt.new world.new)) }

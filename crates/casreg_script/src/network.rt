@@ -28,7 +28,7 @@ const LEGS: [Leg; 7] = [
 /// What becomes of the frames under way. No frame is ever held back.
 #[derive(Debug, Drop)]
 pub enum Network {
-    /// Of each frame what the last rule says that names its leg and its acceptor, and it is delivered where there is none. No late frame
+    /// What the last rule says that names the leg and the acceptor of a frame. Without such a rule the frame is delivered. No late frame
     /// strays in by itself.
     Ruled(Links),
     /// What this fate draws, by which late frames stray in too.

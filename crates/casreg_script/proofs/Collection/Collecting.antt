@@ -20,7 +20,7 @@ use Rattle.cas_world.specs.Calls.Beginning.{HasNoCall}
 use Rattle.cas_world.specs.Collection.Collect.{GoesOnCollecting, IsDueStep, renewal_in, renewal_of}
 use Rattle.cas_world.specs.Exchanges.Exchange as world
 use Rattle.cas_world.specs.Exchanges.Exchange.{HasGathered, MayAskCollected, MayGather, WasToldOrder, gathering_by, gathering_of}
-use Rattle.casreg_script.specs.Collection.Collecting.{IsDue, IsBuried}
+use Rattle.casreg_script.specs.Collection.Collecting.{IsDue, IsTombstoneSet}
 use Rattle.casreg_script.specs.Collection.Collections as collections
 use Rattle.casreg_script.specs.Collection.Collections.{AreTombstoneRounds, EndsReading, EndsVoting, HasRounds, HasTaken, IsCalled, TakesCollectStep}
 use Rattle.casreg_script.specs.Frames.Conditions.{NetworkView}
@@ -159,10 +159,10 @@ confirmed_due {S} {V} old new key step result was by idle =
     (ap (λ (c : CollectionView). course_stepped c.course) (some_is (sym by.was_collection ∙ was.is_collection))) by.over (idle.idle 0 was.idle)
 
 -- ---- its round is gathered
-pub may_gather_round : {S V : Type 0} (view : View S V) (key : List ℕ) → IsBuried view key → MayGather view
+pub may_gather_round : {S V : Type 0} (view : View S V) (key : List ℕ) → IsTombstoneSet view key → MayGather view
 may_gather_round view key was = world.its_round (record { collection = was.due.collection; is_collection = was.due.is_collection; is_due = was.due.is_due; over = was.over; known = was.known; none_open = was.due.quiet; idle = was.due.idle })
 
-pub as_gather_round : {S V : Type 0} (m : Meaning S V) (old new : View S V) (key : List ℕ) → IsBuried old key → Step m old (gathering_of old) new → StepGatherRound old new
+pub as_gather_round : {S V : Type 0} (m : Meaning S V) (old new : View S V) (key : List ℕ) → IsTombstoneSet old key → Step m old (gathering_of old) new → StepGatherRound old new
 as_gather_round m old new key was by = subst (λ (o : Option ExchangeView). Step m old (gathering_by o) new) was.due.quiet by
 
 pub gather_round_idle : {S V : Type 0} (old new : View S V) → StepGatherRound old new → KeepsIdle old new
@@ -179,7 +179,7 @@ gather_round_idle {S} {V} old new by = by_case by.gathers
     by_case (collects.is_absent ballot by_ acceptor acked least is) = idle_of _ is refl refl
     by_case (collects.is_held version held is) = idle_of _ is refl refl
 
-pub round_due : {S V : Type 0} (old new : View S V) (key : List ℕ) (result : Gathered) → IsBuried old key → HasGathered old result new → HasNoCall new 0 → IsDue new key (due.Renew 0)
+pub round_due : {S V : Type 0} (old new : View S V) (key : List ℕ) (result : Gathered) → IsTombstoneSet old key → HasGathered old result new → HasNoCall new 0 → IsDue new key (due.Renew 0)
 round_due {S} {V} old new key result was (world.acknowledged collection none is_collection came next) idle =
     due_on old new key due.Round was.due (confirmed_step collection) (ap (λ (c : Council). c.order) next ∙ ap (option_map silent_order) was.due.is_open) (ap (λ (c : Council). c.collection) next)
     (ap (λ (c : CollectionView). course_stepped c.course) (some_is (sym is_collection ∙ was.due.is_collection))) (ap (λ (c : Council). c.exchange) next) idle
@@ -270,7 +270,7 @@ idle_join : {S V : Type 0} (old mid new : View S V) → KeepsIdle old mid → Ke
 idle_join old mid new before after = record { last_proposer = after.last_proposer ∙ before.last_proposer; idle = λ id was. after.idle id (before.idle id was) }
 
 module _ {S V : Type 0} (m : Meaning S V) {net : NetworkView} (old new : View S V) (key : List ℕ) where
-  pub led_round : (result : Gathered) → IsBuried old key → Step m old (gathering_of old) new → HasGathered old result new → HasLed m net old net new key (due.Renew 0)
+  pub led_round : (result : Gathered) → IsTombstoneSet old key → Step m old (gathering_of old) new → HasGathered old result new → HasLed m net old net new key (due.Renew 0)
   led_round result was by found =
       let step = as_gather_round m old new key was by in
       let idle = gather_round_idle old new step in

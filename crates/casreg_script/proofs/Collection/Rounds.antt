@@ -34,7 +34,7 @@ use Rattle.cas_world.specs.World.{WasTold}
 use Rattle.cas_world.specs.declared.collect.Reading.{Reading}
 use Rattle.cas_world.specs.declared.collect.Reading.TheVariants as reading
 use Rattle.casreg_script.specs.Calls.Changes.{IsMet}
-use Rattle.casreg_script.specs.Collection.Collecting.{IsSeeking, IsRunning, IsInRound, HasStopped, IsBuried}
+use Rattle.casreg_script.specs.Collection.Collecting.{IsSeeking, IsRunning, IsInRound, HasStopped, IsTombstoneSet}
 use Rattle.casreg_script.specs.Collection.Collections.{EndsReading, proposes, reads_held, EndsVoting, acknowledges, leaves_open, IsUnsettled}
 use Rattle.casreg_script.specs.Exchanges.Orders.{IsFree, IsOrdered}
 use Rattle.casreg_script.specs.Calls.Playing.{AskedCall, IsCallFor, HasBegun, IsPlaying, IsOver}
@@ -215,8 +215,8 @@ pub is_in_round : {S V : Type 0} (view : View S V) (asked : AskedCall) (proposed
 is_in_round view asked proposed was plays = record { plays = plays; seeks = was.seeks }
 
 -- a held state was read
-pub held_buried : {S V : Type 0} (m : Meaning S V) (old new : View S V) (asked : AskedCall) (proposed : Bool) → IsInRound old asked proposed → StepReadHeld m old new → IsBuried new asked.key
-held_buried {S} {V} m old new asked proposed was by =
+pub held_tombstone_set : {S V : Type 0} (m : Meaning S V) (old new : View S V) (asked : AskedCall) (proposed : Bool) → IsInRound old asked proposed → StepReadHeld m old new → IsTombstoneSet new asked.key
+held_tombstone_set {S} {V} m old new asked proposed was by =
     let of_key : by.of_call.call.key ≡ asked.key = ap (λ (c : CallView). c.key) (same_call old 0 asked was.plays.call was.plays.is_for by.of_call) ∙ was.plays.is_for.key in
     record {
       due = record {
@@ -371,8 +371,8 @@ module _ {S V : Type 0} (m : Meaning S V) (old new : View S V) (asked : AskedCal
       let none = end_closes m old by.middle 0 told by.ends in
       record { caller = none.caller; at_caller = ap (λ (w : View S V). slice_get w.callers 0) by.view ∙ none.at_caller; none_open = none.none_open }
 
-  pub end_buried : is_done told ≡ true → IsBuried new asked.key
-  end_buried done =
+  pub end_tombstone_set : is_done told ≡ true → IsTombstoneSet new asked.key
+  end_tombstone_set done =
       let of_key : by.of_call.call.key ≡ asked.key = ap (λ (c : CallView). c.key) (same_call old 0 asked was.over.call was.over.is_for by.of_call) ∙ was.over.is_for.key in
       let same : by.middle.council ≡ old.council = ap (λ (w : View S V). w.council) by.ends.ends.view ∙ none_anew was.seeks.none_planned by.ends.ends.rescans in
       record {
@@ -432,8 +432,8 @@ said_so {S} {V} new number key told said answered is says begun = let one : said
 pub in_round_still : {S V : Type 0} (old new : View S V) (asked : AskedCall) (proposed : Bool) → IsInRound old asked proposed → new.council ≡ old.council → IsPlaying new 0 asked proposed → IsInRound new asked proposed
 in_round_still old new asked proposed was same plays = record { plays = plays; seeks = seeks_on old new asked.key same was.seeks }
 
-pub buried_not_met : {S V A : Type 0} (view : View S V) (key : List ℕ) → IsBuried view key → IsMet view 0 → A
-buried_not_met {S} {V} view key was met =
+pub set_not_met : {S V A : Type 0} (view : View S V) (key : List ℕ) → IsTombstoneSet view key → IsMet view 0 → A
+set_not_met {S} {V} view key was met =
     absurd (cc (sym met.of_call.is_open ∙ ap (λ (c : CallerView). c.call) (at_one view.callers 0 met.of_call.at_caller was.due.idle.at_caller) ∙ was.due.idle.none_open))
 
 -- ---- what its prepare phase came to

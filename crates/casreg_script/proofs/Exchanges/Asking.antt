@@ -17,7 +17,6 @@ use Rattle.cas_record.specs.declared.agreement.Agreement.{Agreement}
 use Rattle.cas_record.specs.declared.answer.Answer.{Answer}
 use Rattle.cas_record.specs.declared.answer.Answer.TheVariants as answer
 use Rattle.cas_record.specs.declared.operator.Asked.{Asked}
-use Rattle.cas_record.specs.declared.operator.Asked.TheVariants as asked
 use Rattle.cas_record.specs.declared.operator.OpAnswer.{OpAnswer}
 use Rattle.cas_record.specs.declared.operator.OpAnswer.TheVariants as op
 use Rattle.cas_record.specs.declared.operator.Probes.{Probes}
@@ -47,13 +46,6 @@ use Rattle.cas_world.specs.Eras.Plans.{IsUnderWay, IsPartial, step_of}
 use Rattle.casreg_script.specs.Frames.Conditions.{NetworkView, DecidesVerdict, is_to_repeat}
 use Rattle.casreg_script.specs.Exchanges.Exchanges as turns
 use Rattle.casreg_script.specs.Exchanges.Exchanges.{AskTurned, BreaksOffAsking, one_more, HasListed, HasConfirmed, CameOf, IsAsking, KeepsCalls, KeepsOrder, answers_of, listing_left}
-use Rattle.casreg_script.specs.Exchanges.Exchanges.{AsksMembers}
-use Rattle.casreg_script.specs.Exchanges.Probes as inquiries
-use Rattle.casreg_script.specs.Exchanges.Reads as answered
-use Rattle.casreg_script.specs.Exchanges.Reads.{IsRead, AnswersRead}
-use Rattle.cas_record.specs.Reading.{read_of}
-use Rattle.cas_record.specs.declared.read_answer.ReadAnswer.{ReadAnswer}
-use Rattle.cas_record.specs.declared.read_answer.ReadAnswer.TheVariants as read
 use Rattle.casreg_script.specs.Eras.Membership.{TakesStep, left_of, steps_left}
 use Rattle.casreg_script.specs.Exchanges.Orders.{IsFree, KeepsIdle}
 use Rattle.casreg_script.specs.Calls.Playing.{turns_left}
@@ -774,27 +766,3 @@ is_whole old new (gathered.Read agreement found) came other = not_read old new a
 is_whole old new gathered.More came other = absurd (other refl)
 is_whole old new gathered.Listed came other = came
 is_whole old new (gathered.All removed kept) came other = not_all old new removed kept came
-
--- ---- a read is answered
--- by what the members agree on
-pub read_told : {S V : Type 0} (m : Meaning S V) {by next : NetworkView} (key : List ℕ) (old ordered turned new : View S V) (named back : List ℕ) (agreement : Agreement) (found kept : Probes) (answer_ : ReadAnswer) → StepOrder old (asked.Read key) ordered
-    → AsksMembers m by (step.AskAll (Probe key)) step.Gather ordered next turned → IsAgreementOf (era_at ordered 0) found.probes.items agreement → StepTell turned (op.Probed named found) new → named ≡ key → op.Probed named found ≡ op.Probed back kept
-    → answer_ ≡ read_of back agreement kept.probes.items → IsRead m by key old answer_ next new
-read_told {S} {V} m key old ordered turned new named back agreement found kept answer_ orders asks agrees_ tells_it is_named same is =
-    let back_is : named ≡ back = cc same in
-    let kept_is : found ≡ kept = cc same in
-    let answer_is : answer_ ≡ read_of key agreement found.probes.items = is ∙ ap (λ (k : List ℕ). read_of k agreement kept.probes.items) (sym back_is ∙ is_named) ∙ ap (λ (p : Probes). read_of key agreement p.probes.items) (sym kept_is) in
-    record {
-      said = op.Probed key found;
-      inquiry = inquiries.told orders asks (subst (λ (k : List ℕ). StepTell turned (op.Probed k found) new) is_named tells_it);
-      answers = subst (λ (a : ReadAnswer). AnswersRead (era_at old 0) key (op.Probed key found) a) (sym answer_is) (answered.agrees found agreement (subst (λ (w : View S V). IsAgreementOf (era_at w 0) found.probes.items agreement) orders.view agrees_));
-    }
-
--- or by why it stopped
-pub read_stopped : {S V : Type 0} (m : Meaning S V) {by next : NetworkView} (key : List ℕ) (old ordered turned new : View S V) (said : OpAnswer) (why : Answer) → StepOrder old (asked.Read key) ordered → AsksMembers m by (step.AskAll (Probe key)) step.Gather ordered next turned
-    → StepTell turned said new → said ≡ op.Stopped why → IsRead m by key old (read.Stopped why) next new
-read_stopped m key old ordered turned new said why orders asks tells_it is = record {
-  said = op.Stopped why;
-  inquiry = inquiries.told orders asks (subst (λ (a : OpAnswer). StepTell turned a new) is tells_it);
-  answers = answered.stopped why;
-}

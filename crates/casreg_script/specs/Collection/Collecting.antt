@@ -52,7 +52,7 @@ pub record IsDue {S V : Type 0} (view : View S V) (key : List ℕ) (step : Colle
   pub idle : HasNoCall view 0
 
 -- its call is over, and it is known what became of its round
-pub record IsBuried {S V : Type 0} (view : View S V) (key : List ℕ) : Type 0 where
+pub record IsTombstoneSet {S V : Type 0} (view : View S V) (key : List ℕ) : Type 0 where
   pub due : IsDue view key Round
   pub over : due.collection.calling ≡ false
   pub known : is_sought due.collection.tombstone ≡ false

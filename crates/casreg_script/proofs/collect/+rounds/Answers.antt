@@ -6,8 +6,8 @@ use Rattle.cas_model.specs.View.{meaning}
 use Rattle.cas_record.specs.declared.answer.Answer.{Answer}
 use Rattle.cas_world.specs.Calls.Beginning.{MayBegin}
 use Rattle.casreg_script.specs.Calls.Changes.{last, another, none_begun}
-use Rattle.casreg_script.specs.Collection.Collecting.{HasStopped, IsBuried}
-use Rattle.casreg_script.proofs.Collection.Rounds.{may_collect_again, is_running, begun_stopped, collect_not_met, told_again, said_so, buried_not_met}
+use Rattle.casreg_script.specs.Collection.Collecting.{HasStopped, IsTombstoneSet}
+use Rattle.casreg_script.proofs.Collection.Rounds.{may_collect_again, is_running, begun_stopped, collect_not_met, told_again, said_so, set_not_met}
 use Rattle.casreg_script.proofs.Outcomes.{if_none_of}
 use Rattle.casreg_script.proofs.Calls.Playing.{is_met, not_met, may_again}
 use Rattle.casreg_script.proofs.collect.+rounds.Goals as goal
@@ -18,11 +18,11 @@ returns-in_err-told-clause-rounds g n c by is =
     record {
       view = round.view;
       is = round.is;
-      has = last round.has (λ met. buried_not_met c.round.new.world c.args.key.now (subst (λ (o : Option Answer). IfNone o (IsBuried c.round.new.world c.args.key.now)) c.in_err-told.was (c.round.ensures.buried _ c.requires.running)) met);
+      has = last round.has (λ met. set_not_met c.round.new.world c.args.key.now (subst (λ (o : Option Answer). IfNone o (IsTombstoneSet c.round.new.world c.args.key.now)) c.in_err-told.was (c.round.ensures.tombstone_set _ c.requires.running)) met);
     }
 
-pub returns-in_err-told-clause-buried : goal.returns-in_err-told-clause-buried
-returns-in_err-told-clause-buried g n c = if_none_of c.from_residual.result (subst (λ (o : Option Answer). IfNone o (IsBuried c.round.new.world c.args.key.now)) c.in_err-told.was (c.round.ensures.buried _ c.requires.running))
+pub returns-in_err-told-clause-tombstone_set : goal.returns-in_err-told-clause-tombstone_set
+returns-in_err-told-clause-tombstone_set g n c = if_none_of c.from_residual.result (subst (λ (o : Option Answer). IfNone o (IsTombstoneSet c.round.new.world c.args.key.now)) c.in_err-told.was (c.round.ensures.tombstone_set _ c.requires.running))
 
 pub returns-then-tries-eq1-clause-rounds : goal.returns-then-tries-eq1-clause-rounds
 returns-then-tries-eq1-clause-rounds g n c by is = let round = c.round.ensures.round by is in record { view = round.view; is = round.is; has = last round.has (λ met. c.if-tries-eq1.true) }

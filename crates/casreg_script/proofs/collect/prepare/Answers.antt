@@ -5,7 +5,7 @@ use Rattle.casreg_script.specs.Calls.Changes.{IsRoundBy, EndsPrepareBy, cut_off,
 use Rattle.casreg_script.specs.Collection.Collections.{EndsReading, EndsVoting}
 use Rattle.casreg_script.specs.Frames.Network.{IsNetwork}
 use Rattle.casreg_script.specs.declared.halt.Halt.{Halt}
-use Rattle.casreg_script.proofs.Collection.Rounds.{collecting_call, held_buried, empty_plays, cut_stops, ends_reading, reading_stops, seeks_on}
+use Rattle.casreg_script.proofs.Collection.Rounds.{collecting_call, held_tombstone_set, empty_plays, cut_stops, ends_reading, reading_stops, seeks_on}
 use Rattle.casreg_script.proofs.Outcomes.{on_err_of, on_ok_of}
 use Rattle.casreg_script.proofs.Calls.Playing.{in_phase_of}
 use Rattle.casreg_script.proofs.collect.prepare.Given.{Over}
@@ -49,9 +49,9 @@ returns-clause-plays g c asked was empty =
     let by = c.propose_tombstone.ensures.empty empty in
     empty_plays _ c.prepare_turns.new.world c.propose_tombstone.new.self asked (record { plays = c.in_ok-prepare_turns.ensures.plays asked was.plays; seeks = seeks_on c.args.world.now c.prepare_turns.new.world asked.key c.prepare_turns.ensures.council was.seeks }) by.1 by.0
 
-pub returns-clause-buried : goal.returns-clause-buried
-returns-clause-buried g c asked version was held =
-    held_buried _ c.prepare_turns.new.world c.propose_tombstone.new.self asked false (record { plays = c.in_ok-prepare_turns.ensures.plays asked was.plays; seeks = seeks_on c.args.world.now c.prepare_turns.new.world asked.key c.prepare_turns.ensures.council was.seeks }) (c.propose_tombstone.ensures.held version held)
+pub returns-clause-tombstone_set : goal.returns-clause-tombstone_set
+returns-clause-tombstone_set g c asked version was held =
+    held_tombstone_set _ c.prepare_turns.new.world c.propose_tombstone.new.self asked false (record { plays = c.in_ok-prepare_turns.ensures.plays asked was.plays; seeks = seeks_on c.args.world.now c.prepare_turns.new.world asked.key c.prepare_turns.ensures.council was.seeks }) (c.propose_tombstone.ensures.held version held)
 
 pub returns-clause-refused : goal.returns-clause-refused
 returns-clause-refused g c = on_err_of c.propose_tombstone.result (λ by is.

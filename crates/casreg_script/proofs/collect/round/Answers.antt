@@ -69,9 +69,9 @@ returns-in-Ok-Held-clause-round g c by is =
       has = subst (λ (h : Halt). IsRoundBy (EndsReading (meaning g.S.Shelf g.V.Disk)) (EndsVoting (meaning g.S.Shelf g.V.Disk)) (meaning g.S.Shelf g.V.Disk) by 0 c.args.halt.now c.args.world.now ended.view h c.prepare.new.world) (sym (on_ok_is c.prepare.result c.in-Ok-Held.field-0 c.in-Ok-Held.is c.prepare.ensures.same_halt)) (ends_short ended.has);
     }
 
-pub returns-in-Ok-Held-clause-buried : goal.returns-in-Ok-Held-clause-buried
-returns-in-Ok-Held-clause-buried g c asked was =
-    c.prepare.ensures.buried asked _
+pub returns-in-Ok-Held-clause-tombstone_set : goal.returns-in-Ok-Held-clause-tombstone_set
+returns-in-Ok-Held-clause-tombstone_set g c asked was =
+    c.prepare.ensures.tombstone_set asked _
     (is_in_round c.args.world.now asked false was
     (subst (λ (b : Bool). IsPlaying c.args.world.now 0 asked b) c.if-has_proposed.false (round_plays c.args.world.now 0 asked c.has_proposed.result was.begun c.has_proposed.ensures.proposed c.has_proposed.ensures.phase)))
     (c.in-Ok-Held.is ∙ ap (λ (r : Reading). Ok r) c.in-Ok-Held.field-0-is)

@@ -4,6 +4,7 @@ use Rattle.cas_record.specs.declared.answer.Answer.{Answer}
 use Rattle.cas_record.specs.declared.answer.Answer.TheVariants as answer
 use Rattle.cas_record.specs.declared.operator.Asked.TheVariants as asked
 use Rattle.cas_record.specs.declared.operator.OpAnswer.TheVariants as op
+use Rattle.cas_record.specs.declared.read_answer.ReadAnswer.TheVariants as read
 use Rattle.cas_model.specs.Council.{Probe}
 use Rattle.cas_model.specs.Step.{AskAll, Gather}
 use Rattle.cas_model.specs.Exchanges.Step.{StepOrder}
@@ -15,12 +16,18 @@ use Rattle.casreg_script.specs.Exchanges.Exchanges.{AsksMembers, CameOf}
 use Rattle.casreg_script.specs.Exchanges.Orders.{IsNotOrdered, full, no_memory}
 use Rattle.casreg_script.specs.Exchanges.Probes.{refused}
 use Rattle.casreg_script.specs.Exchanges.Reads.{stopped}
-use Rattle.casreg_script.proofs.Exchanges.Asking.{may_ask, read_told, read_stopped}
+use Rattle.casreg_script.proofs.Exchanges.Asking.{may_ask}
+use Rattle.casreg_script.proofs.Exchanges.Reading.{is_read, read_told, read_stopped}
 use Rattle.casreg_script.proofs.read.read.Goals as goal
 
 pub returns-in-Err-clause-read : goal.returns-in-Err-clause-read
 returns-in-Err-clause-read g c by is =
-    record { view = by; is = is; has = record { said = op.Stopped c.in-Err.refusal; inquiry = refused (why c.in-Err.ensures.cause) c.in-Err.ensures.err; answers = stopped c.in-Err.refusal } }
+    record {
+      view = by;
+      is = is;
+      has = is_read (meaning g.S.Shelf g.V.Disk) c.args.key.now c.args.world.now c.order.new.self (op.Stopped c.in-Err.refusal) (read.Stopped c.in-Err.refusal)
+          (refused (why c.in-Err.ensures.cause) c.in-Err.ensures.err) (stopped c.in-Err.refusal);
+    }
   where
     why : (c.in-Err.refusal ≡ answer.RecordFull) ⊎ (c.in-Err.refusal ≡ answer.NoMemory false) → IsNotOrdered c.args.world.now c.in-Err.refusal
     why (inl is_full) = subst (IsNotOrdered c.args.world.now) (sym is_full) (full (c.in-Err.ensures.full.0 (ap (λ (a : Answer). Err a) is_full)))
