@@ -19,7 +19,7 @@ use Rattle.cas_board.proofs.Steps.{wanted_held, wanted_still}
 course_still : (key : List ℕ) (tries : ℕ) (come : Course) (own : List ℕ) (marks marks_then : List Mark) → wanted_by 0 marks_then ≡ wanted_by 0 marks → HasCourse key tries come own marks → HasCourse key tries come own marks_then
 course_still key tries course.Ordered own marks marks_then same has = has
 course_still key tries (course.Buries call rounds) own marks marks_then same has = let b = has.0 in (record { rounds = b.rounds; phase = b.phase; council = b.council; is = b.is; at = b.at; none_asked = b.none_asked; wanted = same ∙ b.wanted }, has.1)
-course_still key tries course.Buried own marks marks_then same has = has
+course_still key tries course.TombstoneSet own marks marks_then same has = has
 course_still key tries course.Renews own marks marks_then same has = has
 course_still key tries course.HearsAges own marks marks_then same has = has
 course_still key tries course.Floors own marks marks_then same has = has

@@ -1,6 +1,6 @@
 -- What caller 0's pass tells of a call of the operator, by what its holds did.
 use Rattle.std.proofs.Common.{◌≡◌, ◌≤◌, ℕ, ◌+◌, length, true, false, inl, inr, List, [], ◌++◌, refl, sym, ap, subst, ◌∙◌, append_assoc, append-nil, length-append, arith}
-use Rattle.std.specs.Prelude.{◌||◌, Result, Ok, Err, IfErr, OnOk, take, reverse, Contains}
+use Rattle.std.specs.Prelude.{◌||◌, Result, Ok, Err, IfErr, OnOk, take, reverse, Contains, IfOk}
 use Rattle.std.proofs.Math.Seq.{take-append_seam}
 use Rattle.std.proofs.lemmas.List.Elements.{All-append, All-nil, All-weaker}
 use Rattle.cas_record.specs.declared.answer.Answer.{Answer}
@@ -16,7 +16,7 @@ use Rattle.cas_turn.specs.Seen.{Begins, HasSeenOwn}
 use Rattle.cas_turn.specs.Sitting.{Sitting, Turning}
 use Rattle.cas_turn.proofs.SeenLemmas.{begins_both}
 use Rattle.cas_board_steps.specs.Eras.Counting.{count_told, CountsTo, EntersEras, HasRisen, LeavesNone}
-use Rattle.cas_board_steps.specs.Calls.Deeds.{IsRefusalBehind}
+use Rattle.cas_board_steps.specs.Calls.Changes.{IsRefusalBehind}
 use Rattle.cas_board_steps.specs.Kept.{Makes, IsHeldBy}
 use Rattle.cas_board_steps.specs.Mine.{mine, losses, done_calls, FrontGoesOn}
 use Rattle.cas_board_steps.specs.Calls.Open.{NothingIsOpen, rescanned_in}
@@ -314,6 +314,10 @@ operates_told asked such lost harms harms_then a c answer counted told = is_told
 pub on_ok : {A E P Q : Type 0} (result : Result A E) → (P → Q) → OnOk result P → OnOk result Q
 on_ok (Ok value) then_ p = then_ p
 on_ok (Err told) then_ p = tt
+
+pub if_ok : {A E : Type 0} {P Q : A → Type 0} (result : Result A E) → ((value : A) → P value → Q value) → IfOk result P → IfOk result Q
+if_ok (Ok value) then_ p = then_ value p
+if_ok (Err told) then_ p = tt
 
 pub if_err : {A E : Type 0} {P Q : E → Type 0} (result : Result A E) → ((told : E) → P told → Q told) → IfErr result P → IfErr result Q
 if_err (Ok value) then_ p = tt

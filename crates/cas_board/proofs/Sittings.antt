@@ -15,17 +15,17 @@ use Rattle.cas_turn.specs.Sitting.{Sitting, Turning}
 use Rattle.cas_board.specs.Passes.{IsPassOf}
 use Rattle.cas_board.specs.Changes as changes
 use Rattle.cas_board.specs.Changes.{IsCounted, HasBegun, HasNotBegun, HasGoneOn, HasEnded, Answers}
-use Rattle.cas_board_steps.specs.Calls.Deeds as deeds
-use Rattle.cas_board_steps.specs.Calls.Deeds.{BeginsIn, IsRefusalBehind, BeginsNot, GoesOnIn, EndsMarked, StraysIn}
+use Rattle.cas_board_steps.specs.Calls.Changes as begins
+use Rattle.cas_board_steps.specs.Calls.Changes.{BeginsIn, IsRefusalBehind, BeginsNot, GoesOnIn, EndsMarked, StraysIn}
 use Rattle.cas_board_steps.specs.Kept.{IsKept, Makes, IsHeldBy}
-use Rattle.cas_board_steps.specs.declared.deeds.Begun.{Begun as Opened}
+use Rattle.cas_board_steps.specs.declared.changes.Begun.{Begun as Opened}
 use Rattle.cas_board_steps.specs.Mine.{mine, call_of, losses, wanted_by, FrontGoesOn, IsLast}
 use Rattle.cas_board_steps.specs.Owners.{owner_of, MayAdd}
 use Rattle.cas_board_steps.specs.OwnParts.{own_part}
 use Rattle.cas_board_steps.specs.Calls.Conflicts.{is_conflict}
 use Rattle.cas_board_steps.specs.Calls.Open.{NothingIsOpen, HasOpen, beside_in, rounds_in, is_met_in, rounds_after}
 use Rattle.cas_board_steps.specs.Calls.Stages.{tells_met}
-use Rattle.cas_board_steps.specs.declared.deeds.Stage.{Stage}
+use Rattle.cas_board_steps.specs.declared.changes.Stage.{Stage}
 use Rattle.cas_board.proofs.Losses.{losses_append, counted_then}
 use Rattle.cas_board.proofs.Passes.{still_pass}
 use Rattle.cas_board_steps.proofs.Fronts.{added_is, mine_append, mine_own, front_goes_on, goes_on_then, wanted_seen}
@@ -80,13 +80,13 @@ module _ {S V A : Type 0} (before after : View S V) (old new : Sitting A Mark) (
   }
 
   pub pass_begins_not : (key : List ℕ) (program : List Clause) (told : Answer) → own_part before old.number ≡ old.own → NothingIsOpen (own_part before old.number) → BeginsNot old.number key program before after told → HasNotBegun key program old new told
-  pass_begins_not key program told own_was free (deeds.ends_at_once call rounds makes leaves no_conflict) =
+  pass_begins_not key program told own_was free (begins.ends_at_once call rounds makes leaves no_conflict) =
       let n : ℕ = old.number in
       let begun : Mark = Begun n call key program in
       let ended : Mark = Ended n call rounds told in
       changes.ends_at_once call rounds (front_is (begun ∷ ended ∷ []) (begun ∷ ended ∷ []) makes (mine_own n begun (ended ∷ []) refl ∙ ap (λ (l : List Mark). begun ∷ l) (mine_own n ended [] refl)))
       (last_then (begun ∷ []) ended makes) (own ∙ leaves.still free ∙ own_was) no_conflict
-  pass_begins_not key program told own_was free (deeds.is_refused refusal makes leaves) = changes.is_refused (subst (λ (l : List Mark). IsRefusalBehind (length l) told) (sym seen) refusal) (front_of [] makes) (own ∙ leaves.still free ∙ own_was)
+  pass_begins_not key program told own_was free (begins.is_refused refusal makes leaves) = changes.is_refused (subst (λ (l : List Mark). IsRefusalBehind (length l) told) (sym seen) refusal) (front_of [] makes) (own ∙ leaves.still free ∙ own_was)
 
   pub pass_goes_on : (call most : ℕ) → own_part before old.number ≡ old.own → GoesOnIn old.number call most before after → HasGoneOn call most old new
   pass_goes_on call most own_was g = record {
@@ -150,8 +150,8 @@ held_known n number call before own same part has kept = open_known before n cal
 module _ {S V : Type 0} (n : ℕ) (before after : View S V) (key : List ℕ) (program : List Clause) where
   pub begun_makes : (result : Result Opened Answer) → IfOk result (λ begun. BeginsIn n begun.call key program before after) → IfErr result (BeginsNot n key program before after) → IsHeldBy n before after
   begun_makes (Ok begun) b e = (_, b.makes)
-  begun_makes (Err told) b (deeds.ends_at_once call rounds makes leaves no_conflict) = (_, makes)
-  begun_makes (Err told) b (deeds.is_refused refusal makes leaves) = (_, makes)
+  begun_makes (Err told) b (begins.ends_at_once call rounds makes leaves no_conflict) = (_, makes)
+  begun_makes (Err told) b (begins.is_refused refusal makes leaves) = (_, makes)
 
 module _ {S V A : Type 0} (n : ℕ) (before after : View S V) (key : List ℕ) (program : List Clause) where
   pub begun_told : (old new : Sitting A Mark) (result : Result Opened Answer) → WasHeld n before after old new → own_part before old.number ≡ old.own → IfOk result (λ begun. BeginsIn n begun.call key program before after) → IfOk result (λ begun. HasBegun begun.call key program old new)

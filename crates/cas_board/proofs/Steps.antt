@@ -9,7 +9,7 @@ use Rattle.cas_turn.specs.Sitting.{Sitting}
 use Rattle.cas_board_steps.specs.Eras.Membership.{StandsAt}
 use Rattle.cas_board_steps.specs.Mine.{Wanted, FrontGoesOn, mine, wanted_by}
 use Rattle.cas_board_steps.specs.Owners.{owner_of}
-use Rattle.cas_board_steps.specs.declared.deeds.Stage.{Stage}
+use Rattle.cas_board_steps.specs.declared.changes.Stage.{Stage}
 use Rattle.cas_board_steps.specs.declared.membership.MembersStep.{MembersStep}
 use Rattle.cas_board_steps.specs.declared.membership.Rescanning.{Rescanning}
 use Rattle.cas_board_steps.specs.declared.membership.Rescanning.TheVariants.{Goes, Counted}

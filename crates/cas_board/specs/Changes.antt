@@ -6,7 +6,7 @@ use Rattle.cas_record.specs.declared.mark.Mark.{Mark}
 use Rattle.cas_record.specs.declared.mark.Mark.TheVariants.{Begun, Ended}
 use Rattle.cas_turn.specs.Sitting.{Sitting}
 use Rattle.cas_board_steps.specs.Calls.Conflicts.{is_conflict}
-use Rattle.cas_board_steps.specs.Calls.Deeds.{IsRefusalBehind}
+use Rattle.cas_board_steps.specs.Calls.Changes.{IsRefusalBehind}
 use Rattle.cas_board_steps.specs.Mine.{AreOfCall, losses, wants, wanted_by, FrontGoesOn, IsLast}
 use Rattle.cas_board_steps.specs.Calls.Open.{HasOpen, beside_in, rounds_in, is_met_in}
 

@@ -9,7 +9,7 @@ use Rattle.cas_model_causes.specs.Exchanges.Answering.{silent_in}
 use Rattle.cas_model.specs.Exchanges.Step.{told_marks}
 use Rattle.cas_turn.specs.Sitting.{Sitting}
 use Rattle.cas_board_steps.specs.Eras.Counting.{count_told, EntersEras, HasRisen, LeavesNone}
-use Rattle.cas_board_steps.specs.Calls.Deeds.{IsRefusalBehind}
+use Rattle.cas_board_steps.specs.Calls.Changes.{IsRefusalBehind}
 use Rattle.cas_board_steps.specs.Mine.{mine, losses, done_calls, FrontGoesOn}
 use Rattle.cas_board_steps.specs.Calls.Open.{NothingIsOpen, rescanned_in}
 use Rattle.cas_board_steps.specs.Exchanges.Orders.{HasHarms}
@@ -22,7 +22,7 @@ pub record AreLast (front marks : List Mark) : Type 0 where
 
 module _ {V : Type 0} where
   -- ---- holds
-  -- Of the keys that a change of membership proposed anew that many are counted by then: as many as the pass's own part told, and one for each
+  -- A change of membership has counted that many keys that it proposed anew by then: as many as the pass's own part told, and one for each
   -- call of caller 0 that was answered done since.
   abbrev pub HasCountedTo : ℕ → Sitting V Mark → Sitting V Mark → Type 0
   HasCountedTo count old new = HasRisen (rescanned_in old.own) (done_calls (mine old.number old.seen)) (done_calls (mine old.number new.seen)) count

@@ -4,7 +4,7 @@ ghost use Rattle.std.specs.Prelude.{◌≡◌, ◌≤◌, ℕ, true, false, if�
 ghost use Rattle.cas_record.specs.Legal.{IsLegal};
 ghost use Rattle.cas_model.specs.Calls.Step.{one_more};
 ghost use Rattle.cas_board.specs.Changes.{Answers, HasBegun, HasEnded, HasGoneOn, HasNotBegun, IsCounted};
-ghost use Rattle.cas_board_steps.specs.Calls.Deeds.{harm_by};
+ghost use Rattle.cas_board_steps.specs.Calls.Changes.{harm_by};
 ghost use Rattle.cas_board_steps.specs.Mine.{FrontGoesOn, wanted_by, wants};
 ghost use Rattle.cas_board_steps.specs.Calls.Conflicts.{is_conflict};
 ghost use Rattle.cas_board_steps.specs.Calls.Open.{HasOpen, NothingIsOpen, is_met_in, rounds_after, rounds_in, beside_in};

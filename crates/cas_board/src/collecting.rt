@@ -7,8 +7,8 @@ ghost use Rattle.cas_model.specs.Collection.Step.{keep_always};
 ghost use Rattle.cas_board.specs.Changes.{IsCounted};
 ghost use Rattle.cas_board.specs.Operations.{HasOperated, Operates, WasToldLast};
 ghost use Rattle.cas_board.specs.Passes.{IsPassOf};
-ghost use Rattle.cas_board_steps.specs.Collection.Collecting.{HasCourse, IsBurialMark, IsCollectAnswer, IsCollectingMark, most_rounds};
-ghost use Rattle.cas_board_steps.specs.Calls.Deeds.{IsRefusalBehind, harm_by};
+ghost use Rattle.cas_board_steps.specs.Collection.Collecting.{HasCourse, IsTombstoneMark, IsCollectAnswer, IsCollectingMark, most_rounds};
+ghost use Rattle.cas_board_steps.specs.Calls.Changes.{IsRefusalBehind, harm_by};
 ghost use Rattle.cas_board_steps.specs.Mine.{FrontGoesOn};
 ghost use Rattle.cas_board_steps.specs.Calls.Open.{NothingIsOpen, rescanned_in};
 
@@ -138,7 +138,7 @@ impl<D: Disk> Board<D> {
             (most_rounds collecting.tries) collecting.course pass.old.own pass.old.seen }
         ensures pass { pass.new ≡ record pass.old { seen = pass.new.seen; own = pass.new.own } }
         ensures goes_on { OnOk result
-            (HasOperated (IsBurialMark collecting.key) (harm_by verdict) pass.old pass.new) }
+            (HasOperated (IsTombstoneMark collecting.key) (harm_by verdict) pass.old pass.new) }
         ensures key { IfOk result (λ next. next.key ≡ collecting.key) }
         ensures tries { IfOk result (λ next. next.tries ≡ collecting.tries) }
         ensures keeps { IfOk result (λ next. next.program ≡ keep_always) }

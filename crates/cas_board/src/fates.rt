@@ -1,7 +1,7 @@
 //! How a call asks its fate.
 
 ghost use Rattle.cas_board.specs.Changes.{IsCounted};
-ghost use Rattle.cas_board_steps.specs.Calls.Deeds.{harm_by};
+ghost use Rattle.cas_board_steps.specs.Calls.Changes.{harm_by};
 
 use cas_ballot::AcceptorId;
 use cas_fate::{Fate, Leg, Verdict};

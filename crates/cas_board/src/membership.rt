@@ -8,7 +8,7 @@ ghost use Rattle.cas_world.specs.Eras.Plans.{asked_of};
 ghost use Rattle.cas_board.specs.Changes.{IsCounted};
 ghost use Rattle.cas_board.specs.Operations.{HasOperated, Operates, WasToldLast};
 ghost use Rattle.cas_board.specs.Passes.{IsPassOf};
-ghost use Rattle.cas_board_steps.specs.Calls.Deeds.{IsRefusalBehind, harm_by};
+ghost use Rattle.cas_board_steps.specs.Calls.Changes.{IsRefusalBehind, harm_by};
 ghost use Rattle.cas_board_steps.specs.Eras.Membership.{HasListing, HasPlan, HasRescan, RoundsAreKept, IsFirstRound, IsListedTo, IsMembersAnswer, IsPlanMark, IsRescanMark, IsRescannedTo, StandsAt};
 ghost use Rattle.cas_board_steps.specs.Mine.{FrontGoesOn, wanted_by, wants};
 ghost use Rattle.cas_board_steps.specs.Calls.Open.{NothingIsOpen, rescanned_in, rounds_after};

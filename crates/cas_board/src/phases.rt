@@ -2,7 +2,7 @@
 
 ghost use Rattle.std.specs.Prelude.{◌≡◌, []};
 ghost use Rattle.cas_board.specs.Changes.{IsCounted};
-ghost use Rattle.cas_board_steps.specs.Calls.Deeds.{harm_by};
+ghost use Rattle.cas_board_steps.specs.Calls.Changes.{harm_by};
 ghost use Rattle.cas_board_steps.specs.Mine.{FrontGoesOn, wanted_by};
 ghost use Rattle.cas_board.specs.Passes.{IsPassOf};
 

@@ -6,10 +6,10 @@ ghost use Rattle.cas_board.specs.Changes.{IsCounted};
 ghost use Rattle.cas_board.specs.Operations.{HasMarkedHarms, HasOperated, IsSilentSince, Operates, WasToldLast};
 ghost use Rattle.cas_board.specs.Passes.{IsPassOf};
 ghost use Rattle.cas_ballot.specs.Members.{IsMemberSet};
-ghost use Rattle.cas_board_steps.specs.Calls.Deeds.{IsRefusalBehind, harm_by};
+ghost use Rattle.cas_board_steps.specs.Calls.Changes.{IsRefusalBehind, harm_by};
 ghost use Rattle.cas_board_steps.specs.Mine.{FrontGoesOn};
 ghost use Rattle.cas_board_steps.specs.Calls.Open.{NothingIsOpen, rescanned_in};
-ghost use Rattle.cas_board_steps.specs.Exchanges.Orders.{HasHarms, HasOrder, HasProbe, IsAgreedIn, IsAgreedSo, IsAskingHarm, IsProbeAnswer, IsProbeStop, IsSilentAtMost, IsTrueAgreement, IsTrueProbe, IsTrueRead, WasAskedBehind, asked_for, exchange_for};
+ghost use Rattle.cas_board_steps.specs.Exchanges.Orders.{HasHarms, HasProbe, IsAgreedIn, IsAskingHarm, IsHeardTrue, IsOrderOf, IsProbeAnswer, IsProbeStop, IsSilentAtMost, IsTrueAgreement, IsTrueProbe, WasAskedBehind, asked_for};
 ghost use Rattle.cas_board.specs.Looks.{IsLookHeard, told_by_look};
 
 use crate::board::{Board, Pass};
@@ -122,8 +122,7 @@ impl<D: Disk> Board<D> {
     ) -> Heard
         requires pass { IsPassOf self.now pass.old }
         requires operator { pass.old.number ≡ 0 }
-        requires question { order.question ≡ exchange_for order.inquiry order.key }
-        requires ordered { HasOrder (asked_for order.inquiry order.key) pass.old.own }
+        requires order { IsOrderOf order.inquiry order.key order pass.old.own }
         ensures pass { pass.new ≡ record pass.old { seen = pass.new.seen; own = pass.new.own } }
         ensures told { (lost : ℕ) × IsCounted lost (F.harm_count fate.old) (F.harm_count fate.new)
             × WasToldLast (asked_for order.inquiry order.key) IsAskingHarm lost
@@ -131,11 +130,8 @@ impl<D: Disk> Board<D> {
         ensures answer { (members : List ℕ)
             × IsMemberSet members × IsProbeAnswer order.key members result.told }
         ensures silent { IsSilentSince 0 pass.old pass.new result.told }
-        ensures truly { D.tells → IsTrueProbe pass.old.seen pass.new.seen result.told }
-        ensures agreed { order.inquiry ≡ Inquiry.Read
-            → IsAgreedSo D.tells D.tells pass.new.seen result.told result.agreement }
-        ensures reads { D.tells
-            → IsTrueRead pass.old.seen pass.new.seen result.told result.agreement }
+        ensures truly { IsHeardTrue
+            order.inquiry D.tells D.tells pass.old.seen pass.new.seen result }
         ensures legal { D.tells → IsLegal (reverse pass.new.seen) }
     {
         match self.ask_probe_once(rt, pass, order) {
@@ -167,12 +163,8 @@ impl<D: Disk> Board<D> {
             → IsProbeAnswer first.key members result.told }
         ensures silent { (harms : ℕ)
             → HasHarms harms pass.old.own → IsSilentSince harms pass.old pass.new result.told }
-        ensures truly { D.tells → (many : ℕ) → WasAskedBehind many pass.old.own
-            → IsTrueProbe (take many pass.new.seen) pass.new.seen result.told }
-        ensures agreed { first.inquiry ≡ Inquiry.Read
-            → IsAgreedSo D.tells D.tells pass.new.seen result.told result.agreement }
-        ensures reads { D.tells → (many : ℕ) → WasAskedBehind many pass.old.own → IsTrueRead
-            (take many pass.new.seen) pass.new.seen result.told result.agreement }
+        ensures truly { (many : ℕ) → WasAskedBehind many pass.old.own → IsHeardTrue
+            first.inquiry D.tells D.tells (take many pass.new.seen) pass.new.seen result }
         ensures legal { D.tells → IsLegal (reverse pass.new.seen) }
     {
         let mut holds = Holds::new();
@@ -203,10 +195,7 @@ impl<D: Disk> Board<D> {
         ensures pass { pass.new ≡ record pass.old { seen = pass.new.seen; own = pass.new.own } }
         ensures front { FrontGoesOn pass.old.number pass.old.seen pass.new.seen [] }
         ensures counted { rescanned_in pass.new.own ≡ rescanned_in pass.old.own }
-        ensures ordered { OnOk result (HasOrder (asked_for inquiry key.now) pass.new.own) }
-        ensures inquiry { IfOk result (λ order. order.inquiry ≡ inquiry) }
-        ensures question { IfOk result (λ order. order.question ≡ exchange_for inquiry key.now) }
-        ensures key { IfOk result (λ order. order.key ≡ key.now) }
+        ensures order { IfOk result (λ order. IsOrderOf inquiry key.now order pass.new.own) }
         ensures refused { IfErr result (λ why. IsRefusalBehind (length pass.new.seen) why
             × NothingIsOpen pass.new.own) }
         ensures legal { D.tells → IsLegal (reverse pass.new.seen) }
@@ -226,8 +215,7 @@ impl<D: Disk> Board<D> {
     ) -> Result<Probing, OpAnswer>
         requires pass { IsPassOf self.now pass.old }
         requires operator { pass.old.number ≡ 0 }
-        requires question { order.question ≡ exchange_for order.inquiry order.key }
-        requires ordered { HasOrder (asked_for order.inquiry order.key) pass.old.own }
+        requires order { IsOrderOf order.inquiry order.key order pass.old.own }
         ensures pass { pass.new ≡ record pass.old { seen = pass.new.seen; own = pass.new.own } }
         ensures front { OnOk result (FrontGoesOn pass.old.number pass.old.seen pass.new.seen []) }
         ensures counted { OnOk result (rescanned_in pass.new.own ≡ rescanned_in pass.old.own) }
@@ -279,14 +267,9 @@ impl<D: Disk> Board<D> {
             → IsProbeAnswer probing.key members heard.told) }
         ensures silent { IfErr result (λ heard. (harms : ℕ)
             → HasHarms harms pass.old.own → IsSilentAtMost harms heard.told) }
-        ensures truly { D.tells
-            → IfErr result (λ heard. (many : ℕ) → WasAskedBehind many pass.old.own
-            → IsTrueProbe (take many pass.new.seen) pass.new.seen heard.told) }
-        ensures agreed { probing.inquiry ≡ Inquiry.Read → IfErr result
-            (λ heard. IsAgreedSo D.tells D.tells pass.new.seen heard.told heard.agreement) }
-        ensures reads { D.tells
-            → IfErr result (λ heard. (many : ℕ) → WasAskedBehind many pass.old.own → IsTrueRead
-            (take many pass.new.seen) pass.new.seen heard.told heard.agreement) }
+        ensures truly { IfErr result (λ heard. (many : ℕ) → WasAskedBehind many pass.old.own
+            → IsHeardTrue probing.inquiry D.tells D.tells
+            (take many pass.new.seen) pass.new.seen heard) }
         ensures legal { D.tells → IsLegal (reverse pass.new.seen) }
     {
         let mut shared = self.turn.hold(rt, pass);

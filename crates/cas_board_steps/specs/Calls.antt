@@ -1,4 +1,4 @@
 pub mod Conflicts
-pub mod Deeds
+pub mod Changes
 pub mod Open
 pub mod Stages

@@ -8,8 +8,8 @@ ghost use Rattle.cas_model.specs.Collection.Step.{keep_always};
 ghost use Rattle.cas_model.specs.View.{CallerView, IsAt, meaning};
 ghost use Rattle.cas_collect.specs.declared.collect.CollectStep.TheVariants as step;
 ghost use Rattle.cas_flow.specs.Flow.{queue_at};
-ghost use Rattle.cas_board_steps.specs.Collection.Collecting.{CollectsIn, HasBurial, HasCourse, HasQuestion, HasStep, IsBurialMark, IsCollectAnswer, IsCollectingMark, IsRefusedBurial, HasRoundsWithin, Stops, TellsRefusal, most_rounds};
-ghost use Rattle.cas_board_steps.specs.Calls.Deeds.{IsRefusalBehind, harm_by};
+ghost use Rattle.cas_board_steps.specs.Collection.Collecting.{CollectsIn, HasTombstoneCall, HasCourse, HasQuestion, HasStep, IsTombstoneMark, IsCollectAnswer, IsCollectingMark, IsRefusedTombstone, HasRoundsWithin, Stops, TellsRefusal, most_rounds};
+ghost use Rattle.cas_board_steps.specs.Calls.Changes.{IsRefusalBehind, harm_by};
 ghost use Rattle.cas_board_steps.specs.Kept.{IsKept, Makes};
 ghost use Rattle.cas_board_steps.specs.Calls.Open.{NothingIsOpen};
 ghost use Rattle.cas_board_steps.specs.Exchanges.Orders.{HasOrder, IsToldIn, OperatesIn};
@@ -22,7 +22,7 @@ ghost use Rattle.cas_world.specs.Eras.Plans.{rescanned_of};
 ghost use Rattle.cas_world.specs.Readers.{closed_in};
 ghost use Rattle.cas_world.specs.World.{IsInPhase, WasTold};
 
-use crate::deeds::{Waiting, first_frame};
+use crate::changes::{Waiting, first_frame};
 use crate::orders::open_order;
 use cas_board_world::SteadyWorld;
 use cas_change::{Key, Program};
@@ -42,7 +42,7 @@ pub enum Course {
     /// The call that buries the key, by a tombstone, is open, and has had so many rounds.
     Buries { call: u32, rounds: u32 },
     /// That call is over.
-    Buried,
+    TombstoneSet,
     /// Proposers are renewed, until none is left.
     Renews,
     /// The members were told the new ages.
@@ -120,9 +120,9 @@ fn prepare(alloc: Global, key: &Key, tries: u32) -> Result<(Asked, KeyCollection
     Ok((asked, collecting))
 }
 
-/// Goes on with the collection: its call begins, or goes on; or its next step is taken. Of the first frame that waits, where one does, this
-/// becomes. An `Err` is what the operator was told, and its call is over. The collection's call ends with a conflict only once it has had
-/// all its rounds.
+/// Goes on with the collection: its call begins, or goes on; or its next step is taken. If a frame waits, the verdict says what becomes of
+/// the first one. An `Err` is what the operator was told, and its call is over. The collection's call ends with a conflict only once it has
+/// had all its rounds.
 pub fn go_on_collecting<S: Shelf, V: Disk>(
     world: &mut SteadyWorld<S, V>,
     collecting: KeyCollection,
@@ -138,7 +138,7 @@ pub fn go_on_collecting<S: Shelf, V: Disk>(
     ensures keeps { IfOk result (λ next. next.program ≡ keep_always) }
     ensures tries { IfOk result (λ next. next.tries ≡ collecting.tries) }
     ensures goes_on { OnOk result
-        (OperatesIn (IsBurialMark collecting.key) (harm_by verdict) world.old world.new) }
+        (OperatesIn (IsTombstoneMark collecting.key) (harm_by verdict) world.old world.new) }
     ensures at { IfOk result (λ next. HasCourse collecting.key
         (most_rounds collecting.tries) next.course (own_part world.new 0) world.new.marks) }
     ensures told { IfErr result (IsToldIn (asked.Collect collecting.key) (IsCollectingMark
@@ -198,11 +198,11 @@ fn take_step<S: Shelf, V: Disk>(
         (most_rounds tries) (harm_by verdict) world.old world.new result }
 {
     match course {
-        Course::Ordered => begin_burial(world, key, program),
+        Course::Ordered => begin_tombstone(world, key, program),
         Course::Buries { call, rounds } => {
-            go_on_burying(world, key, program, tries, call, rounds, verdict)
+            go_on_setting_tombstone(world, key, program, tries, call, rounds, verdict)
         }
-        Course::Buried => gather_round(world, key),
+        Course::TombstoneSet => gather_round(world, key),
         Course::Renews => renew(world, key),
         Course::HearsAges => hear_ages(world, key, verdict),
         Course::Floors => Ok(floor(world, key)),
@@ -212,7 +212,7 @@ fn take_step<S: Shelf, V: Disk>(
 }
 
 /// Begins the collection's call. An `Err` is what the operator was told.
-fn begin_burial<S: Shelf, V: Disk>(
+fn begin_tombstone<S: Shelf, V: Disk>(
     world: &mut SteadyWorld<S, V>,
     key: &Key,
     program: &Program,
@@ -228,17 +228,17 @@ fn begin_burial<S: Shelf, V: Disk>(
     let call = world.next_call(0);
     match world.begin_collect(call, key, program) {
         Ok(()) => Ok(Course::Buries { call, rounds: 1 }),
-        Err(refusal) => Err(refuse_burial(world, call, refusal)),
+        Err(refusal) => Err(refuse_tombstone(world, call, refusal)),
     }
 }
 
 /// The collection's call was refused: it was not begun, or ends with what it was told. Gives what the operator was told.
-fn refuse_burial<S: Shelf, V: Disk>(
+fn refuse_tombstone<S: Shelf, V: Disk>(
     world: &mut SteadyWorld<S, V>,
     call: u32,
     refusal: OpAnswer,
 ) -> OpAnswer
-    requires refused { IsRefusedBurial world.old call refusal }
+    requires refused { IsRefusedTombstone world.old call refusal }
     ensures same { result ≡ refusal }
     ensures stops { TellsRefusal (meaning S.Shelf V.Disk) world.old refusal world.new }
 {
@@ -255,7 +255,7 @@ fn refuse_burial<S: Shelf, V: Disk>(
 }
 
 /// Goes on with the collection's call of that number, as with any other. An `Err` is what the operator was told.
-fn go_on_burying<S: Shelf, V: Disk>(
+fn go_on_setting_tombstone<S: Shelf, V: Disk>(
     world: &mut SteadyWorld<S, V>,
     key: &Key,
     program: &Program,
@@ -266,7 +266,7 @@ fn go_on_burying<S: Shelf, V: Disk>(
 ) -> Result<Course, OpAnswer>
     requires kept { IsKept world.old }
     requires keeps { program.now ≡ keep_always }
-    requires at { HasBurial key.now call (own_part world.old 0) world.old.marks }
+    requires at { HasTombstoneCall key.now call (own_part world.old 0) world.old.marks }
     requires within { HasRoundsWithin (most_rounds tries) rounds (own_part world.old 0) }
     ensures kept { IsKept world.new }
     ensures last_proposer { world.new.last_proposer ≡ world.old.last_proposer }
@@ -277,10 +277,10 @@ fn go_on_burying<S: Shelf, V: Disk>(
         return Err(stop(world, call, told));
     }
     if world.verdict(0).is_none() {
-        return bury_again(world, key, program, call, rounds);
+        return set_tombstone_again(world, key, program, call, rounds);
     }
     if world.front(0).is_some() {
-        return take_burial_turn(world, key, call, rounds, verdict);
+        return take_tombstone_turn(world, key, call, rounds, verdict);
     }
     if world.has_proposed(0) {
         return count_tombstone(world, key, call);
@@ -289,7 +289,7 @@ fn go_on_burying<S: Shelf, V: Disk>(
 }
 
 /// Begins another round of the collection's call, whose last one ended with a conflict. An `Err` is what the operator was told.
-fn bury_again<S: Shelf, V: Disk>(
+fn set_tombstone_again<S: Shelf, V: Disk>(
     world: &mut SteadyWorld<S, V>,
     key: &Key,
     program: &Program,
@@ -298,7 +298,7 @@ fn bury_again<S: Shelf, V: Disk>(
 ) -> Result<Course, OpAnswer>
     requires kept { IsKept world.old }
     requires keeps { program.now ≡ keep_always }
-    requires at { HasBurial key.now call (own_part world.old 0) world.old.marks }
+    requires at { HasTombstoneCall key.now call (own_part world.old 0) world.old.marks }
     requires idle { (desk : DeskView V) → IsAt world.old.desks 0 desk → desk.round ≡ None }
     requires unclosed { (seen : CallerView)
         → IsAt world.old.callers 0 seen → closed_in seen.call ≡ None }
@@ -318,7 +318,7 @@ fn bury_again<S: Shelf, V: Disk>(
 }
 
 /// The first frame of the collection's round has its turn. An `Err` is what the operator was told, for want of memory.
-fn take_burial_turn<S: Shelf, V: Disk>(
+fn take_tombstone_turn<S: Shelf, V: Disk>(
     world: &mut SteadyWorld<S, V>,
     key: &Key,
     call: u32,
@@ -326,7 +326,7 @@ fn take_burial_turn<S: Shelf, V: Disk>(
     verdict: Verdict,
 ) -> Result<Course, OpAnswer>
     requires kept { IsKept world.old }
-    requires at { HasBurial key.now call (own_part world.old 0) world.old.marks }
+    requires at { HasTombstoneCall key.now call (own_part world.old 0) world.old.marks }
     requires running { (desk : DeskView V) → IsAt world.old.desks 0 desk → IsSome desk.round }
     requires waits { (queue_at world.old.flow 0).messages ≢ [] }
     ensures kept { IsKept world.new }
@@ -353,7 +353,7 @@ fn propose_tombstone<S: Shelf, V: Disk>(
     rounds: u32,
 ) -> Result<Course, OpAnswer>
     requires kept { IsKept world.old }
-    requires at { HasBurial key.now call (own_part world.old 0) world.old.marks }
+    requires at { HasTombstoneCall key.now call (own_part world.old 0) world.old.marks }
     requires within { HasRoundsWithin (most_rounds tries) rounds (own_part world.old 0) }
     requires preparing { IsInPhase world.old 0 true }
     requires unproposed { (seen : CallerView) → IsAt world.old.callers 0 seen
@@ -365,7 +365,7 @@ fn propose_tombstone<S: Shelf, V: Disk>(
 {
     match world.propose_tombstone() {
         Ok(Reading::Empty) => Ok(Course::Buries { call, rounds }),
-        Ok(Reading::Held { .. }) => Ok(Course::Buried),
+        Ok(Reading::Held { .. }) => Ok(Course::TombstoneSet),
         Err(told) => {
             if rounds < tries && told.is_conflict() {
                 return Ok(Course::Buries { call, rounds });
@@ -382,7 +382,7 @@ fn count_tombstone<S: Shelf, V: Disk>(
     call: u32,
 ) -> Result<Course, OpAnswer>
     requires kept { IsKept world.old }
-    requires at { HasBurial key.now call (own_part world.old 0) world.old.marks }
+    requires at { HasTombstoneCall key.now call (own_part world.old 0) world.old.marks }
     requires counting { IsInPhase world.old 0 false }
     ensures kept { IsKept world.new }
     ensures last_proposer { world.new.last_proposer ≡ world.old.last_proposer }
@@ -391,7 +391,7 @@ fn count_tombstone<S: Shelf, V: Disk>(
     let told = world.count_tombstone();
     if is_done(&told) {
         let _answer = world.end_collect(call, told);
-        return Ok(Course::Buried);
+        return Ok(Course::TombstoneSet);
     }
     Err(stop(world, call, told))
 }

@@ -4,13 +4,13 @@
 //! `cas_world`, the turn itself is in `cas_turn`, and passes and threads are in `cas_board`.
 #![tactic(auto)]
 
+mod changes;
 mod collections;
-mod deeds;
 mod membership;
 mod orders;
 
+pub use changes::{Begun, Stage, Waiting, begin, first_frame, go_on, let_in, stage_of};
 pub use collections::{Course, KeyCollection, go_on_collecting, order_collection};
-pub use deeds::{Begun, Stage, Waiting, begin, first_frame, go_on, let_in, stage_of};
 pub use membership::{
     Listing, MembersStep, Rescan, Rescanning, advance, list_on, order_members, rescan_on, take_up,
 };

@@ -8,7 +8,7 @@ ghost use Rattle.cas_model.specs.Collection.Step.{keep_always};
 ghost use Rattle.cas_flow.specs.Flow.{queue_at};
 ghost use Rattle.cas_members.specs.declared.plan.PlanStep.TheVariants as step;
 ghost use Rattle.cas_world.specs.Eras.Plans.{HasFinished, IsAtEnd, IsFor, IsPartial, IsUnderWay, asked_of, rescanned_of, step_of};
-ghost use Rattle.cas_board_steps.specs.Calls.Deeds.{IsRefusalBehind, harm_by};
+ghost use Rattle.cas_board_steps.specs.Calls.Changes.{IsRefusalBehind, harm_by};
 ghost use Rattle.cas_board_steps.specs.Kept.{IsKept, Makes};
 ghost use Rattle.cas_board_steps.specs.Eras.Membership.{HasListing, HasPlan, HasRescan, RoundsAreKept, IsListedTo, IsMembersAnswer, IsPlanMark, IsRescanMark, IsRescannedTo, StandsAt};
 ghost use Rattle.cas_board_steps.specs.Mine.{wanted_by, wants};
@@ -16,7 +16,7 @@ ghost use Rattle.cas_board_steps.specs.Calls.Open.{NothingIsOpen, rounds_after};
 ghost use Rattle.cas_board_steps.specs.Exchanges.Orders.{HasOrder, IsToldIn, OperatesIn};
 ghost use Rattle.cas_board_steps.specs.OwnParts.{own_part};
 
-use crate::deeds::{Begun, Stage, Waiting, begin, first_frame, go_on};
+use crate::changes::{Begun, Stage, Waiting, begin, first_frame, go_on};
 use crate::orders::open_order;
 use cas_ballot::AcceptorId;
 use cas_board_world::SteadyWorld;

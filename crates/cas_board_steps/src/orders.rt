@@ -6,14 +6,14 @@ ghost use Rattle.cas_model.specs.Exchanges.Step.{everyone};
 ghost use Rattle.cas_flow.specs.Flow.{queue_at};
 ghost use Rattle.cas_record.specs.declared.mark.Mark.{Mark};
 ghost use Rattle.cas_world.specs.Eras.Plans.{rescanned_of};
-ghost use Rattle.cas_board_steps.specs.Calls.Deeds.{IsRefusalBehind, harm_by};
+ghost use Rattle.cas_board_steps.specs.Calls.Changes.{IsRefusalBehind, harm_by};
 ghost use Rattle.cas_board_steps.specs.Kept.{IsKept, Makes};
 ghost use Rattle.cas_board_steps.specs.Calls.Open.{NothingIsOpen};
-ghost use Rattle.cas_board_steps.specs.Exchanges.Orders.{HasHarms, HasOrder, HasParts, HasProbe, IsAskingHarm, IsOfKey, IsAgreedSo, IsProbeAnswer, IsProbeStop, IsSilentAtMost, IsToldIn, IsTrueProbe, IsTrueRead, MarksHarms, OperatesIn, WasAskedBehind, asked_for, exchange_for};
+ghost use Rattle.cas_board_steps.specs.Exchanges.Orders.{HasHarms, HasOrder, HasParts, HasProbe, IsAskingHarm, IsHeardTrue, IsOfKey, IsOrderOf, IsProbeAnswer, IsProbeStop, IsSilentAtMost, IsToldIn, MarksHarms, OperatesIn, WasAskedBehind, asked_for, order_for};
 ghost use Rattle.cas_board_steps.specs.OwnParts.{own_part};
 ghost use Rattle.cas_board_steps.specs.Calls.Stages.{HasFirst};
 
-use crate::deeds::{Waiting, first_frame};
+use crate::changes::{Waiting, first_frame};
 use cas_board_world::SteadyWorld;
 use cas_change::Key;
 use cas_disk::Disk;
@@ -94,10 +94,8 @@ pub fn order_probe<S: Shelf, V: Disk>(
     ensures last_proposer { world.new.last_proposer ≡ world.old.last_proposer }
     ensures makes { Makes 0 world.old world.new [] }
     ensures counted { rescanned_of world.new.council.plan ≡ rescanned_of world.old.council.plan }
-    ensures ordered { OnOk result (HasOrder (asked_for inquiry key.now) (own_part world.new 0)) }
-    ensures inquiry { IfOk result (λ order. order.inquiry ≡ inquiry) }
-    ensures question { IfOk result (λ order. order.question ≡ exchange_for inquiry key.now) }
-    ensures key { IfOk result (λ order. order.key ≡ key.now) }
+    ensures order { IfOk result
+        (λ order. IsOrderOf inquiry key.now order (own_part world.new 0)) }
     ensures refused { IfErr result (λ why. IsRefusalBehind (length world.new.marks) why
         × NothingIsOpen (own_part world.new 0)) }
 {
@@ -113,9 +111,7 @@ pub fn order_probe<S: Shelf, V: Disk>(
 /// The copies of its key that it needs.
 fn copies_for(inquiry: Inquiry, key: &Key) -> Result<(Asked, ProbeOrder), AllocError>
     ensures asked { IfOk result (λ copies. copies.0 ≡ asked_for inquiry key.now) }
-    ensures inquiry { IfOk result (λ copies. copies.1.inquiry ≡ inquiry) }
-    ensures question { IfOk result (λ copies. copies.1.question ≡ exchange_for inquiry key.now) }
-    ensures key { IfOk result (λ copies. copies.1.key ≡ key.now) }
+    ensures order { IfOk result (λ copies. copies.1 ≡ order_for inquiry key.now) }
 {
     let (asked, question) = match inquiry {
         Inquiry::Probe => (Asked::Probe(key.copy()?), Exchange::Probe(key.copy()?)),
@@ -135,8 +131,7 @@ pub fn ask_probe<S: Shelf, V: Disk>(
     order: ProbeOrder,
 ) -> Result<Probing, OpAnswer>
     requires kept { IsKept world.old }
-    requires question { order.question ≡ exchange_for order.inquiry order.key }
-    requires ordered { HasOrder (asked_for order.inquiry order.key) (own_part world.old 0) }
+    requires order { IsOrderOf order.inquiry order.key order (own_part world.old 0) }
     ensures kept { IsKept world.new }
     ensures last_proposer { world.new.last_proposer ≡ world.old.last_proposer }
     ensures makes { OnOk result (Makes 0 world.old world.new []) }
@@ -197,14 +192,10 @@ pub fn go_on_probing<S: Shelf, V: Disk>(
         → IsProbeAnswer probing.key members heard.told) }
     ensures silent { IfErr result (λ heard. (harms : ℕ)
         → HasHarms harms (own_part world.old 0) → IsSilentAtMost harms heard.told) }
-    ensures truly { S.tells → V.tells → IfErr result (λ heard. (many : ℕ)
-        → WasAskedBehind many (own_part world.old 0)
-        → IsTrueProbe (take many world.new.marks) world.new.marks heard.told) }
-    ensures agreed { probing.inquiry ≡ Inquiry.Read → IfErr result
-        (λ heard. IsAgreedSo S.tells V.tells world.new.marks heard.told heard.agreement) }
-    ensures reads { S.tells → V.tells → IfErr result (λ heard. (many : ℕ)
-        → WasAskedBehind many (own_part world.old 0) → IsTrueRead
-        (take many world.new.marks) world.new.marks heard.told heard.agreement) }
+    ensures truly { IfErr result
+        (λ heard. (many : ℕ) → WasAskedBehind many (own_part world.old 0)
+        → IsHeardTrue probing.inquiry S.tells V.tells
+        (take many world.new.marks) world.new.marks heard) }
 {
     let Probing {
         inquiry,
@@ -274,12 +265,9 @@ fn gather_probe<S: Shelf, V: Disk>(
         → IsProbeAnswer key members result.told }
     ensures silent { (harms : ℕ)
         → HasHarms harms (own_part world.old 0) → IsSilentAtMost harms result.told }
-    ensures truly { S.tells → V.tells → (many : ℕ) → WasAskedBehind many (own_part world.old 0)
-        → IsTrueProbe (take many world.new.marks) world.new.marks result.told }
-    ensures agreed { inquiry ≡ Inquiry.Read
-        → IsAgreedSo S.tells V.tells world.new.marks result.told result.agreement }
-    ensures reads { S.tells → V.tells → (many : ℕ) → WasAskedBehind many (own_part world.old 0)
-        → IsTrueRead (take many world.new.marks) world.new.marks result.told result.agreement }
+    ensures truly { (many : ℕ) → WasAskedBehind many (own_part world.old 0)
+        → IsHeardTrue inquiry S.tells V.tells
+        (take many world.new.marks) world.new.marks result }
 {
     match world.gather() {
         Ok(gathered) => {

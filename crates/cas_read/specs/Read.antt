@@ -15,7 +15,7 @@ use Rattle.cas_record.specs.declared.operator.Asked.TheVariants as asked
 use Rattle.cas_record.specs.declared.read_answer.ReadAnswer.{ReadAnswer}
 use Rattle.cas_record.specs.declared.read_answer.ReadAnswer.TheVariants.{Value, Stopped}
 use Rattle.cas_turn.specs.Sitting.{Sitting}
-use Rattle.cas_board_steps.specs.Exchanges.Orders.{IsAgreedIn, IsAskingHarm, IsProbeAnswer, IsTrueProbe, WasEmptySince}
+use Rattle.cas_board_steps.specs.Exchanges.Orders.{IsAgreedIn, IsAskingHarm, IsProbeAnswer, IsTrueProbe, WasEmptyBehind}
 use Rattle.cas_board.specs.Looks.{told_by_look}
 use Rattle.cas_board.specs.Operations.{IsSilentSince, Operates}
 use Rattle.cas_board.specs.declared.probing.Look.{Look}
@@ -37,7 +37,7 @@ pub record IsValueSo (before all : List Mark) (key : List ℕ) (state : State) (
 -- The state is empty, and so was the register at some time since the front before.
 pub record IsEmptySo (before all : List Mark) (key : List ℕ) (state : State) : Type 0 where
   pub is : state ≡ Empty
-  pub was : WasEmptySince (length before) all key
+  pub was : WasEmptyBehind (length before) all key
 
 -- a value at a ballot above zero is that history's, and one at zero is that of an empty register
 abbrev pub IsAnswerSo : List Mark → List Mark → ReadAnswer → Type 0

@@ -14,7 +14,7 @@ use Rattle.cas_model.specs.Exchanges.Step.{told_marks}
 use Rattle.cas_turn.specs.Seen.{Begins}
 use Rattle.cas_turn.specs.Sitting.{Sitting, Turning}
 use Rattle.cas_turn.proofs.SeenLemmas.{begins_both}
-use Rattle.cas_board_steps.specs.Calls.Deeds.{IsRefusalBehind}
+use Rattle.cas_board_steps.specs.Calls.Changes.{IsRefusalBehind}
 use Rattle.cas_board_steps.specs.Eras.Counting.{EntersEras}
 use Rattle.cas_board_steps.specs.Mine.{mine, losses, done_calls, FrontGoesOn}
 use Rattle.cas_board_steps.specs.Calls.Open.{NothingIsOpen, rescanned_in}

@@ -15,7 +15,7 @@ use Rattle.cas_turn.specs.Sitting.{Sitting, Turning}
 use Rattle.cas_board_steps.specs.Collection.Collecting.{IsCollectingMark, IsCollectAnswer}
 use Rattle.cas_board_steps.specs.Calls.Conflicts.{is_conflict}
 use Rattle.cas_board_steps.specs.Eras.Counting.{count_told, HasRisen, LeavesNone}
-use Rattle.cas_board_steps.specs.Calls.Deeds.{IsRefusalBehind}
+use Rattle.cas_board_steps.specs.Calls.Changes.{IsRefusalBehind}
 use Rattle.cas_board_steps.specs.Eras.Membership.{IsMembersAnswer, IsRescanMark}
 use Rattle.cas_board_steps.specs.Mine.{mine, AreOfCall, losses, done_calls, FrontGoesOn}
 use Rattle.cas_board_steps.specs.Calls.Open.{NothingIsOpen, rescanned_in}

@@ -4,7 +4,7 @@ use Rattle.cas_record.specs.declared.answer.Answer.{Answer}
 use Rattle.cas_record.specs.declared.mark.Mark.{Mark}
 use Rattle.cas_record.specs.declared.mark.Mark.TheVariants.{Ended}
 use Rattle.cas_turn.specs.Seen.{Begins}
-use Rattle.cas_board_steps.specs.Calls.Deeds.{IsRefusalBehind}
+use Rattle.cas_board_steps.specs.Calls.Changes.{IsRefusalBehind}
 use Rattle.cas_board_steps.specs.Mine.{IsLast}
 
 -- The front begins with the one that the caller of that number had seen as its change was answered so, and whose last mark tells that answer;

@@ -35,7 +35,7 @@ use Rattle.cas_model.proofs.Places.{at_one, at_set, some_is}
 use Rattle.cas_turn.specs.Seen.{OnlyOwnedBy}
 use Rattle.cas_world.specs.World.{WasTold}
 use Rattle.cas_board_steps.specs.Calls.Conflicts.{is_conflict, told_conflict}
-use Rattle.cas_board_steps.specs.Calls.Deeds.{harm_by}
+use Rattle.cas_board_steps.specs.Calls.Changes.{harm_by}
 use Rattle.cas_board_steps.specs.Mine.{mine, call_of, AreOfCall, losses, Wanted, wanted_after}
 use Rattle.cas_board_steps.specs.Owners.{owner_of, is_answer, MayAdd}
 use Rattle.cas_board_steps.proofs.Calls.Acts.{spares_same, spares_set, SparesRounds, spares_rounds, has_round, round_set, Acts, acts_then}

@@ -24,7 +24,7 @@ use Rattle.cas_world.specs.Readers.{next_number}
 use Rattle.cas_world.specs.Calls.Reading.{HasProposed}
 use Rattle.cas_world.specs.World.{WasTold}
 use Rattle.cas_board_steps.specs.Calls.Conflicts.{is_conflict, told_conflict}
-use Rattle.cas_board_steps.specs.Calls.Deeds.{BeginsIn, IsRefusalBehind, LeavesIdle, BeginsNot, ends_at_once, is_refused, GoesOnIn, EndsMarked, StraysIn, harm_by}
+use Rattle.cas_board_steps.specs.Calls.Changes.{BeginsIn, IsRefusalBehind, LeavesIdle, BeginsNot, ends_at_once, is_refused, GoesOnIn, EndsMarked, StraysIn, harm_by}
 use Rattle.cas_board_steps.specs.Kept.{IsStaged, running, IsKept, Makes}
 use Rattle.cas_board_steps.specs.Mine.{mine, call_of, AreOfCall, losses, Wanted, wants, wanted_after, wanted_by}
 use Rattle.cas_board_steps.specs.Owners.{owner_of}

@@ -35,8 +35,8 @@ use Rattle.cas_board_steps.specs.Mine.{Wanted, wants, wanted_by}
 use Rattle.cas_board_steps.specs.OwnParts.{own_part}
 use Rattle.cas_board_steps.specs.Calls.Open.{HasOpen, is_met_in}
 use Rattle.cas_board_steps.specs.Calls.Stages.{IsStageOf, front_of, tells_met}
-use Rattle.cas_board_steps.specs.declared.deeds.Stage.{Stage}
-use Rattle.cas_board_steps.specs.declared.deeds.Stage.TheVariants as stages
+use Rattle.cas_board_steps.specs.declared.changes.Stage.{Stage}
+use Rattle.cas_board_steps.specs.declared.changes.Stage.TheVariants as stages
 use Rattle.cas_board_steps.proofs.Calls.Events.{told_in}
 use Rattle.cas_board_steps.proofs.Parts.{IsOpenAt, open_at, met_part}
 

@@ -9,7 +9,7 @@ use Rattle.cas_record.specs.declared.operator.Asked.{Asked}
 use Rattle.cas_record.specs.declared.operator.OpAnswer.{OpAnswer}
 use Rattle.cas_protocol.specs.Protocol.{is_done}
 use Rattle.cas_model.specs.View.{View}
-use Rattle.cas_board_steps.specs.Collection.Collecting.{IsBurialMark, IsCollectingMark, most_rounds}
+use Rattle.cas_board_steps.specs.Collection.Collecting.{IsTombstoneMark, IsCollectingMark, most_rounds}
 use Rattle.cas_board_steps.specs.Calls.Conflicts.{is_conflict}
 use Rattle.cas_board_steps.specs.Eras.Membership.{IsPlanMark, IsRescanMark}
 use Rattle.cas_board_steps.specs.Mine.{mine}
@@ -43,19 +43,19 @@ rescan_within tries (EraEntered proposer number) is = tt
 rescan_within tries (Ended caller one rounds told) is = λ conflict. absurd (cc (is, conflict))
 rescan_within tries (Told asked told) is = is
 
-pub burial_within : (key : List ℕ) (tries : ℕ) (mark : Mark) → IsBurialMark key mark → IsCollectingMark key tries mark
-burial_within key tries (Proposed p) is = tt
-burial_within key tries (Harmed caller one down) is = tt
-burial_within key tries (Begun caller one other program) is = is
-burial_within key tries (Ended caller one rounds told) is = λ conflict. absurd (cc (is, conflict))
-burial_within key tries (Voted acceptor other ballot) is = is
-burial_within key tries (Acked a) is = is
-burial_within key tries (Floor other ballot state) is = is
-burial_within key tries (EraEntered proposer number) is = is
-burial_within key tries (Told asked told) is = is
+pub tombstone_within : (key : List ℕ) (tries : ℕ) (mark : Mark) → IsTombstoneMark key mark → IsCollectingMark key tries mark
+tombstone_within key tries (Proposed p) is = tt
+tombstone_within key tries (Harmed caller one down) is = tt
+tombstone_within key tries (Begun caller one other program) is = is
+tombstone_within key tries (Ended caller one rounds told) is = λ conflict. absurd (cc (is, conflict))
+tombstone_within key tries (Voted acceptor other ballot) is = is
+tombstone_within key tries (Acked a) is = is
+tombstone_within key tries (Floor other ballot state) is = is
+tombstone_within key tries (EraEntered proposer number) is = is
+tombstone_within key tries (Told asked told) is = is
 
-pub told_within : {S V Q : Type 0} {asks : Asked} {most : ℕ} {old new : View S V} {told : OpAnswer} (key : List ℕ) (tries : ℕ) → IsToldIn asks (IsBurialMark key) most old new told × Q → IsToldIn asks (IsCollectingMark key tries) most old new told × Q
-told_within key tries (t, q) = (record { marks = t.marks; makes = t.makes; all_such = All-weaker (IsBurialMark key) (IsCollectingMark key tries) (burial_within key tries) (mine 0 t.marks) t.all_such; few = t.few; is_free = t.is_free; counts = λ enters. absurd (enters 0 0); keeps = λ not. t.keeps (λ enters. enters 0 0) }, q)
+pub told_within : {S V Q : Type 0} {asks : Asked} {most : ℕ} {old new : View S V} {told : OpAnswer} (key : List ℕ) (tries : ℕ) → IsToldIn asks (IsTombstoneMark key) most old new told × Q → IsToldIn asks (IsCollectingMark key tries) most old new told × Q
+told_within key tries (t, q) = (record { marks = t.marks; makes = t.makes; all_such = All-weaker (IsTombstoneMark key) (IsCollectingMark key tries) (tombstone_within key tries) (mine 0 t.marks) t.all_such; few = t.few; is_free = t.is_free; counts = λ enters. absurd (enters 0 0); keeps = λ not. t.keeps (λ enters. enters 0 0) }, q)
 
 -- ---- how many rounds there may be
 pub most_some : (tries : ℕ) → 1 ≤ most_rounds tries

@@ -11,7 +11,7 @@ use Rattle.cas_model.specs.Safe.{is_of_collection}
 use Rattle.cas_model.specs.Collection.Step.{keep_always}
 use Rattle.cas_model.specs.View.{View, CallView, CallerView, IsAt}
 use Rattle.cas_model.proofs.Places.{some_is}
-use Rattle.cas_board_steps.specs.Collection.Collecting.{CollectsAt, HasBurial, HasStep, HasQuestion}
+use Rattle.cas_board_steps.specs.Collection.Collecting.{CollectsAt, HasTombstoneCall, HasStep, HasQuestion}
 use Rattle.cas_board_steps.specs.Kept.{IsKept}
 use Rattle.cas_board_steps.specs.Mine.{Wanted, wants, wanted_by}
 use Rattle.cas_board_steps.specs.OwnParts.{call_part, open_part, caller_part, step_part, round_part, question_part, order_part, plan_part, exchange_part, collection_part, council_part, own_part, phase_of}
@@ -112,7 +112,7 @@ is_asked view key due has =
     record { no_call = it.no_call; at = collects_like key due 2 view.council has.council it.like has.at; exchange = x.now; is_open = x.is_open; of_it = of_same x.now.question has.exchange.question x.question has.of_it }
 
 -- ---- its call
-pub record IsBurying {S V : Type 0} (view : View S V) (key : List ℕ) (call : ℕ) : Type 0 where
+pub record IsSettingTombstone {S V : Type 0} (view : View S V) (key : List ℕ) (call : ℕ) : Type 0 where
   pub caller : CallerView
   pub at_caller : IsAt view.callers 0 caller
   pub number : caller.number ≡ call
@@ -121,7 +121,7 @@ pub record IsBurying {S V : Type 0} (view : View S V) (key : List ℕ) (call : �
   pub at : CollectsAt key step.Round 0 view.council
   pub none_asked : view.council.exchange ≡ None
 
-record BurialParts (o : Option CallerView) (rest : List ℕ) (call : ℕ) (tail : List ℕ) : Type 0 where
+record TombstoneParts (o : Option CallerView) (rest : List ℕ) (call : ℕ) (tail : List ℕ) : Type 0 where
   caller : CallerView
   is : o ≡ Some caller
   number : caller.number ≡ call
@@ -129,20 +129,20 @@ record BurialParts (o : Option CallerView) (rest : List ℕ) (call : ℕ) (tail 
   is_open : caller.call ≡ Some open_call
   rest_is : rest ≡ tail
 
-burial_call : (caller : CallerView) (is_call : Option CallView) (rest : List ℕ) (call rounds phase : ℕ) (tail : List ℕ) → caller.call ≡ is_call → (kind_of rest ≢ 0) → open_part caller.number is_call ++ rest ≡ call_part call rounds phase ++ tail → BurialParts (Some caller) rest call tail
-burial_call caller None rest call rounds phase tail is not e = absurd (not (ap kind_of e))
-burial_call caller (Some one) rest call rounds phase tail is not e =
+tombstone_call : (caller : CallerView) (is_call : Option CallView) (rest : List ℕ) (call rounds phase : ℕ) (tail : List ℕ) → caller.call ≡ is_call → (kind_of rest ≢ 0) → open_part caller.number is_call ++ rest ≡ call_part call rounds phase ++ tail → TombstoneParts (Some caller) rest call tail
+tombstone_call caller None rest call rounds phase tail is not e = absurd (not (ap kind_of e))
+tombstone_call caller (Some one) rest call rounds phase tail is not e =
     let same_number : caller.number ≡ call = cc e in
     let same_rest : rest ≡ tail = cc e in
     record { caller = caller; is = refl; number = same_number; open_call = one; is_open = is; rest_is = same_rest }
 
-burial_caller : (o : Option CallerView) (rest : List ℕ) (call rounds phase : ℕ) (tail : List ℕ) → (kind_of rest ≢ 0) → caller_part o ++ rest ≡ call_part call rounds phase ++ tail → BurialParts o rest call tail
-burial_caller None rest call rounds phase tail not e = absurd (not (ap kind_of e))
-burial_caller (Some one) rest call rounds phase tail not e = burial_call one one.call rest call rounds phase tail refl not e
+tombstone_caller : (o : Option CallerView) (rest : List ℕ) (call rounds phase : ℕ) (tail : List ℕ) → (kind_of rest ≢ 0) → caller_part o ++ rest ≡ call_part call rounds phase ++ tail → TombstoneParts o rest call tail
+tombstone_caller None rest call rounds phase tail not e = absurd (not (ap kind_of e))
+tombstone_caller (Some one) rest call rounds phase tail not e = tombstone_call one one.call rest call rounds phase tail refl not e
 
-pub is_burying : {S V : Type 0} (view : View S V) (key : List ℕ) (call : ℕ) (marks : List Mark) → HasBurial key call (own_part view 0) marks → IsBurying view key call
-is_burying view key call marks has =
-    let p = burial_caller (slice_get view.callers 0) (council_part view.council) call has.rounds has.phase (council_part has.council) (no_call_kind view.council) has.is in
+pub is_setting_tombstone : {S V : Type 0} (view : View S V) (key : List ℕ) (call : ℕ) (marks : List Mark) → HasTombstoneCall key call (own_part view 0) marks → IsSettingTombstone view key call
+is_setting_tombstone view key call marks has =
+    let p = tombstone_caller (slice_get view.callers 0) (council_part view.council) call has.rounds has.phase (council_part has.council) (no_call_kind view.council) has.is in
     let like = is_like view.council has.council p.rest_is in
     record {
       caller = p.caller;
@@ -154,8 +154,8 @@ is_burying view key call marks has =
       none_asked = no_exchange view.council.exchange (like.exchange ∙ ap exchange_part has.none_asked);
     }
 
-pub has_burial : {S V : Type 0} (view : View S V) (key : List ℕ) (call : ℕ) → IsBurying view key call → wanted_by 0 view.marks ≡ Some (wants call key keep_always) → HasBurial key call (own_part view 0) view.marks
-has_burial view key call is wanted = record {
+pub has_tombstone : {S V : Type 0} (view : View S V) (key : List ℕ) (call : ℕ) → IsSettingTombstone view key call → wanted_by 0 view.marks ≡ Some (wants call key keep_always) → HasTombstoneCall key call (own_part view 0) view.marks
+has_tombstone view key call is wanted = record {
   rounds = is.open_call.rounds;
   phase = phase_of is.open_call;
   council = view.council;
@@ -170,7 +170,7 @@ pub record IsKeeping (call : CallView) (key : List ℕ) : Type 0 where
   pub key_is : call.key ≡ key
   pub program_is : call.program ≡ keep_always
 
-pub is_keeping : {S V : Type 0} (view : View S V) (key : List ℕ) (call : ℕ) (is : IsBurying view key call) → wanted_by 0 view.marks ≡ Some (wants call key keep_always) → IsKept view → IsKeeping is.open_call key
+pub is_keeping : {S V : Type 0} (view : View S V) (key : List ℕ) (call : ℕ) (is : IsSettingTombstone view key call) → wanted_by 0 view.marks ≡ Some (wants call key keep_always) → IsKept view → IsKeeping is.open_call key
 is_keeping view key call is wanted kept =
     let same : wants is.caller.number is.open_call.key is.open_call.program ≡ wants call key keep_always = some_is (sym (kept.wanted 0 is.caller is.open_call is.at_caller is.is_open) ∙ wanted) in
     record { key_is = ap (λ (w : Wanted). w.key) same; program_is = ap (λ (w : Wanted). w.program) same }

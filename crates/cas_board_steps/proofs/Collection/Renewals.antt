@@ -29,7 +29,7 @@ use Rattle.cas_world.specs.Collection.Collect.{GoesOnCollecting, renewal_in, ren
 use Rattle.cas_world.specs.Exchanges.Exchange.{WasToldOrder}
 use Rattle.cas_world.specs.Eras.Plans.{rescanned_of}
 use Rattle.cas_world.specs.Readers.{closed_in}
-use Rattle.cas_board_steps.specs.Collection.Collecting.{HasStep, IsBurialMark, IsCollectAnswer}
+use Rattle.cas_board_steps.specs.Collection.Collecting.{HasStep, IsTombstoneMark, IsCollectAnswer}
 use Rattle.cas_board_steps.specs.Calls.Conflicts.{told_conflict, is_conflict}
 use Rattle.cas_board_steps.specs.Kept.{IsStaged, running, is_met, is_closed, IsKept, Makes}
 use Rattle.cas_board_steps.specs.Mine.{wants, wanted_by}
@@ -72,7 +72,7 @@ makes_behind a b c l first then_ = record {
 
 -- so the operator is told behind it
 passes_told : {S V : Type 0} (key : List ℕ) (most : ℕ) (old mid new : View S V) (said told : OpAnswer) → Passes old mid → mid.council.order ≡ Some (told_so said (new_order (asked.Collect key))) → IsCollectAnswer key said → rescanned_of mid.council.plan ≡ rescanned_of old.council.plan → WasToldOrder mid told → StepTell mid told new
-    → Held old new (IsToldIn (asked.Collect key) (IsBurialMark key) most old new told × IsCollectAnswer key told)
+    → Held old new (IsToldIn (asked.Collect key) (IsTombstoneMark key) most old new told × IsCollectAnswer key told)
 passes_told key most old mid new said told passes order answers planned was ends =
     let held = stopped_held key most mid mid new told (record { leaves = leaves_desks mid mid mid [] refl refl refl refl (sym (append-nil mid.marks)); said = said; order = order; answers = answers; planned = refl }) was ends passes.kept passes.none in
     let d = held.does.0 in
@@ -219,7 +219,7 @@ passes_broken {S} {V} old inner middle passes is = subst (λ (w : View S V). Pas
 
 -- ---- the next proposer is renewed
 pub renew_held : {S V : Type 0} (m : Meaning S V) (key : List ℕ) (proposer most : ℕ) (old new : View S V) → HasStep key (step.Renew proposer) (own_part old 0) → IsKept old → StepRenew m old proposer new → GoesOnCollecting old new
-    → Held old new (OperatesIn (IsBurialMark key) most old new × (HasStep key step.Ages (own_part new 0) ⊎ ((next : ℕ) × HasStep key (step.Renew next) (own_part new 0))))
+    → Held old new (OperatesIn (IsTombstoneMark key) most old new × (HasStep key step.Ages (own_part new 0) ⊎ ((next : ℕ) × HasStep key (step.Renew next) (own_part new 0))))
 renew_held {S} {V} m key proposer most old new has kept by ok = by_case by.renews
   where
     was : IsStep old key (step.Renew proposer)
@@ -239,7 +239,7 @@ renew_held {S} {V} m key proposer most old new has kept by ok = by_case by.renew
     told_not : {A : Type 0} (said : OpAnswer) (council : Council) → council.order ≡ old.council.order → new.council.order ≡ option_map (told_so said) council.order → A
     told_not said council same is = absurd (cc (ap (option_map (λ (o : OrderView). o.told)) (sym silent ∙ is ∙ ap (option_map (told_so said)) (same ∙ was.at.order))))
 
-    by_case : RenewsNext m old by.at proposer by.desk new → Held old new (OperatesIn (IsBurialMark key) most old new × (HasStep key step.Ages (own_part new 0) ⊎ ((p : ℕ) × HasStep key (step.Renew p) (own_part new 0))))
+    by_case : RenewsNext m old by.at proposer by.desk new → Held old new (OperatesIn (IsTombstoneMark key) most old new × (HasStep key step.Ages (own_part new 0) ⊎ ((p : ℕ) × HasStep key (step.Renew p) (own_part new 0))))
     by_case (collect.renews age middle leaves is) =
         let l = leaves_round old middle proposer (answer.Aged age) (cause.Aged age) refl refl (λ desk now turns. ap (λ (d : DeskView V). d.round) turns.desk) leaves kept was.no_call in
         let passes = passes_council old middle new _ l.0 is in
@@ -263,7 +263,7 @@ renew_held {S} {V} m key proposer most old new has kept by ok = by_case by.renew
     by_case (collect.no_memory now up finds is) = told_not (op.Stopped (answer.NoMemory false)) old.council refl (ap (λ (w : View S V). w.council.order) is)
 
 pub renew_told : {S V : Type 0} (m : Meaning S V) (key : List ℕ) (proposer most : ℕ) (old mid new : View S V) (told : OpAnswer) → HasStep key (step.Renew proposer) (own_part old 0) → IsKept old → StepRenew m old proposer mid → WasToldOrder mid told → StepTell mid told new
-    → Held old new (IsToldIn (asked.Collect key) (IsBurialMark key) most old new told × IsCollectAnswer key told)
+    → Held old new (IsToldIn (asked.Collect key) (IsTombstoneMark key) most old new told × IsCollectAnswer key told)
 renew_told {S} {V} m key proposer most old mid new told has kept by said ends = by_case by.renews
   where
     was : IsStep old key (step.Renew proposer)
@@ -272,7 +272,7 @@ renew_told {S} {V} m key proposer most old mid new told has kept by said ends = 
     order_of : (what : OpAnswer) (council : Council) → council.order ≡ old.council.order → option_map (told_so what) council.order ≡ Some (told_so what (new_order (asked.Collect key)))
     order_of what council same = ap (option_map (told_so what)) (same ∙ was.at.order)
 
-    by_case : RenewsNext m old by.at proposer by.desk mid → Held old new (IsToldIn (asked.Collect key) (IsBurialMark key) most old new told × IsCollectAnswer key told)
+    by_case : RenewsNext m old by.at proposer by.desk mid → Held old new (IsToldIn (asked.Collect key) (IsTombstoneMark key) most old new told × IsCollectAnswer key told)
     by_case (collect.renews age middle leaves is) = absurd (cc (sym (ap (λ (o : OrderView). o.told) (some_is (sym said.is_open ∙ ap (λ (w : View S V). w.council.order) is))) ∙ said.was_said))
     by_case (collect.is_down down is) = passes_told key most old mid new (op.ProposerDown proposer) told (passes_council old old mid _ (passes_none old kept was.no_call) is) (ap (λ (w : View S V). w.council.order) is ∙ order_of (op.ProposerDown proposer) old.council refl) tt (ap (λ (w : View S V). rescanned_of w.council.plan) is) said ends
     by_case (collect.fails middle (stops.of_client not leaves) is) =

@@ -42,17 +42,17 @@ use Rattle.cas_world.specs.Calls.Reading.{HasProposed}
 use Rattle.cas_world.specs.World.{WasTold}
 use Rattle.cas_board_steps.specs.Collection.Collecting as collecting_
 use Rattle.cas_board_steps.specs.Eras.Counting.{EntersEras}
-use Rattle.cas_board_steps.specs.Collection.Collecting.{CollectsAt, HasBurial, IsBurialMark, IsCollectAnswer, IsCollectingMark, IsRefusedBurial, HasRoundsWithin, TellsRefusal, Stops}
+use Rattle.cas_board_steps.specs.Collection.Collecting.{CollectsAt, HasTombstoneCall, IsTombstoneMark, IsCollectAnswer, IsCollectingMark, IsRefusedTombstone, HasRoundsWithin, TellsRefusal, Stops}
 use Rattle.cas_board_steps.specs.Calls.Conflicts.{is_conflict, told_conflict}
-use Rattle.cas_board_steps.specs.Calls.Deeds.{harm_by}
+use Rattle.cas_board_steps.specs.Calls.Changes.{harm_by}
 use Rattle.cas_board_steps.specs.Kept.{IsStaged, running, is_met, is_closed, IsKept}
 use Rattle.cas_board_steps.specs.Mine.{mine, losses, Wanted, wants, wanted_after, wanted_by}
 use Rattle.cas_board_steps.specs.Calls.Open.{rounds_in, is_met_in}
 use Rattle.cas_board_steps.specs.Exchanges.Orders.{new_order, HasOrder, OperatesIn, IsToldIn}
 use Rattle.cas_board_steps.specs.Owners.{owner_of, MayAdd}
 use Rattle.cas_board_steps.specs.OwnParts.{round_part, own_part}
-use Rattle.cas_board_steps.proofs.Collection.Rounds.{Leads, leads_acts, leads_council, makes_led, kept_led, none_rescanned, Reaches, reaches_over, asks_there, burial_held, stops_held, such_marks}
-use Rattle.cas_board_steps.proofs.Collection.Collecting.{IsBurying, is_burying, has_burial, IsKeeping, is_keeping}
+use Rattle.cas_board_steps.proofs.Collection.Rounds.{Leads, leads_acts, leads_council, makes_led, kept_led, none_rescanned, Reaches, reaches_over, asks_there, tombstone_held, stops_held, such_marks}
+use Rattle.cas_board_steps.proofs.Collection.Collecting.{IsSettingTombstone, is_setting_tombstone, has_tombstone, IsKeeping, is_keeping}
 use Rattle.cas_board_steps.proofs.Collection.Steps.{stopped_held, no_call_at}
 use Rattle.cas_board_steps.proofs.Exchanges.Councils.{IsOrdered, is_ordered}
 use Rattle.cas_board_steps.proofs.Calls.Events.{CallBegins, CallGoesOn, CallIsOver, over_where_told, count_unmet, first_begins, again_goes_on, turn_goes_on, refused_turn_goes_on, propose_goes_on, count_is_over, told_in}
@@ -61,8 +61,8 @@ use Rattle.cas_board_steps.proofs.Calls.Holds.{Held, over_at_once}
 use Rattle.cas_board_steps.proofs.Exchanges.Operating.{Leaves, leaves_desks, leaves_others}
 use Rattle.cas_board_steps.proofs.Parts.{rounds_part, met_part}
 use Rattle.cas_board_steps.proofs.Calls.Stages.{next_at, desk_of, running_call, runs_there, unmet_there, turn_running, proposed_running, propose_met, met_told, waits_there, as_turn, as_refusal}
-use Rattle.cas_board_steps.proofs.Calls.Tries.{burial_within}
-use Rattle.cas_board_steps.proofs.Collection.RoundStages.{burial_open}
+use Rattle.cas_board_steps.proofs.Calls.Tries.{tombstone_within}
+use Rattle.cas_board_steps.proofs.Collection.RoundStages.{tombstone_open}
 
 -- ---- what its calls ask
 calling_is : (c : CollectionView) → round_part c ≡ 0 → c.calling ≡ true
@@ -92,19 +92,19 @@ first_may view key call program next has =
     let at = next_at view 0 call next in
     first at.caller at.at_caller (is.no_call at.caller at.at_caller) (let k = at.number in omega (arith, k))
 
-pub may_again : {S V : Type 0} (view : View S V) (key : List ℕ) (call : ℕ) (marks : List Mark) → HasBurial key call (own_part view 0) marks → MayCollectKey view key
+pub may_again : {S V : Type 0} (view : View S V) (key : List ℕ) (call : ℕ) (marks : List Mark) → HasTombstoneCall key call (own_part view 0) marks → MayCollectKey view key
 may_again view key call marks has =
-    let is = is_burying view key call marks has in
+    let is = is_setting_tombstone view key call marks has in
     record { order = new_order (asked.Collect key); is_open = is.at.order; is_for = refl; none_asked = is.none_asked; goes_on = λ caller one at is_call. is_collecting key view.council is.at }
 
-pub again_may : {S V : Type 0} (view : View S V) (key : List ℕ) (call : ℕ) (program : List Clause) → program ≡ keep_always → IsKept view → HasBurial key call (own_part view 0) view.marks → ((desk : DeskView V) → IsAt view.desks 0 desk → desk.round ≡ None)
+pub again_may : {S V : Type 0} (view : View S V) (key : List ℕ) (call : ℕ) (program : List Clause) → program ≡ keep_always → IsKept view → HasTombstoneCall key call (own_part view 0) view.marks → ((desk : DeskView V) → IsAt view.desks 0 desk → desk.round ≡ None)
     → ((caller : CallerView) → IsAt view.callers 0 caller → closed_in caller.call ≡ None) → MayBegin view 0 call key program
 again_may {S} {V} view key call program keeps kept has idle unclosed =
-    let is = is_burying view key call view.marks has in
+    let is = is_setting_tombstone view key call view.marks has in
     let d = desk_of view 0 is.caller is.at_caller kept in
     by_stage is (is_keeping view key call is has.wanted kept) (kept.staged 0 d.desk is.caller is.open_call d.at_desk is.at_caller is.is_open) (idle d.desk d.at_desk)
   where
-    by_stage : (is : IsBurying view key call) → IsKeeping is.open_call key → {desk : DeskView V} → IsStaged desk is.open_call → desk.round ≡ None → MayBegin view 0 call key program
+    by_stage : (is : IsSettingTombstone view key call) → IsKeeping is.open_call key → {desk : DeskView V} → IsStaged desk is.open_call → desk.round ≡ None → MayBegin view 0 call key program
     by_stage is keeping (running some unmet unclosed_) none = absurd (cc (subst IsSome none some))
     by_stage is keeping (is_met no_round met unproposed unclosed_) none = another is.caller is.open_call is.at_caller is.is_open (sym is.number) keeping.key_is (keeping.program_is ∙ sym keeps) unproposed met idle
     by_stage is keeping (is_closed no_round closed unmet) none = absurd (cc (subst IsSome (ap closed_in (sym is.is_open) ∙ unclosed is.caller is.at_caller) closed))
@@ -125,8 +125,8 @@ new_at key council order c asks none due same calling = record {
 begun_marks : (number : ℕ) (key : List ℕ) (more : List Mark) → OnlyOwnedBy owner_of 0 more → OnlyOwnedBy owner_of 0 (kinds.Begun 0 number key keep_always ∷ more)
 begun_marks number key more only = All-cons (λ i. (m : ℕ) → owner_of i ≡ Some m → m ≡ 0) (kinds.Begun 0 number key keep_always) more (λ m e. sym (some_is e)) only
 
-begun_such : (number : ℕ) (key : List ℕ) (more : List Mark) → All (IsBurialMark key) (mine 0 more) → All (IsBurialMark key) (mine 0 (kinds.Begun 0 number key keep_always ∷ more))
-begun_such number key more such = subst (All (IsBurialMark key)) (sym (mine_own 0 (kinds.Begun 0 number key keep_always) more refl)) (All-cons (IsBurialMark key) (kinds.Begun 0 number key keep_always) (mine 0 more) (refl, refl) such)
+begun_such : (number : ℕ) (key : List ℕ) (more : List Mark) → All (IsTombstoneMark key) (mine 0 more) → All (IsTombstoneMark key) (mine 0 (kinds.Begun 0 number key keep_always ∷ more))
+begun_such number key more such = subst (All (IsTombstoneMark key)) (sym (mine_own 0 (kinds.Begun 0 number key keep_always) more refl)) (All-cons (IsTombstoneMark key) (kinds.Begun 0 number key keep_always) (mine 0 more) (refl, refl) such)
 
 begun_few : (number most : ℕ) (key : List ℕ) (more : List Mark) → losses (mine 0 more) ≤ most → losses (mine 0 (kinds.Begun 0 number key keep_always ∷ more)) ≤ most
 begun_few number most key more few = subst (λ (l : List Mark). losses l ≤ most) (sym (mine_own 0 (kinds.Begun 0 number key keep_always) more refl)) few
@@ -135,17 +135,17 @@ wanted_begun : (number : ℕ) (key : List ℕ) (old more : List Mark) → ((befo
 wanted_begun number key old more asks = wanted_append 0 None old (kinds.Begun 0 number key keep_always ∷ more) ∙ asks (Some (wants number key keep_always))
 
 -- by what its beginning does
-data BeginsBurial {S V : Type 0} (m : Meaning S V) (key : List ℕ) (old new : View S V) : Type 0 where
-  refuses : Leaves old new [] → (said : OpAnswer) → new.council.order ≡ Some (told_so said (new_order (asked.Collect key))) → IsCollectAnswer key said → rescanned_of new.council.plan ≡ rescanned_of old.council.plan → BeginsBurial m key old new
-  begins : (caller : CallerView) → IsAt old.callers 0 caller → (middle : View S V) → CallBegins 0 0 old middle (suc caller.number) key keep_always → (council : Council) → new ≡ record middle { council = council } → CollectsAt key step.Round 0 council → council.exchange ≡ None → old.council.plan ≡ None → BeginsBurial m key old new
+data BeginsTombstone {S V : Type 0} (m : Meaning S V) (key : List ℕ) (old new : View S V) : Type 0 where
+  refuses : Leaves old new [] → (said : OpAnswer) → new.council.order ≡ Some (told_so said (new_order (asked.Collect key))) → IsCollectAnswer key said → rescanned_of new.council.plan ≡ rescanned_of old.council.plan → BeginsTombstone m key old new
+  begins : (caller : CallerView) → IsAt old.callers 0 caller → (middle : View S V) → CallBegins 0 0 old middle (suc caller.number) key keep_always → (council : Council) → new ≡ record middle { council = council } → CollectsAt key step.Round 0 council → council.exchange ≡ None → old.council.plan ≡ None → BeginsTombstone m key old new
 
-begins_burial : {S V : Type 0} (m : Meaning S V) (key : List ℕ) (old new : View S V) → IsOrdered old (asked.Collect key) → StepBeginCollect m (λ before after. StepBegin m before 0 key keep_always after) old key new → BeginsBurial m key old new
-begins_burial {S} {V} m key old new was by = by_case by.begins
+begins_tombstone : {S V : Type 0} (m : Meaning S V) (key : List ℕ) (old new : View S V) → IsOrdered old (asked.Collect key) → StepBeginCollect m (λ before after. StepBegin m before 0 key keep_always after) old key new → BeginsTombstone m key old new
+begins_tombstone {S} {V} m key old new was by = by_case by.begins
   where
     told_order : (said : OpAnswer) (council : Council) → council.order ≡ old.council.order → option_map (told_so said) council.order ≡ Some (told_so said (new_order (asked.Collect key)))
     told_order said council same = ap (option_map (told_so said)) (same ∙ was.order)
 
-    by_refusal : (middle : View S V) → old.council.plan ≡ None → calls.RefusesCall m old 0 key middle → new ≡ told_view middle (op.Stopped (answer.NoMemory false)) → BeginsBurial m key old new
+    by_refusal : (middle : View S V) → old.council.plan ≡ None → calls.RefusesCall m old 0 key middle → new ≡ told_view middle (op.Stopped (answer.NoMemory false)) → BeginsTombstone m key old new
     by_refusal middle none (calls.stays told council refusal anew same) is =
         refuses (leaves_desks old (told_view middle (op.Stopped (answer.NoMemory false))) new [] is (ap (λ (w : View S V). w.last_proposer) same) (ap (λ (w : View S V). w.desks) same) (ap (λ (w : View S V). w.callers) same) (ap (λ (w : View S V). w.marks) same ∙ sym (append-nil old.marks)))
         (op.Stopped (answer.NoMemory false)) (ap (λ (w : View S V). w.council.order) is ∙ told_order (op.Stopped (answer.NoMemory false)) middle.council (ap (λ (w : View S V). w.council.order) same ∙ ap (λ (c : Council). c.order) (none_rescanned key told old.council council none anew))) tt
@@ -155,7 +155,7 @@ begins_burial {S} {V} m key old new was by = by_case by.begins
         (op.Stopped (answer.NoMemory false)) (ap (λ (w : View S V). w.council.order) is ∙ told_order (op.Stopped (answer.NoMemory false)) middle.council (ap (λ (w : View S V). w.council.order) same ∙ ap (λ (c : Council). c.order) (none_rescanned key (answer.NoMemory false) old.council council none anew))) tt
         (ap (λ (w : View S V). rescanned_of w.council.plan) is ∙ ap (λ (w : View S V). rescanned_of w.council.plan) same ∙ ap (λ (c : Council). rescanned_of c.plan) (none_rescanned key (answer.NoMemory false) old.council council none anew))
 
-    by_case : BeginsCollection m (λ before after. StepBegin m before 0 key keep_always after) old key by.may.order by.desk by.caller new → BeginsBurial m key old new
+    by_case : BeginsCollection m (λ before after. StepBegin m before 0 key keep_always after) old key by.may.order by.desk by.caller new → BeginsTombstone m key old new
     by_case (collect.is_down none down is) = refuses (leaves_desks old _ new [] is refl refl refl (sym (append-nil old.marks))) (op.Stopped answer.Down) (ap (λ (w : View S V). w.council.order) is ∙ told_order (op.Stopped answer.Down) old.council refl) tt (ap (λ (w : View S V). rescanned_of w.council.plan) is)
     by_case (collect.is_busy plan none up planned is) = refuses (leaves_desks old _ new [] is refl refl refl (sym (append-nil old.marks))) (op.Busy (era_at old 0).number) (ap (λ (w : View S V). w.council.order) is ∙ told_order (op.Busy (era_at old 0).number) old.council refl) tt (ap (λ (w : View S V). rescanned_of w.council.plan) is)
     by_case (collect.is_full none up unplanned full is) = refuses (leaves_desks old _ new [] is refl refl refl (sym (append-nil old.marks))) (op.Stopped answer.RecordFull) (ap (λ (w : View S V). w.council.order) is ∙ told_order (op.Stopped answer.RecordFull) old.council refl) tt (ap (λ (w : View S V). rescanned_of w.council.plan) is)
@@ -166,13 +166,13 @@ begins_burial {S} {V} m key old new was by = by_case by.begins
     by_case (collect.goes_on middle call is_it open_ begun is) = absurd (cc (sym (was.no_call by.caller by.may.at_caller) ∙ open_))
 
 pub begun_held : {S V : Type 0} (m : Meaning S V) (key : List ℕ) (call most : ℕ) (old new : View S V) → option_map next_number (slice_get old.callers 0) ≡ Some call → HasOrder (asked.Collect key) (own_part old 0) → IsKept old → StepBeginCollect m (λ before after. StepBegin m before 0 key keep_always after) old key new → HasCollected new call key
-    → Held old new (OperatesIn (IsBurialMark key) most old new × HasBurial key call (own_part new 0) new.marks)
-begun_held {S} {V} m key call most old new next has kept by round = by_case (begins_burial m key old new was by)
+    → Held old new (OperatesIn (IsTombstoneMark key) most old new × HasTombstoneCall key call (own_part new 0) new.marks)
+begun_held {S} {V} m key call most old new next has kept by round = by_case (begins_tombstone m key old new was by)
   where
     was : IsOrdered old (asked.Collect key)
     was = is_ordered old (asked.Collect key) has
 
-    by_case : BeginsBurial m key old new → Held old new (OperatesIn (IsBurialMark key) most old new × HasBurial key call (own_part new 0) new.marks)
+    by_case : BeginsTombstone m key old new → Held old new (OperatesIn (IsTombstoneMark key) most old new × HasTombstoneCall key call (own_part new 0) new.marks)
     by_case (refuses leaves said order answers planned) = absurd (cc (sym (was.no_call round.of_round.caller (subst (λ (l : List CallerView). IsAt l 0 round.of_round.caller) leaves.callers round.of_round.at_caller)) ∙ round.of_round.is_call))
     by_case (begins caller at_old middle b council is at none_asked unplanned) =
         let there = next_at old 0 call next in
@@ -186,7 +186,7 @@ begun_held {S} {V} m key call most old new next has kept by round = by_case (beg
         record {
           does = (
             record { marks = all; makes = makes_led old new all leads (tt, b.fine.may_add) only; all_such = begun_such (suc caller.number) key b.more (such_marks key (suc caller.number) b.more b.fine.of_call (b.fine.asks None)); few = begun_few (suc caller.number) most key b.more (let low : losses (mine 0 b.more) ≤ 0 = b.fine.few in omega (arith, low)); counts = λ enters. absurd (enters 0 0); keeps = λ not. ap (λ (w : View S V). rescanned_of w.council.plan) is ∙ ap rescanned_of (at.none_planned ∙ sym unplanned) },
-            has_burial new key call (record { caller = now; at_caller = at_next; number = number; open_call = b.next; is_open = refl; at = subst (λ (w : View S V). CollectsAt key step.Round 0 w.council) (sym is) at; none_asked = ap (λ (w : View S V). w.council.exchange) is ∙ none_asked }) (wanted ∙ ap (λ (k : ℕ). Some (wants k key keep_always)) number),
+            has_tombstone new key call (record { caller = now; at_caller = at_next; number = number; open_call = b.next; is_open = refl; at = subst (λ (w : View S V). CollectsAt key step.Round 0 w.council) (sym is) at; none_asked = ap (λ (w : View S V). w.council.exchange) is ∙ none_asked }) (wanted ∙ ap (λ (k : ℕ). Some (wants k key keep_always)) number),
           );
           kept = kept_led old new all leads only kept (record {
             staged = λ desk one open_ at_desk at_one_ is_open.
@@ -204,14 +204,14 @@ begun_held {S} {V} m key call most old new next has kept by round = by_case (beg
 told_call : {S V : Type 0} (view : View S V) (call : ℕ) (key : List ℕ) (said : Answer) → (was : WasTold view 0 call said) → was.call.key ≡ key → IsCollecting view.council key → IsCollectingCall view
 told_call {S} {V} view call key said was same is = record { of_call = record { caller = was.caller; at_caller = was.at_caller; call = was.call; is_open = was.is_open }; is = subst (IsCollecting view.council) (sym same) is }
 
-pub refused_burial : {S V : Type 0} (m : Meaning S V) (key : List ℕ) (call : ℕ) (old new : View S V) (told : OpAnswer) → IsKept old → HasOrder (asked.Collect key) (own_part old 0) → StepBeginCollect m (λ before after. StepBegin m before 0 key keep_always after) old key new → CollectsNot old new call key told → IsRefusedBurial new call told
-refused_burial {S} {V} m key call old new told kept has by (is_refused none_old none_new was leaves) = collecting_.not_begun leaves was
-refused_burial {S} {V} m key call old new told kept has by (is_told said is undone fresh was is_it) = by_case (begins_burial m key old new ordered by)
+pub refused_tombstone : {S V : Type 0} (m : Meaning S V) (key : List ℕ) (call : ℕ) (old new : View S V) (told : OpAnswer) → IsKept old → HasOrder (asked.Collect key) (own_part old 0) → StepBeginCollect m (λ before after. StepBegin m before 0 key keep_always after) old key new → CollectsNot old new call key told → IsRefusedTombstone new call told
+refused_tombstone {S} {V} m key call old new told kept has by (is_refused none_old none_new was leaves) = collecting_.not_begun leaves was
+refused_tombstone {S} {V} m key call old new told kept has by (is_told said is undone fresh was is_it) = by_case (begins_tombstone m key old new ordered by)
   where
     ordered : IsOrdered old (asked.Collect key)
     ordered = is_ordered old (asked.Collect key) has
 
-    by_case : BeginsBurial m key old new → IsRefusedBurial new call told
+    by_case : BeginsTombstone m key old new → IsRefusedTombstone new call told
     by_case (refuses leaves other order answers planned) = absurd (cc (sym (ordered.no_call was.caller (subst (λ (l : List CallerView). IsAt l 0 was.caller) leaves.callers was.at_caller)) ∙ was.is_open))
     by_case (begins caller at_old middle b council same at none_asked unplanned) =
         let now : CallerView = record { number = suc caller.number; call = Some b.next } in
@@ -242,14 +242,14 @@ reaches_begun {S} {V} key call most old middle mid caller council said number b 
     }
 
 pub refusal_held : {S V : Type 0} (m : Meaning S V) (key : List ℕ) (call most : ℕ) (old mid new : View S V) (told : OpAnswer) → option_map next_number (slice_get old.callers 0) ≡ Some call → HasOrder (asked.Collect key) (own_part old 0) → IsKept old → StepBeginCollect m (λ before after. StepBegin m before 0 key keep_always after) old key mid → CollectsNot old mid call key told → TellsRefusal m mid told new
-    → Held old new (IsToldIn (asked.Collect key) (IsBurialMark key) most old new told × IsCollectAnswer key told)
-refusal_held {S} {V} m key call most old mid new told next has kept by not ends = by_case not (begins_burial m key old mid was by)
+    → Held old new (IsToldIn (asked.Collect key) (IsTombstoneMark key) most old new told × IsCollectAnswer key told)
+refusal_held {S} {V} m key call most old mid new told next has kept by not ends = by_case not (begins_tombstone m key old mid was by)
   where
     was : IsOrdered old (asked.Collect key)
     was = is_ordered old (asked.Collect key) has
 
     Answered : Type 0
-    Answered = Held old new (IsToldIn (asked.Collect key) (IsBurialMark key) most old new told × IsCollectAnswer key told)
+    Answered = Held old new (IsToldIn (asked.Collect key) (IsTombstoneMark key) most old new told × IsCollectAnswer key told)
 
     tell_held : leaves_no_call told ≡ true → TellsRefusal m mid told new → StepTell mid told new
     tell_held leaves (collecting_.tells is_yes tells) = tells
@@ -259,7 +259,7 @@ refusal_held {S} {V} m key call most old mid new told next has kept by not ends 
     stop_held is_no said is (collecting_.tells is_yes tells) = absurd (cc (is_yes, is_no))
     stop_held is_no said is (collecting_.stops other is_other leaves stops) = let same : other ≡ said = cc (sym is_other ∙ is) in subst (λ (a : Answer). Stops m mid a new) same stops
 
-    by_case : CollectsNot old mid call key told → BeginsBurial m key old mid → Held old new (IsToldIn (asked.Collect key) (IsBurialMark key) most old new told × IsCollectAnswer key told)
+    by_case : CollectsNot old mid call key told → BeginsTombstone m key old mid → Held old new (IsToldIn (asked.Collect key) (IsTombstoneMark key) most old new told × IsCollectAnswer key told)
     by_case (is_refused none_old none_new said leaves) (refuses left what order answers planned) = stopped_held key most old mid new told (record { leaves = left; said = what; order = order; answers = answers; planned = planned }) said (tell_held leaves ends) kept was.no_call
     by_case (is_refused none_old none_new said leaves) (begins caller at_old middle b council is at none_asked unplanned) =
         absurd (cc (sym none_new.none_open ∙ ap (λ (c : CallerView). c.call) (at_one mid.callers 0 none_new.at_caller (subst (λ (w : View S V). IsAt w.callers 0 (record { number = suc caller.number; call = Some b.next })) (sym is) b.at_next))))
@@ -267,13 +267,13 @@ refusal_held {S} {V} m key call most old mid new told next has kept by not ends 
     by_case (is_told said is undone fresh told_ of_it) (begins caller at_old middle b council same at none_asked unplanned) =
         let there = next_at old 0 call next in
         let number : suc caller.number ≡ call = ap (λ (c : CallerView). suc c.number) (at_one old.callers 0 at_old there.at_caller) ∙ there.number in
-        subst (λ (a : OpAnswer). Held old new (IsToldIn (asked.Collect key) (IsBurialMark key) most old new a × IsCollectAnswer key a)) (sym is)
-        (stops_held (IsBurialMark key) m key call most old mid new said (λ mark such. such) (λ enters. enters 0 0) (no_conflict_where mid call said told_ (record { number = suc caller.number; call = Some b.next }) b.next (subst (λ (w : View S V). IsAt w.callers 0 (record { number = suc caller.number; call = Some b.next })) (sym same) b.at_next) refl b.unmet)
+        subst (λ (a : OpAnswer). Held old new (IsToldIn (asked.Collect key) (IsTombstoneMark key) most old new a × IsCollectAnswer key a)) (sym is)
+        (stops_held (IsTombstoneMark key) m key call most old mid new said (λ mark such. such) (λ enters. enters 0 0) (no_conflict_where mid call said told_ (record { number = suc caller.number; call = Some b.next }) b.next (subst (λ (w : View S V). IsAt w.callers 0 (record { number = suc caller.number; call = Some b.next })) (sym same) b.at_next) refl b.unmet)
         (reaches_begun key call most old middle mid caller council said number b same told_)
         (λ order is_order. ap (λ (o : OrderView). o.asked) (some_is (sym is_order ∙ ap (λ (w : View S V). w.council.order) same ∙ at.order))) unplanned (ap (λ (w : View S V). w.council.plan) same ∙ at.none_planned) undone kept (stop_held (fresh (no_call_at old kept was.no_call)) said is ends))
 
 -- ---- another round of it
-again_begins : {S V : Type 0} (m : Meaning S V) (key : List ℕ) (call : ℕ) (old new : View S V) (was : IsBurying old key call) → StepBeginCollect m (λ before after. StepBegin m before 0 key keep_always after) old key new
+again_begins : {S V : Type 0} (m : Meaning S V) (key : List ℕ) (call : ℕ) (old new : View S V) (was : IsSettingTombstone old key call) → StepBeginCollect m (λ before after. StepBegin m before 0 key keep_always after) old key new
     → (middle : View S V) × StepBegin m old 0 key keep_always middle × (council : Council) × (new ≡ record middle { council = council }) × (middle.council ≡ old.council → CollectsAt key step.Round 0 council × (council.exchange ≡ None))
 again_begins {S} {V} m key call old new was by = by_case by.begins
   where
@@ -289,30 +289,30 @@ again_begins {S} {V} m key call old new was by = by_case by.begins
     by_case (collect.begins middle none unplanned begun is) = open_here none
     by_case (collect.goes_on middle one is_it open_ begun is) = (middle, begun, _, is, λ same. (new_at key middle.council by.may.order is_it.at.collection by.may.is_for (ap (λ (c : Council). c.plan) same ∙ was.at.none_planned) is_it.is_due is_it.same_key is_it.calling, ap (λ (c : Council). c.exchange) same ∙ was.none_asked))
 
-pub again_held : {S V : Type 0} (m : Meaning S V) (key : List ℕ) (call most : ℕ) (old new : View S V) → HasBurial key call (own_part old 0) old.marks → IsKept old → StepBeginCollect m (λ before after. StepBegin m before 0 key keep_always after) old key new → HasCollected new call key
-    → Held old new (OperatesIn (IsBurialMark key) most old new × HasBurial key call (own_part new 0) new.marks)
+pub again_held : {S V : Type 0} (m : Meaning S V) (key : List ℕ) (call most : ℕ) (old new : View S V) → HasTombstoneCall key call (own_part old 0) old.marks → IsKept old → StepBeginCollect m (λ before after. StepBegin m before 0 key keep_always after) old key new → HasCollected new call key
+    → Held old new (OperatesIn (IsTombstoneMark key) most old new × HasTombstoneCall key call (own_part new 0) new.marks)
 again_held {S} {V} m key call most old new has kept by round =
-    let was = is_burying old key call old.marks has in
+    let was = is_setting_tombstone old key call old.marks has in
     let keeping = is_keeping old key call was has.wanted kept in
     let parts = again_begins m key call old new was by in
     let again = again_goes_on m 0 most key keep_always old parts.0 was.caller was.open_call was.at_caller was.is_open parts.1 in
     let goes = again.round.goes in
     let council = parts.4 goes.acts.council in
-    burial_held key call most old parts.0 new was.caller (calls.tried_again was.open_call again.reserved) parts.2 was.number goes parts.3 council.0 council.1 was.at.none_planned (record { key_is = keeping.key_is; program_is = keeping.program_is }) has.wanted
+    tombstone_held key call most old parts.0 new was.caller (calls.tried_again was.open_call again.reserved) parts.2 was.number goes parts.3 council.0 council.1 was.at.none_planned (record { key_is = keeping.key_is; program_is = keeping.program_is }) has.wanted
     (λ desk at_desk. let some : IsSome desk.round = subst (λ (d : DeskView V). IsSome d.round) (at_one new.desks 0 round.of_round.at_desk (subst (λ (w : View S V). IsAt w.desks 0 desk) (sym parts.3) at_desk)) round.of_round.is_open in running some (goes.told desk at_desk some refl) (goes.closed refl)) kept
 
 -- where no round of it begins, its call was told why
-pub again_stops : {S V : Type 0} (m : Meaning S V) (key : List ℕ) (call most : ℕ) (old mid new : View S V) (said : Answer) → HasBurial key call (own_part old 0) old.marks → IsKept old → StepBeginCollect m (λ before after. StepBegin m before 0 key keep_always after) old key mid → WasTold mid 0 call said → is_done said ≡ false → Stops m mid said new
-    → Held old new (IsToldIn (asked.Collect key) (IsBurialMark key) most old new (op.Stopped said) × IsCollectAnswer key (op.Stopped said))
+pub again_stops : {S V : Type 0} (m : Meaning S V) (key : List ℕ) (call most : ℕ) (old mid new : View S V) (said : Answer) → HasTombstoneCall key call (own_part old 0) old.marks → IsKept old → StepBeginCollect m (λ before after. StepBegin m before 0 key keep_always after) old key mid → WasTold mid 0 call said → is_done said ≡ false → Stops m mid said new
+    → Held old new (IsToldIn (asked.Collect key) (IsTombstoneMark key) most old new (op.Stopped said) × IsCollectAnswer key (op.Stopped said))
 again_stops {S} {V} m key call most old mid new said has kept by told undone ends =
-    let was = is_burying old key call old.marks has in
+    let was = is_setting_tombstone old key call old.marks has in
     let parts = again_begins m key call old mid was by in
     let again = again_goes_on m 0 most key keep_always old parts.0 was.caller was.open_call was.at_caller was.is_open parts.1 in
     let is = parts.3 in
     let at_middle : IsAt parts.0.callers 0 told.caller = subst (λ (l : List CallerView). IsAt l 0 told.caller) (ap (λ (w : View S V). w.callers) is) told.at_caller in
     let over = over_where_told 0 most old parts.0 was.caller (calls.tried_again was.open_call again.reserved) call said again.round (record { caller = told.caller; at_caller = at_middle; same_number = told.same_number; call = told.call; is_open = told.is_open; told = told.told }) in
     let reaches = reaches_over key call most old parts.0 was.caller (calls.tried_again was.open_call again.reserved) was.number over in
-    stops_held (IsBurialMark key) m key call most old mid new said (λ mark such. such) (λ enters. enters 0 0) (no_conflict_where mid call said told (record was.caller { call = Some again.round.goes.next }) again.round.goes.next (subst (λ (w : View S V). IsAt w.callers 0 (record was.caller { call = Some again.round.goes.next })) (sym is) again.round.goes.at_next) refl again.unmet) (record {
+    stops_held (IsTombstoneMark key) m key call most old mid new said (λ mark such. such) (λ enters. enters 0 0) (no_conflict_where mid call said told (record was.caller { call = Some again.round.goes.next }) again.round.goes.next (subst (λ (w : View S V). IsAt w.callers 0 (record was.caller { call = Some again.round.goes.next })) (sym is) again.round.goes.at_next) refl again.unmet) (record {
       marks = reaches.marks;
       leads = leads_council old parts.0 mid reaches.marks parts.2 reaches.leads is;
       only = reaches.only;
@@ -328,16 +328,16 @@ again_stops {S} {V} m key call most old mid new said has kept by told undone end
 same_council : {S V : Type 0} (old mid : View S V) → mid.council ≡ old.council → mid ≡ record mid { council = old.council }
 same_council {S} {V} old mid same = ap (λ (c : Council). record mid { council = c }) same
 
-pub turn_held : {S V : Type 0} (m : Meaning S V) (key : List ℕ) (call : ℕ) (v : Verdict) (old new : View S V) → HasBurial key call (own_part old 0) old.marks → IsKept old → ((desk : DeskView V) → IsAt old.desks 0 desk → IsSome desk.round) → StepTurn m old 0 v new
-    → Held old new (OperatesIn (IsBurialMark key) (harm_by v) old new × HasBurial key call (own_part new 0) new.marks)
+pub turn_held : {S V : Type 0} (m : Meaning S V) (key : List ℕ) (call : ℕ) (v : Verdict) (old new : View S V) → HasTombstoneCall key call (own_part old 0) old.marks → IsKept old → ((desk : DeskView V) → IsAt old.desks 0 desk → IsSome desk.round) → StepTurn m old 0 v new
+    → Held old new (OperatesIn (IsTombstoneMark key) (harm_by v) old new × HasTombstoneCall key call (own_part new 0) new.marks)
 turn_held {S} {V} m key call v old new has kept was by =
-    let is = is_burying old key call old.marks has in
+    let is = is_setting_tombstone old key call old.marks has in
     let same : by.of_call.caller ≡ is.caller = at_one old.callers 0 by.of_call.at_caller is.at_caller in
     let same_call : by.of_call.call ≡ is.open_call = some_is (sym by.of_call.is_open ∙ ap (λ (c : CallerView). c.call) same ∙ is.is_open) in
     let goes = turn_goes_on m 0 v old new by in
     let runs = runs_there old 0 by.of_call.caller by.of_call.call kept by.of_call.at_caller by.of_call.is_open was in
     let keeping : IsKeeping by.of_call.call key = subst (λ (c : CallView). IsKeeping c key) (sym same_call) (is_keeping old key call is has.wanted kept) in
-    burial_held key call (harm_by v) old new new by.of_call.caller by.of_call.call old.council (ap (λ (c : CallerView). c.number) same ∙ is.number) goes (same_council old new goes.acts.council) is.at is.none_asked is.at.none_planned keeping has.wanted
+    tombstone_held key call (harm_by v) old new new by.of_call.caller by.of_call.call old.council (ap (λ (c : CallerView). c.number) same ∙ is.number) goes (same_council old new goes.acts.council) is.at is.none_asked is.at.none_planned keeping has.wanted
     (λ desk at_desk. let some = turn_running m 0 v old new was by desk at_desk in running some (goes.told desk at_desk some runs.unmet) (goes.closed runs.unclosed)) kept
 
 -- ---- it ends
@@ -364,16 +364,16 @@ stops_by {S} {V} m old mid new told said same by tells = (mid, by, subst (λ (a 
 
 -- its phases end
 -- where the operator's collection stays
-burial_over : {S V : Type 0} (such : Mark → Type 0) (m : Meaning S V) (key : List ℕ) (call most : ℕ) (old mid new : View S V) (said : Answer) (caller : CallerView) (one : CallView) → ((mark : Mark) → IsBurialMark key mark → such mark) → (EntersEras such → ⊥) → such (kinds.Ended 0 call (rounds_in (own_part mid 0)) said) → HasBurial key call (own_part old 0) old.marks → IsAt old.callers 0 caller → CallIsOver 0 most old mid caller one → IsKept old → is_done said ≡ false → Stops m mid said new
+tombstone_over : {S V : Type 0} (such : Mark → Type 0) (m : Meaning S V) (key : List ℕ) (call most : ℕ) (old mid new : View S V) (said : Answer) (caller : CallerView) (one : CallView) → ((mark : Mark) → IsTombstoneMark key mark → such mark) → (EntersEras such → ⊥) → such (kinds.Ended 0 call (rounds_in (own_part mid 0)) said) → HasTombstoneCall key call (own_part old 0) old.marks → IsAt old.callers 0 caller → CallIsOver 0 most old mid caller one → IsKept old → is_done said ≡ false → Stops m mid said new
     → Held old new (IsToldIn (asked.Collect key) such most old new (op.Stopped said) × IsCollectAnswer key (op.Stopped said))
-burial_over such m key call most old mid new said caller one weaker not_entering last has at over kept undone ends =
-    let is = is_burying old key call old.marks has in
+tombstone_over such m key call most old mid new said caller one weaker not_entering last has at over kept undone ends =
+    let is = is_setting_tombstone old key call old.marks has in
     stops_held such m key call most old mid new said weaker not_entering last (reaches_over key call most old mid caller one (ap (λ (c : CallerView). c.number) (at_one old.callers 0 at is.at_caller) ∙ is.number) over) (asks_there key old mid call is over.goes.acts.council) is.at.none_planned (ap (λ (c : Council). c.plan) over.goes.acts.council ∙ is.at.none_planned) undone kept ends
 
-pub turn_stops : {S V : Type 0} (m : Meaning S V) (key : List ℕ) (call most : ℕ) (old mid new : View S V) (said : Answer) → HasBurial key call (own_part old 0) old.marks → IsKept old → StepRefuseTurn m old 0 mid → WasTold mid 0 call said → is_done said ≡ false → is_conflict said ≡ false → Stops m mid said new
-    → Held old new (IsToldIn (asked.Collect key) (IsBurialMark key) most old new (op.Stopped said) × IsCollectAnswer key (op.Stopped said))
+pub turn_stops : {S V : Type 0} (m : Meaning S V) (key : List ℕ) (call most : ℕ) (old mid new : View S V) (said : Answer) → HasTombstoneCall key call (own_part old 0) old.marks → IsKept old → StepRefuseTurn m old 0 mid → WasTold mid 0 call said → is_done said ≡ false → is_conflict said ≡ false → Stops m mid said new
+    → Held old new (IsToldIn (asked.Collect key) (IsTombstoneMark key) most old new (op.Stopped said) × IsCollectAnswer key (op.Stopped said))
 turn_stops m key call most old mid new said has kept by was undone no_conflict ends =
-    burial_over (IsBurialMark key) m key call most old mid new said by.of_call.caller by.of_call.call (λ mark such. such) (λ enters. enters 0 0) no_conflict has by.of_call.at_caller (over_where_told 0 most old mid by.of_call.caller by.of_call.call call said (refused_turn_goes_on m 0 most old mid by) was) kept undone ends
+    tombstone_over (IsTombstoneMark key) m key call most old mid new said by.of_call.caller by.of_call.call (λ mark such. such) (λ enters. enters 0 0) no_conflict has by.of_call.at_caller (over_where_told 0 most old mid by.of_call.caller by.of_call.call call said (refused_turn_goes_on m 0 most old mid by) was) kept undone ends
 
 -- a turn, or the end of a phase, leaves it the rounds that it had
 same_rounds : {S V : Type 0} (most : ℕ) (old new : View S V) (caller : CallerView) (one : CallView) → IsAt old.callers 0 caller → caller.call ≡ Some one → (goes : CallGoesOn 0 most old new caller one) → rounds_in (own_part new 0) ≡ rounds_in (own_part old 0)
@@ -382,84 +382,84 @@ same_rounds most old new caller one at is goes = rounds_part new 0 (record calle
 propose_rounds : {S V : Type 0} (m : Meaning S V) (old new : View S V) → StepPropose m old 0 new → rounds_in (own_part new 0) ≡ rounds_in (own_part old 0)
 propose_rounds m old new by = same_rounds 0 old new by.at_round.of_call.caller by.at_round.of_call.call by.at_round.of_call.at_caller by.at_round.of_call.is_open (propose_goes_on m 0 0 old new by).goes
 
-pub propose_stops : {S V : Type 0} (tries : ℕ) (m : Meaning S V) (key : List ℕ) (call most : ℕ) (old mid new : View S V) (said : Answer) → (is_conflict said ≡ true → rounds_in (own_part old 0) ≡ tries) → HasBurial key call (own_part old 0) old.marks → IsKept old → StepPropose m old 0 mid → WasTold mid 0 call said → is_done said ≡ false → Stops m mid said new
+pub propose_stops : {S V : Type 0} (tries : ℕ) (m : Meaning S V) (key : List ℕ) (call most : ℕ) (old mid new : View S V) (said : Answer) → (is_conflict said ≡ true → rounds_in (own_part old 0) ≡ tries) → HasTombstoneCall key call (own_part old 0) old.marks → IsKept old → StepPropose m old 0 mid → WasTold mid 0 call said → is_done said ≡ false → Stops m mid said new
     → Held old new (IsToldIn (asked.Collect key) (IsCollectingMark key tries) most old new (op.Stopped said) × IsCollectAnswer key (op.Stopped said))
 propose_stops tries m key call most old mid new said spent has kept by was undone ends =
-    burial_over (IsCollectingMark key tries) m key call most old mid new said by.at_round.of_call.caller by.at_round.of_call.call (burial_within key tries) (λ enters. enters 0 0) (λ conflict. propose_rounds m old mid by ∙ spent conflict) has by.at_round.of_call.at_caller (over_where_told 0 most old mid by.at_round.of_call.caller by.at_round.of_call.call call said (propose_goes_on m 0 most old mid by) was) kept undone ends
+    tombstone_over (IsCollectingMark key tries) m key call most old mid new said by.at_round.of_call.caller by.at_round.of_call.call (tombstone_within key tries) (λ enters. enters 0 0) (λ conflict. propose_rounds m old mid by ∙ spent conflict) has by.at_round.of_call.at_caller (over_where_told 0 most old mid by.at_round.of_call.caller by.at_round.of_call.call call said (propose_goes_on m 0 most old mid by) was) kept undone ends
 
-pub count_stops : {S V : Type 0} (m : Meaning S V) (key : List ℕ) (call most : ℕ) (old mid new : View S V) (said : Answer) → HasBurial key call (own_part old 0) old.marks → IsKept old → StepCount m old 0 mid → WasTold mid 0 call said → is_done said ≡ false → Stops m mid said new
-    → Held old new (IsToldIn (asked.Collect key) (IsBurialMark key) most old new (op.Stopped said) × IsCollectAnswer key (op.Stopped said))
+pub count_stops : {S V : Type 0} (m : Meaning S V) (key : List ℕ) (call most : ℕ) (old mid new : View S V) (said : Answer) → HasTombstoneCall key call (own_part old 0) old.marks → IsKept old → StepCount m old 0 mid → WasTold mid 0 call said → is_done said ≡ false → Stops m mid said new
+    → Held old new (IsToldIn (asked.Collect key) (IsTombstoneMark key) most old new (op.Stopped said) × IsCollectAnswer key (op.Stopped said))
 count_stops m key call most old mid new said has kept by was undone ends =
-    burial_over (IsBurialMark key) m key call most old mid new said by.at_round.of_call.caller by.at_round.of_call.call (λ mark such. such) (λ enters. enters 0 0) (no_conflict_where mid call said was was.caller was.call was.at_caller was.is_open (count_unmet m 0 old mid by was.caller was.call was.at_caller was.is_open)) has by.at_round.of_call.at_caller (count_is_over m 0 most old mid by) kept undone ends
+    tombstone_over (IsTombstoneMark key) m key call most old mid new said by.at_round.of_call.caller by.at_round.of_call.call (λ mark such. such) (λ enters. enters 0 0) (no_conflict_where mid call said was was.caller was.call was.at_caller was.is_open (count_unmet m 0 old mid by was.caller was.call was.at_caller was.is_open)) has by.at_round.of_call.at_caller (count_is_over m 0 most old mid by) kept undone ends
 
-pub closed_stops : {S V : Type 0} (m : Meaning S V) (key : List ℕ) (call most : ℕ) (old new : View S V) (said : Answer) → HasBurial key call (own_part old 0) old.marks → IsKept old → is_done said ≡ false → is_conflict said ≡ false → Stops m old said new
-    → Held old new (IsToldIn (asked.Collect key) (IsBurialMark key) most old new (op.Stopped said) × IsCollectAnswer key (op.Stopped said))
+pub closed_stops : {S V : Type 0} (m : Meaning S V) (key : List ℕ) (call most : ℕ) (old new : View S V) (said : Answer) → HasTombstoneCall key call (own_part old 0) old.marks → IsKept old → is_done said ≡ false → is_conflict said ≡ false → Stops m old said new
+    → Held old new (IsToldIn (asked.Collect key) (IsTombstoneMark key) most old new (op.Stopped said) × IsCollectAnswer key (op.Stopped said))
 closed_stops m key call most old new said has kept undone no_conflict ends =
-    let is = is_burying old key call old.marks has in
-    burial_over (IsBurialMark key) m key call most old old new said is.caller is.open_call (λ mark such. such) (λ enters. enters 0 0) no_conflict has is.at_caller (over_at_once 0 most old is.caller is.open_call is.at_caller is.is_open) kept undone ends
+    let is = is_setting_tombstone old key call old.marks has in
+    tombstone_over (IsTombstoneMark key) m key call most old old new said is.caller is.open_call (λ mark such. such) (λ enters. enters 0 0) no_conflict has is.at_caller (over_at_once 0 most old is.caller is.open_call is.at_caller is.is_open) kept undone ends
 
 -- the tombstone is proposed, or another round may follow a conflict
-pub proposed_held : {S V : Type 0} (m : Meaning S V) (key : List ℕ) (call most : ℕ) (old new : View S V) → HasBurial key call (own_part old 0) old.marks → IsKept old → HasProposed new 0 → StepPropose m old 0 new
-    → Held old new (OperatesIn (IsBurialMark key) most old new × HasBurial key call (own_part new 0) new.marks)
+pub proposed_held : {S V : Type 0} (m : Meaning S V) (key : List ℕ) (call most : ℕ) (old new : View S V) → HasTombstoneCall key call (own_part old 0) old.marks → IsKept old → HasProposed new 0 → StepPropose m old 0 new
+    → Held old new (OperatesIn (IsTombstoneMark key) most old new × HasTombstoneCall key call (own_part new 0) new.marks)
 proposed_held {S} {V} m key call most old new has kept proposed by =
-    let is = is_burying old key call old.marks has in
+    let is = is_setting_tombstone old key call old.marks has in
     let at = by.at_round.of_call in
     let same : at.caller ≡ is.caller = at_one old.callers 0 at.at_caller is.at_caller in
     let same_call : at.call ≡ is.open_call = some_is (sym at.is_open ∙ ap (λ (c : CallerView). c.call) same ∙ is.is_open) in
     let goes = (propose_goes_on m 0 most old new by).goes in
     let runs = running_call old 0 at.caller at.call by.at_round.desk kept at.at_caller at.is_open by.at_round.at_desk (subst IsSome (sym by.at_round.is_open) refl) in
-    burial_held key call most old new new at.caller at.call old.council (ap (λ (c : CallerView). c.number) same ∙ is.number) goes (same_council old new goes.acts.council) is.at is.none_asked is.at.none_planned
+    tombstone_held key call most old new new at.caller at.call old.council (ap (λ (c : CallerView). c.number) same ∙ is.number) goes (same_council old new goes.acts.council) is.at is.none_asked is.at.none_planned
     (subst (λ (c : CallView). IsKeeping c key) (sym same_call) (is_keeping old key call is has.wanted kept)) has.wanted
     (λ desk at_desk. let some = proposed_running new 0 proposed desk at_desk in running some (goes.told desk at_desk some runs.unmet) (goes.closed runs.unclosed)) kept
 
-pub met_held : {S V : Type 0} (m : Meaning S V) (key : List ℕ) (call most : ℕ) (old new : View S V) (said : Answer) → HasBurial key call (own_part old 0) old.marks → IsKept old → ((caller : CallerView) → IsAt old.callers 0 caller → IfSome caller.call (λ one. one.proposed ≡ None)) → WasTold new 0 call said → is_conflict said ≡ true → StepPropose m old 0 new
-    → Held old new (OperatesIn (IsBurialMark key) most old new × HasBurial key call (own_part new 0) new.marks)
+pub met_held : {S V : Type 0} (m : Meaning S V) (key : List ℕ) (call most : ℕ) (old new : View S V) (said : Answer) → HasTombstoneCall key call (own_part old 0) old.marks → IsKept old → ((caller : CallerView) → IsAt old.callers 0 caller → IfSome caller.call (λ one. one.proposed ≡ None)) → WasTold new 0 call said → is_conflict said ≡ true → StepPropose m old 0 new
+    → Held old new (OperatesIn (IsTombstoneMark key) most old new × HasTombstoneCall key call (own_part new 0) new.marks)
 met_held {S} {V} m key call most old new said has kept unproposed was conflict by =
-    let is = is_burying old key call old.marks has in
+    let is = is_setting_tombstone old key call old.marks has in
     let at = by.at_round.of_call in
     let same : at.caller ≡ is.caller = at_one old.callers 0 at.at_caller is.at_caller in
     let same_call : at.call ≡ is.open_call = some_is (sym at.is_open ∙ ap (λ (c : CallerView). c.call) same ∙ is.is_open) in
     let goes = (propose_goes_on m 0 most old new by).goes in
     let runs = running_call old 0 at.caller at.call by.at_round.desk kept at.at_caller at.is_open by.at_round.at_desk (subst IsSome (sym by.at_round.is_open) refl) in
-    burial_held key call most old new new at.caller at.call old.council (ap (λ (c : CallerView). c.number) same ∙ is.number) goes (same_council old new goes.acts.council) is.at is.none_asked is.at.none_planned
+    tombstone_held key call most old new new at.caller at.call old.council (ap (λ (c : CallerView). c.number) same ∙ is.number) goes (same_council old new goes.acts.council) is.at is.none_asked is.at.none_planned
     (subst (λ (c : CallView). IsKeeping c key) (sym same_call) (is_keeping old key call is has.wanted kept)) has.wanted
     (λ desk at_desk. propose_met m 0 call said old new unproposed was conflict by (record at.caller { call = Some goes.next }) goes.next goes.at_next refl (goes.closed runs.unclosed) desk at_desk) kept
 
 -- ---- its frames
-pub burial_waits : {S V : Type 0} (view : View S V) (key : List ℕ) (call : ℕ) → HasBurial key call (own_part view 0) view.marks → (queue_at view.flow 0).messages ≢ [] → (queue_at view.flow (place_of view 0)).messages ≢ []
-burial_waits view key call has waits = waits_there view 0 (λ first_. (is_burying view key call view.marks has).none_asked) waits
+pub tombstone_waits : {S V : Type 0} (view : View S V) (key : List ℕ) (call : ℕ) → HasTombstoneCall key call (own_part view 0) view.marks → (queue_at view.flow 0).messages ≢ [] → (queue_at view.flow (place_of view 0)).messages ≢ []
+tombstone_waits view key call has waits = waits_there view 0 (λ first_. (is_setting_tombstone view key call view.marks has).none_asked) waits
 
-pub burial_turn : {S V : Type 0} (m : Meaning S V) (old new : View S V) (key : List ℕ) (call : ℕ) (v : Verdict) → HasBurial key call (own_part old 0) old.marks → Step m old (turn_of old 0 v) new → StepTurn m old 0 v new
-burial_turn m old new key call v has by = as_turn m old new 0 v (λ first_. (is_burying old key call old.marks has).none_asked) by
+pub tombstone_turn : {S V : Type 0} (m : Meaning S V) (old new : View S V) (key : List ℕ) (call : ℕ) (v : Verdict) → HasTombstoneCall key call (own_part old 0) old.marks → Step m old (turn_of old 0 v) new → StepTurn m old 0 v new
+tombstone_turn m old new key call v has by = as_turn m old new 0 v (λ first_. (is_setting_tombstone old key call old.marks has).none_asked) by
 
-pub burial_refusal : {S V : Type 0} (m : Meaning S V) (old new : View S V) (key : List ℕ) (call : ℕ) → HasBurial key call (own_part old 0) old.marks → Step m old (refusal_of old 0) new → StepRefuseTurn m old 0 new
-burial_refusal m old new key call has by = as_refusal m old new 0 (λ first_. (is_burying old key call old.marks has).none_asked) by
+pub tombstone_refusal : {S V : Type 0} (m : Meaning S V) (old new : View S V) (key : List ℕ) (call : ℕ) → HasTombstoneCall key call (own_part old 0) old.marks → Step m old (refusal_of old 0) new → StepRefuseTurn m old 0 new
+tombstone_refusal m old new key call has by = as_refusal m old new 0 (λ first_. (is_setting_tombstone old key call old.marks has).none_asked) by
 
 -- an open call is that of the collection, and keeps its key
-pub calling_there : {S V : Type 0} (view : View S V) (key : List ℕ) (call : ℕ) → HasBurial key call (own_part view 0) view.marks → IsKept view → IsCollectingCall view
+pub calling_there : {S V : Type 0} (view : View S V) (key : List ℕ) (call : ℕ) → HasTombstoneCall key call (own_part view 0) view.marks → IsKept view → IsCollectingCall view
 calling_there {S} {V} view key call has kept =
-    let is = is_burying view key call view.marks has in
+    let is = is_setting_tombstone view key call view.marks has in
     record { of_call = record { caller = is.caller; at_caller = is.at_caller; call = is.open_call; is_open = is.is_open }; is = subst (IsCollecting view.council) (sym (is_keeping view key call is has.wanted kept).key_is) (is_collecting key view.council is.at) }
 
 -- behind a step of it the call that was told something is so still
-pub calling_after : {S V : Type 0} (key : List ℕ) (call most : ℕ) (old mid : View S V) (said : Answer) (caller : CallerView) (one : CallView) → HasBurial key call (own_part old 0) old.marks → IsKept old → IsAt old.callers 0 caller → caller.call ≡ Some one → (goes : CallGoesOn 0 most old mid caller one) → WasTold mid 0 call said → IsCollectingCall mid
+pub calling_after : {S V : Type 0} (key : List ℕ) (call most : ℕ) (old mid : View S V) (said : Answer) (caller : CallerView) (one : CallView) → HasTombstoneCall key call (own_part old 0) old.marks → IsKept old → IsAt old.callers 0 caller → caller.call ≡ Some one → (goes : CallGoesOn 0 most old mid caller one) → WasTold mid 0 call said → IsCollectingCall mid
 calling_after {S} {V} key call most old mid said caller one has kept at is_one goes was =
-    let is = is_burying old key call old.marks has in
+    let is = is_setting_tombstone old key call old.marks has in
     let same : one ≡ is.open_call = some_is (sym is_one ∙ ap (λ (c : CallerView). c.call) (at_one old.callers 0 at is.at_caller) ∙ is.is_open) in
     let same_next : goes.next ≡ was.call = some_is (ap (λ (c : CallerView). c.call) (at_one mid.callers 0 goes.at_next was.at_caller) ∙ was.is_open) in
     told_call mid call key said was (ap (λ (c : CallView). c.key) (sym same_next) ∙ goes.key ∙ ap (λ (c : CallView). c.key) same ∙ (is_keeping old key call is has.wanted kept).key_is) (subst (λ (c : Council). IsCollecting c key) (sym goes.acts.council) (is_collecting key old.council is.at))
 
 -- what its call was told at the end of a phase
-pub propose_told : {S V : Type 0} (view new : View S V) (key : List ℕ) (call : ℕ) (said : Answer) → HasBurial key call (own_part view 0) view.marks → ((caller : CallerView) → IsAt view.callers 0 caller → WasTold new 0 caller.number said) → WasTold new 0 call said
-propose_told {S} {V} view new key call said has tells = let is = is_burying view key call view.marks has in subst (λ (k : ℕ). WasTold new 0 k said) is.number (tells is.caller is.at_caller)
+pub propose_told : {S V : Type 0} (view new : View S V) (key : List ℕ) (call : ℕ) (said : Answer) → HasTombstoneCall key call (own_part view 0) view.marks → ((caller : CallerView) → IsAt view.callers 0 caller → WasTold new 0 caller.number said) → WasTold new 0 call said
+propose_told {S} {V} view new key call said has tells = let is = is_setting_tombstone view key call view.marks has in subst (λ (k : ℕ). WasTold new 0 k said) is.number (tells is.caller is.at_caller)
 
-pub propose_calling : {S V : Type 0} (m : Meaning S V) (old new : View S V) (key : List ℕ) (call : ℕ) (said : Answer) → HasBurial key call (own_part old 0) old.marks → IsKept old → StepPropose m old 0 new → WasTold new 0 call said → IsCollectingCall new
+pub propose_calling : {S V : Type 0} (m : Meaning S V) (old new : View S V) (key : List ℕ) (call : ℕ) (said : Answer) → HasTombstoneCall key call (own_part old 0) old.marks → IsKept old → StepPropose m old 0 new → WasTold new 0 call said → IsCollectingCall new
 propose_calling m old new key call said has kept by was = calling_after key call 0 old new said by.at_round.of_call.caller by.at_round.of_call.call has kept by.at_round.of_call.at_caller by.at_round.of_call.is_open (propose_goes_on m 0 0 old new by).goes was
 
-pub turn_calling : {S V : Type 0} (m : Meaning S V) (old new : View S V) (key : List ℕ) (call : ℕ) (said : Answer) → HasBurial key call (own_part old 0) old.marks → IsKept old → StepRefuseTurn m old 0 new → WasTold new 0 call said → IsCollectingCall new
+pub turn_calling : {S V : Type 0} (m : Meaning S V) (old new : View S V) (key : List ℕ) (call : ℕ) (said : Answer) → HasTombstoneCall key call (own_part old 0) old.marks → IsKept old → StepRefuseTurn m old 0 new → WasTold new 0 call said → IsCollectingCall new
 turn_calling m old new key call said has kept by was = calling_after key call 0 old new said by.of_call.caller by.of_call.call has kept by.of_call.at_caller by.of_call.is_open (refused_turn_goes_on m 0 0 old new by).goes was
 
-pub count_calling : {S V : Type 0} (m : Meaning S V) (old new : View S V) (key : List ℕ) (call : ℕ) (said : Answer) → HasBurial key call (own_part old 0) old.marks → IsKept old → StepCount m old 0 new → WasTold new 0 call said → IsCollectingCall new
+pub count_calling : {S V : Type 0} (m : Meaning S V) (old new : View S V) (key : List ℕ) (call : ℕ) (said : Answer) → HasTombstoneCall key call (own_part old 0) old.marks → IsKept old → StepCount m old 0 new → WasTold new 0 call said → IsCollectingCall new
 count_calling m old new key call said has kept by was = calling_after key call 0 old new said by.at_round.of_call.caller by.at_round.of_call.call has kept by.at_round.of_call.at_caller by.at_round.of_call.is_open (count_is_over m 0 0 old new by).goes was
 
 -- why no round of it begins
@@ -467,17 +467,17 @@ pub record TellsAgain {S V : Type 0} (mid : View S V) (call : ℕ) (said : Answe
   pub undone : is_done said ≡ false
   pub was : WasTold mid 0 call said
 
-pub again_told : {S V : Type 0} (old mid : View S V) (key : List ℕ) (call : ℕ) (told : OpAnswer) (said : Answer) → HasBurial key call (own_part old 0) old.marks → CollectsNot old mid call key told → told ≡ op.Stopped said → TellsAgain mid call said
+pub again_told : {S V : Type 0} (old mid : View S V) (key : List ℕ) (call : ℕ) (told : OpAnswer) (said : Answer) → HasTombstoneCall key call (own_part old 0) old.marks → CollectsNot old mid call key told → told ≡ op.Stopped said → TellsAgain mid call said
 again_told {S} {V} old mid key call told said has (is_refused none_old none_new was leaves) is =
-    let there = is_burying old key call old.marks has in
+    let there = is_setting_tombstone old key call old.marks has in
     absurd (cc (sym none_old.none_open ∙ ap (λ (c : CallerView). c.call) (at_one old.callers 0 none_old.at_caller there.at_caller) ∙ there.is_open))
 again_told {S} {V} old mid key call told said has (is_told other is_other undone fresh was of_it) is =
     let same : other ≡ said = cc (sym is_other ∙ is) in
     record { undone = subst (λ (a : Answer). is_done a ≡ false) same undone; was = subst (λ (a : Answer). WasTold mid 0 call a) same was }
 
-pub again_calling : {S V : Type 0} (m : Meaning S V) (old mid : View S V) (key : List ℕ) (call : ℕ) (said : Answer) → HasBurial key call (own_part old 0) old.marks → IsKept old → StepBeginCollect m (λ before after. StepBegin m before 0 key keep_always after) old key mid → WasTold mid 0 call said → IsCollectingCall mid
+pub again_calling : {S V : Type 0} (m : Meaning S V) (old mid : View S V) (key : List ℕ) (call : ℕ) (said : Answer) → HasTombstoneCall key call (own_part old 0) old.marks → IsKept old → StepBeginCollect m (λ before after. StepBegin m before 0 key keep_always after) old key mid → WasTold mid 0 call said → IsCollectingCall mid
 again_calling {S} {V} m old mid key call said has kept by told =
-    let was = is_burying old key call old.marks has in
+    let was = is_setting_tombstone old key call old.marks has in
     let parts = again_begins m key call old mid was by in
     let again = again_goes_on m 0 0 key keep_always old parts.0 was.caller was.open_call was.at_caller was.is_open parts.1 in
     let goes = again.round.goes in
@@ -507,9 +507,9 @@ propose_undone {S} {V} m call old new said by was = by_case by.at_round.of_call 
     by_case at desk round (calls.loses now ballot loses same) = let e : Some (answer.NoMemory false) ≡ Some said = told_this at (calls.over at.call (answer.NoMemory false)) [] (ap (λ (w : View S V). w.callers) same) in ap is_done (sym (some_is e))
 
 -- no memory was found for a turn
-pub turn_said : {S V : Type 0} (m : Meaning S V) (old mid : View S V) (key : List ℕ) (call : ℕ) (proposed : Bool) → HasBurial key call (own_part old 0) old.marks → StepRefuseTurn m old 0 mid → ((seen : CallerView) → IsAt mid.callers 0 seen → IfSome seen.call (λ open_call. proposed ≡ is_some open_call.proposed)) → WasTold mid 0 call (answer.NoMemory proposed)
+pub turn_said : {S V : Type 0} (m : Meaning S V) (old mid : View S V) (key : List ℕ) (call : ℕ) (proposed : Bool) → HasTombstoneCall key call (own_part old 0) old.marks → StepRefuseTurn m old 0 mid → ((seen : CallerView) → IsAt mid.callers 0 seen → IfSome seen.call (λ open_call. proposed ≡ is_some open_call.proposed)) → WasTold mid 0 call (answer.NoMemory proposed)
 turn_said {S} {V} m old mid key call proposed has by says =
-    let is = is_burying old key call old.marks has in
+    let is = is_setting_tombstone old key call old.marks has in
     let goes = (refused_turn_goes_on m 0 0 old mid by).goes in
     let next : CallView = calls.telling by.of_call.call (answer.NoMemory (is_some by.of_call.call.proposed)) in
     let next_caller : CallerView = record by.of_call.caller { call = Some next } in
@@ -528,9 +528,9 @@ turn_said {S} {V} m old mid key call proposed has by says =
     same_callers (frames.kept id acceptor now there finds same) = ap (λ (w : View S V). w.callers) same
 
 -- the tombstone is counted, and its call may be ended
-pub done_calling : {S V : Type 0} (m : Meaning S V) (old new : View S V) (key : List ℕ) (call : ℕ) (said : Answer) → HasBurial key call (own_part old 0) old.marks → IsKept old → StepCountCollect (λ before after. StepCount m before 0 after) old new → WasTold new 0 call said → IsCollectingCall new
+pub done_calling : {S V : Type 0} (m : Meaning S V) (old new : View S V) (key : List ℕ) (call : ℕ) (said : Answer) → HasTombstoneCall key call (own_part old 0) old.marks → IsKept old → StepCountCollect (λ before after. StepCount m before 0 after) old new → WasTold new 0 call said → IsCollectingCall new
 done_calling {S} {V} m old new key call said has kept by was =
-    let is = is_burying old key call old.marks has in
+    let is = is_setting_tombstone old key call old.marks has in
     let at = by.counts.at_round.of_call in
     let goes = (count_is_over m 0 0 old by.middle by.counts).goes in
     let at_next : IsAt new.callers 0 (record at.caller { call = Some goes.next }) = subst (λ (w : View S V). IsAt w.callers 0 (record at.caller { call = Some goes.next })) (sym by.view) goes.at_next in
@@ -558,12 +558,12 @@ pub keeps_within : (tries rounds : ℕ) (own now : List ℕ) → rounds_in now �
 keeps_within tries rounds own now same more w = record { counted = same ∙ w.counted; some = w.some; within = w.within; more = more }
 
 pub begun_within : {S V : Type 0} (m : Meaning S V) (key : List ℕ) (call tries : ℕ) (old new : View S V) → HasOrder (asked.Collect key) (own_part old 0) → StepBeginCollect m (λ before after. StepBegin m before 0 key keep_always after) old key new → HasCollected new call key → 1 ≤ tries → HasRoundsWithin tries 1 (own_part new 0)
-begun_within {S} {V} m key call tries old new has by round some = by_case (begins_burial m key old new was by)
+begun_within {S} {V} m key call tries old new has by round some = by_case (begins_tombstone m key old new was by)
   where
     was : IsOrdered old (asked.Collect key)
     was = is_ordered old (asked.Collect key) has
 
-    by_case : BeginsBurial m key old new → HasRoundsWithin tries 1 (own_part new 0)
+    by_case : BeginsTombstone m key old new → HasRoundsWithin tries 1 (own_part new 0)
     by_case (refuses leaves said order answers planned) = absurd (cc (sym (was.no_call round.of_round.caller (subst (λ (l : List CallerView). IsAt l 0 round.of_round.caller) leaves.callers round.of_round.at_caller)) ∙ round.of_round.is_call))
     by_case (begins caller at_old middle b council is at none_asked unplanned) =
         let now : CallerView = record { number = suc caller.number; call = Some b.next } in
@@ -574,9 +574,9 @@ begun_within {S} {V} m key call tries old new has by round some = by_case (begin
 one_more_some : (n : ℕ) → 1 ≤ one_more n
 one_more_some n = omega arith
 
-pub again_within : {S V : Type 0} (m : Meaning S V) (key : List ℕ) (call tries rounds now : ℕ) (old new : View S V) → HasBurial key call (own_part old 0) old.marks → StepBeginCollect m (λ before after. StepBegin m before 0 key keep_always after) old key new → now ≡ one_more rounds → HasRoundsWithin tries rounds (own_part old 0) → HasRoundsWithin tries now (own_part new 0)
+pub again_within : {S V : Type 0} (m : Meaning S V) (key : List ℕ) (call tries rounds now : ℕ) (old new : View S V) → HasTombstoneCall key call (own_part old 0) old.marks → StepBeginCollect m (λ before after. StepBegin m before 0 key keep_always after) old key new → now ≡ one_more rounds → HasRoundsWithin tries rounds (own_part old 0) → HasRoundsWithin tries now (own_part new 0)
 again_within {S} {V} m key call tries rounds now old new has by is_now w =
-    let was = is_burying old key call old.marks has in
+    let was = is_setting_tombstone old key call old.marks has in
     let parts = again_begins m key call old new was by in
     let again = again_goes_on m 0 0 key keep_always old parts.0 was.caller was.open_call was.at_caller was.is_open parts.1 in
     let goes = again.round.goes in
@@ -595,16 +595,16 @@ again_within {S} {V} m key call tries rounds now old new has by is_now w =
       more = λ now_met. absurd (cc (unmet, now_met));
     }
 
-pub turn_within : {S V : Type 0} (m : Meaning S V) (key : List ℕ) (call tries rounds : ℕ) (v : Verdict) (old new : View S V) → HasBurial key call (own_part old 0) old.marks → IsKept old → ((desk : DeskView V) → IsAt old.desks 0 desk → IsSome desk.round) → StepTurn m old 0 v new → HasRoundsWithin tries rounds (own_part old 0) → HasRoundsWithin tries rounds (own_part new 0)
+pub turn_within : {S V : Type 0} (m : Meaning S V) (key : List ℕ) (call tries rounds : ℕ) (v : Verdict) (old new : View S V) → HasTombstoneCall key call (own_part old 0) old.marks → IsKept old → ((desk : DeskView V) → IsAt old.desks 0 desk → IsSome desk.round) → StepTurn m old 0 v new → HasRoundsWithin tries rounds (own_part old 0) → HasRoundsWithin tries rounds (own_part new 0)
 turn_within {S} {V} m key call tries rounds v old new has kept was by w =
     let held = turn_held m key call v old new has kept was by in
-    let unmet = unmet_there new 0 call (burial_open key call (own_part new 0) new.marks held.does.1) held.kept (turn_running m 0 v old new was by) in
+    let unmet = unmet_there new 0 call (tombstone_open key call (own_part new 0) new.marks held.does.1) held.kept (turn_running m 0 v old new was by) in
     keeps_within tries rounds (own_part old 0) (own_part new 0) (same_rounds (harm_by v) old new by.of_call.caller by.of_call.call by.of_call.at_caller by.of_call.is_open (turn_goes_on m 0 v old new by)) (λ met. absurd (cc (unmet, met))) w
 
-pub proposed_within : {S V : Type 0} (m : Meaning S V) (key : List ℕ) (call tries rounds : ℕ) (old new : View S V) → HasBurial key call (own_part old 0) old.marks → IsKept old → HasProposed new 0 → StepPropose m old 0 new → HasRoundsWithin tries rounds (own_part old 0) → HasRoundsWithin tries rounds (own_part new 0)
+pub proposed_within : {S V : Type 0} (m : Meaning S V) (key : List ℕ) (call tries rounds : ℕ) (old new : View S V) → HasTombstoneCall key call (own_part old 0) old.marks → IsKept old → HasProposed new 0 → StepPropose m old 0 new → HasRoundsWithin tries rounds (own_part old 0) → HasRoundsWithin tries rounds (own_part new 0)
 proposed_within m key call tries rounds old new has kept proposed by w =
     let held = proposed_held m key call 0 old new has kept proposed by in
-    let unmet = unmet_there new 0 call (burial_open key call (own_part new 0) new.marks held.does.1) held.kept (proposed_running new 0 proposed) in
+    let unmet = unmet_there new 0 call (tombstone_open key call (own_part new 0) new.marks held.does.1) held.kept (proposed_running new 0 proposed) in
     keeps_within tries rounds (own_part old 0) (own_part new 0) (propose_rounds m old new by) (λ met. absurd (cc (unmet, met))) w
 
 pub met_within : {S V : Type 0} (m : Meaning S V) (tries rounds : ℕ) (old new : View S V) → StepPropose m old 0 new → rounds < tries → HasRoundsWithin tries rounds (own_part old 0) → HasRoundsWithin tries rounds (own_part new 0)

@@ -20,14 +20,14 @@ use Rattle.cas_model.proofs.Places.{at_one, at_set, some_is}
 use Rattle.cas_turn.specs.Seen.{OnlyOwnedBy}
 use Rattle.cas_world.specs.Collection.Collect.{CountsTombstone}
 use Rattle.cas_world.specs.Eras.Plans.{rescanned_of}
-use Rattle.cas_board_steps.specs.Collection.Collecting.{CollectsAt, HasBurial, HasStep, IsBurialMark}
+use Rattle.cas_board_steps.specs.Collection.Collecting.{CollectsAt, HasTombstoneCall, HasStep, IsTombstoneMark}
 use Rattle.cas_board_steps.specs.Kept.{IsKept}
 use Rattle.cas_board_steps.specs.Exchanges.Orders.{new_order, OperatesIn}
 use Rattle.cas_board_steps.specs.Owners.{owner_of}
 use Rattle.cas_board_steps.specs.OwnParts.{own_part}
 use Rattle.cas_board_steps.proofs.Calls.Acts.{spares_set, spares_rounds}
 use Rattle.cas_board_steps.proofs.Collection.Rounds.{Leads, leads_council, leads_then, makes_led, kept_led, none_kept, none_rescanned, reaches_over, ends_last, only_ended, such_ended, few_ended}
-use Rattle.cas_board_steps.proofs.Collection.Collecting.{is_burying, has_step}
+use Rattle.cas_board_steps.proofs.Collection.Collecting.{is_setting_tombstone, has_step}
 use Rattle.cas_board_steps.proofs.Collection.Steps.{none_counted}
 use Rattle.cas_board_steps.proofs.Calls.Events.{count_is_over}
 use Rattle.cas_board_steps.proofs.Calls.Holds.{Held}
@@ -46,9 +46,9 @@ over_at key council order c asks none due same over known = record {
   round_is = ap (λ (b : Bool). if b then 0 else if is_sought c.tombstone then 1 else 2) over ∙ ap (λ (b : Bool). if b then 1 else 2) known;
 }
 
-pub read_held : {S V : Type 0} (m : Meaning S V) (key : List ℕ) (call most : ℕ) (old new : View S V) → HasBurial key call (own_part old 0) old.marks → IsKept old → StepReadHeld m old new → Held old new (OperatesIn (IsBurialMark key) most old new × HasStep key step.Round (own_part new 0))
+pub read_held : {S V : Type 0} (m : Meaning S V) (key : List ℕ) (call most : ℕ) (old new : View S V) → HasTombstoneCall key call (own_part old 0) old.marks → IsKept old → StepReadHeld m old new → Held old new (OperatesIn (IsTombstoneMark key) most old new × HasStep key step.Round (own_part new 0))
 read_held {S} {V} m key call most old new has kept by =
-    let is = is_burying old key call old.marks has in
+    let is = is_setting_tombstone old key call old.marks has in
     let next : CallerView = record by.of_call.caller { call = None } in
     let callers : new.callers ≡ slice_set old.callers 0 next = ap (λ (w : View S V). w.callers) by.view in
     let leads : Leads old new [] = record {
@@ -63,7 +63,7 @@ read_held {S} {V} m key call most old new has kept by =
     let at : CollectsAt key step.Round 2 _ = over_at key old.council by.is.at.order (record (called by.is.at.collection) { tombstone = cluster.FoundHeld by.version }) (some_is (sym by.is.at.is_open ∙ is.at.order)) is.at.none_planned by.is.is_due (ap (λ (c : CollectionView). c.course.key) same ∙ is.at.same_key) refl refl in
     record {
       does = (
-        record { marks = []; makes = makes_led old new [] leads tt only; all_such = All-nil (IsBurialMark key); few = omega arith; counts = λ enters. absurd (enters 0 0); keeps = λ not. ap (λ (w : View S V). rescanned_of w.council.plan) by.view ∙ none_counted is.at at },
+        record { marks = []; makes = makes_led old new [] leads tt only; all_such = All-nil (IsTombstoneMark key); few = omega arith; counts = λ enters. absurd (enters 0 0); keeps = λ not. ap (λ (w : View S V). rescanned_of w.council.plan) by.view ∙ none_counted is.at at },
         has_step new key step.Round (record { no_call = none; at = subst (λ (w : View S V). CollectsAt key step.Round 2 w.council) (sym by.view) at; none_asked = ap (λ (w : View S V). w.council.exchange) by.view ∙ is.none_asked }),
       );
       kept = kept_led old new [] leads only kept (none_kept new none);
@@ -126,10 +126,10 @@ counts_as old middle call c now (collect.acknowledges took a told made key era i
 counts_as old middle call c now (collect.finds_held version body took ballot told is) = record { course = ap (λ (k : CollectionView). k.course) is; known = ap (λ (k : CollectionView). is_sought k.tombstone) is }
 
 -- it is done, and its call ends
-pub done_held : {S V : Type 0} (m : Meaning S V) (key : List ℕ) (call most : ℕ) (old mid new : View S V) (told : Answer) → HasBurial key call (own_part old 0) old.marks → IsKept old → is_done told ≡ true → CountsTombstone m old told mid → StepEndCollect (λ before after. StepEnd m before 0 told after) mid told new
-    → Held old new (OperatesIn (IsBurialMark key) most old new × HasStep key step.Round (own_part new 0))
+pub done_held : {S V : Type 0} (m : Meaning S V) (key : List ℕ) (call most : ℕ) (old mid new : View S V) (told : Answer) → HasTombstoneCall key call (own_part old 0) old.marks → IsKept old → is_done told ≡ true → CountsTombstone m old told mid → StepEndCollect (λ before after. StepEnd m before 0 told after) mid told new
+    → Held old new (OperatesIn (IsTombstoneMark key) most old new × HasStep key step.Round (own_part new 0))
 done_held {S} {V} m key call most old mid new told has kept done counts by =
-    let is = is_burying old key call old.marks has in
+    let is = is_setting_tombstone old key call old.marks has in
     let c = counted_done m old mid told done counts in
     let at = c.counts.at_round.of_call in
     let over = count_is_over m 0 most old c.middle c.counts in
@@ -157,7 +157,7 @@ done_held {S} {V} m key call most old mid new told has kept done counts by =
     let silent : new ≡ collect.collecting by.middle by.is.at.order None (called by.is.at.collection) = by.view ∙ ap (λ (o : _). collect.collecting by.middle by.is.at.order o (called by.is.at.collection)) (stopped_none told done) in
     record {
       does = (
-        record { marks = all; makes = makes_led old new all leads (reaches.may_end rounds told) only; all_such = such_ended (IsBurialMark key) key call rounds told reaches.marks (λ mark such. such) (done_no_conflict told done) reaches.such; few = few_ended call rounds most told reaches.marks reaches.few; counts = λ enters. absurd (enters 0 0); keeps = λ not. ap (λ (w : View S V). rescanned_of w.council.plan) silent ∙ none_counted is.at at_now },
+        record { marks = all; makes = makes_led old new all leads (reaches.may_end rounds told) only; all_such = such_ended (IsTombstoneMark key) key call rounds told reaches.marks (λ mark such. such) (done_no_conflict told done) reaches.such; few = few_ended call rounds most told reaches.marks reaches.few; counts = λ enters. absurd (enters 0 0); keeps = λ not. ap (λ (w : View S V). rescanned_of w.council.plan) silent ∙ none_counted is.at at_now },
         has_step new key step.Round (record { no_call = none; at = subst (λ (w : View S V). CollectsAt key step.Round 2 w.council) (sym silent) at_now; none_asked = ap (λ (w : View S V). w.council.exchange) silent ∙ ap (λ (k : Council). k.exchange) second ∙ ap (λ (w : View S V). w.council.exchange) c.view ∙ ap (λ (k : Council). k.exchange) first_council ∙ is.none_asked }),
       );
       kept = kept_led old new all leads only kept (none_kept new none);

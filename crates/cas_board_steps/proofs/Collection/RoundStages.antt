@@ -13,14 +13,14 @@ use Rattle.cas_world.specs.Collection.Collect.{IsCollectingCall, leaves_no_call}
 use Rattle.cas_world.specs.Exchanges.Exchange.{WasToldOrder}
 use Rattle.cas_world.specs.Readers.{closed_in, told_if}
 use Rattle.cas_world.specs.World.{WasTold}
-use Rattle.cas_board_steps.specs.Collection.Collecting.{HasBurial, IsRefusedBurial, not_begun, begun, Stops, TellsRefusal, tells, stops}
+use Rattle.cas_board_steps.specs.Collection.Collecting.{HasTombstoneCall, IsRefusedTombstone, not_begun, begun, Stops, TellsRefusal, tells, stops}
 use Rattle.cas_board_steps.specs.Calls.Open.{HasOpen}
 use Rattle.cas_board_steps.specs.OwnParts.{own_part}
-use Rattle.cas_board_steps.proofs.Collection.Collecting.{is_burying}
+use Rattle.cas_board_steps.proofs.Collection.Collecting.{is_setting_tombstone}
 
 -- ---- its call is open
-pub burial_open : (key : List ℕ) (call : ℕ) (own : List ℕ) (marks : List Mark) → HasBurial key call own marks → HasOpen call own
-burial_open key call own marks has = record { rounds = has.rounds; phase = has.phase; council = has.council; unasked = has.none_asked; is = has.is }
+pub tombstone_open : (key : List ℕ) (call : ℕ) (own : List ℕ) (marks : List Mark) → HasTombstoneCall key call own marks → HasOpen call own
+tombstone_open key call own marks has = record { rounds = has.rounds; phase = has.phase; council = has.council; unasked = has.none_asked; is = has.is }
 
 -- ---- another caller closed it
 -- which tells never that it is done
@@ -33,9 +33,9 @@ told_undone : (told : Answer) (closed : Bool) (o : Option Answer) → told_if cl
 told_undone told closed None is = absurd (cc is)
 told_undone told closed (Some one) is = closed_done told one closed (is_done one) refl is
 
-pub closed_undone : {S V : Type 0} (view : View S V) (key : List ℕ) (call : ℕ) (told : Answer) (closed : Option Answer) → HasBurial key call (own_part view 0) view.marks → ((caller : CallerView) → IsAt view.callers 0 caller → closed ≡ closed_in caller.call) → closed ≡ Some told → is_done told ≡ false
+pub closed_undone : {S V : Type 0} (view : View S V) (key : List ℕ) (call : ℕ) (told : Answer) (closed : Option Answer) → HasTombstoneCall key call (own_part view 0) view.marks → ((caller : CallerView) → IsAt view.callers 0 caller → closed ≡ closed_in caller.call) → closed ≡ Some told → is_done told ≡ false
 closed_undone view key call told closed has says e =
-    let is = is_burying view key call view.marks has in
+    let is = is_setting_tombstone view key call view.marks has in
     told_undone told is.open_call.is_closed is.open_call.told (ap closed_in (sym is.is_open) ∙ sym (says is.caller is.at_caller) ∙ e)
 
 -- ---- it is refused
@@ -53,7 +53,7 @@ unstopped (op.Left id era rescanned) other = refl
 unstopped (op.Resized need_prep need_acc era rescanned) other = refl
 unstopped (op.Refused fault) other = refl
 
-pub refused_was_told : {S V : Type 0} (view : View S V) (call : ℕ) (refusal : OpAnswer) → IsRefusedBurial view call refusal → leaves_no_call refusal ≡ true → WasToldOrder view refusal
+pub refused_was_told : {S V : Type 0} (view : View S V) (call : ℕ) (refusal : OpAnswer) → IsRefusedTombstone view call refusal → leaves_no_call refusal ≡ true → WasToldOrder view refusal
 refused_was_told view call refusal (not_begun leaves was) is_left = was
 refused_was_told view call refusal (begun said is leaves undone was calling) is_left = absurd (cc (leaves, is_left))
 
@@ -63,7 +63,7 @@ pub record WasBegun {S V : Type 0} (view : View S V) (call : ℕ) (said : Answer
   pub was : WasTold view 0 call said
   pub calling : IsCollectingCall view
 
-pub refused_was_begun : {S V : Type 0} (view : View S V) (call : ℕ) (refusal : OpAnswer) (said : Answer) → refusal ≡ op.Stopped said → IsRefusedBurial view call refusal → leaves_no_call (op.Stopped said) ≡ false → WasBegun view call said
+pub refused_was_begun : {S V : Type 0} (view : View S V) (call : ℕ) (refusal : OpAnswer) (said : Answer) → refusal ≡ op.Stopped said → IsRefusedTombstone view call refusal → leaves_no_call (op.Stopped said) ≡ false → WasBegun view call said
 refused_was_begun view call refusal said is (not_begun leaves was) is_kept = absurd (cc (sym (ap leaves_no_call is) ∙ leaves, is_kept))
 refused_was_begun view call refusal said is (begun other is_other leaves undone was calling) is_kept =
     let same : other ≡ said = cc (sym is_other ∙ is) in

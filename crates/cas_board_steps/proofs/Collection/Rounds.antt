@@ -23,7 +23,7 @@ use Rattle.cas_model.proofs.Places.{at_one, at_set, some_is}
 use Rattle.cas_turn.specs.Seen.{OnlyOwnedBy}
 use Rattle.cas_world.specs.Eras.Plans.{rescanned_of}
 use Rattle.cas_board_steps.specs.Eras.Counting.{EntersEras}
-use Rattle.cas_board_steps.specs.Collection.Collecting.{CollectsAt, HasBurial, IsBurialMark, IsCollectAnswer, Stops}
+use Rattle.cas_board_steps.specs.Collection.Collecting.{CollectsAt, HasTombstoneCall, IsTombstoneMark, IsCollectAnswer, Stops}
 use Rattle.cas_board_steps.specs.Kept.{IsStaged, IsKept, Makes}
 use Rattle.cas_board_steps.specs.Mine.{mine, call_of, losses, Wanted, wants, wanted_after, wanted_by}
 use Rattle.cas_board_steps.specs.Calls.Open.{rounds_in}
@@ -31,7 +31,7 @@ use Rattle.cas_board_steps.specs.Exchanges.Orders.{OperatesIn, IsToldIn}
 use Rattle.cas_board_steps.specs.Owners.{owner_of, is_answer, MayFollow, MayAdd}
 use Rattle.cas_board_steps.specs.OwnParts.{own_part}
 use Rattle.cas_board_steps.proofs.Calls.Acts.{Acts, Spares, spares_same, spares_set, spares_then, SparesRounds, spares_rounds, rounds_then, OwnKept, makes_of, kept_by}
-use Rattle.cas_board_steps.proofs.Collection.Collecting.{IsBurying, has_burial, IsKeeping}
+use Rattle.cas_board_steps.proofs.Collection.Collecting.{IsSettingTombstone, has_tombstone, IsKeeping}
 use Rattle.cas_board_steps.proofs.Exchanges.Councils.{idle_free}
 use Rattle.cas_board_steps.proofs.Eras.Counting.{lasts_told}
 use Rattle.cas_board_steps.proofs.Calls.Events.{CallGoesOn, CallIsOver}
@@ -59,24 +59,24 @@ asked_once w (kinds.Harmed caller call down ∷ l) e = asked_once w l e
 asked_once w (kinds.Told asks told ∷ l) e = asked_once w l e
 
 -- such a mark stands in front of others, where it is caller 0's
-such_if : (key : List ℕ) (call : ℕ) (b : Bool) (mark : Mark) (l : List Mark) → IsBurialMark key mark → (All (λ m. call_of m ≡ Some call) l → All (IsBurialMark key) l) → All (λ m. call_of m ≡ Some call) (if b then mark ∷ l else l) → All (IsBurialMark key) (if b then mark ∷ l else l)
-such_if key call true mark l such rest of_ = All-cons (IsBurialMark key) mark l such (rest (All-tail (λ m. call_of m ≡ Some call) mark l of_))
+such_if : (key : List ℕ) (call : ℕ) (b : Bool) (mark : Mark) (l : List Mark) → IsTombstoneMark key mark → (All (λ m. call_of m ≡ Some call) l → All (IsTombstoneMark key) l) → All (λ m. call_of m ≡ Some call) (if b then mark ∷ l else l) → All (IsTombstoneMark key) (if b then mark ∷ l else l)
+such_if key call true mark l such rest of_ = All-cons (IsTombstoneMark key) mark l such (rest (All-tail (λ m. call_of m ≡ Some call) mark l of_))
 such_if key call false mark l such rest of_ = rest of_
 
 -- the marks of a call that begin none are such marks
-pub such_marks : (key : List ℕ) (call : ℕ) (l : List Mark) → All (λ mark. call_of mark ≡ Some call) (mine 0 l) → wanted_after 0 None l ≡ None → All (IsBurialMark key) (mine 0 l)
-such_marks key call [] of_call none = All-nil (IsBurialMark key)
+pub such_marks : (key : List ℕ) (call : ℕ) (l : List Mark) → All (λ mark. call_of mark ≡ Some call) (mine 0 l) → wanted_after 0 None l ≡ None → All (IsTombstoneMark key) (mine 0 l)
+such_marks key call [] of_call none = All-nil (IsTombstoneMark key)
 such_marks key call (kinds.Begun caller number other program ∷ l) of_call none = by_test (caller == 0) (such_marks key call l) of_call none
   where
-    by_test : (b : Bool) → (All (λ mark. call_of mark ≡ Some call) (mine 0 l) → wanted_after 0 None l ≡ None → All (IsBurialMark key) (mine 0 l)) → All (λ mark. call_of mark ≡ Some call) (if b then kinds.Begun caller number other program ∷ mine 0 l else mine 0 l)
-        → wanted_after 0 (if b then Some (wants number other program) else None) l ≡ None → All (IsBurialMark key) (if b then kinds.Begun caller number other program ∷ mine 0 l else mine 0 l)
+    by_test : (b : Bool) → (All (λ mark. call_of mark ≡ Some call) (mine 0 l) → wanted_after 0 None l ≡ None → All (IsTombstoneMark key) (mine 0 l)) → All (λ mark. call_of mark ≡ Some call) (if b then kinds.Begun caller number other program ∷ mine 0 l else mine 0 l)
+        → wanted_after 0 (if b then Some (wants number other program) else None) l ≡ None → All (IsTombstoneMark key) (if b then kinds.Begun caller number other program ∷ mine 0 l else mine 0 l)
     by_test true rest of_ is = absurd (asked_once (wants number other program) l is)
     by_test false rest of_ is = rest of_ is
 such_marks key call (kinds.Proposed p ∷ l) of_call none = such_if key call (p.caller == 0) (kinds.Proposed p) (mine 0 l) tt (λ rest. such_marks key call l rest none) of_call
 such_marks key call (kinds.Ended caller number rounds told ∷ l) of_call none = by_test (caller == 0) (λ rest. such_marks key call l rest none) of_call
   where
-    by_test : (b : Bool) → (All (λ mark. call_of mark ≡ Some call) (mine 0 l) → All (IsBurialMark key) (mine 0 l)) → All (λ mark. call_of mark ≡ Some call) (if b then kinds.Ended caller number rounds told ∷ mine 0 l else mine 0 l)
-        → All (IsBurialMark key) (if b then kinds.Ended caller number rounds told ∷ mine 0 l else mine 0 l)
+    by_test : (b : Bool) → (All (λ mark. call_of mark ≡ Some call) (mine 0 l) → All (IsTombstoneMark key) (mine 0 l)) → All (λ mark. call_of mark ≡ Some call) (if b then kinds.Ended caller number rounds told ∷ mine 0 l else mine 0 l)
+        → All (IsTombstoneMark key) (if b then kinds.Ended caller number rounds told ∷ mine 0 l else mine 0 l)
     by_test true rest of_ = absurd (cc (All-head (λ mark. call_of mark ≡ Some call) (kinds.Ended caller number rounds told) (mine 0 l) of_))
     by_test false rest of_ = rest of_
 such_marks key call (kinds.Harmed caller number down ∷ l) of_call none = such_if key call (caller == 0) (kinds.Harmed caller number down) (mine 0 l) tt (λ rest. such_marks key call l rest none) of_call
@@ -168,7 +168,7 @@ pub record Reaches {S V : Type 0} (key : List ℕ) (call most : ℕ) (old mid : 
   pub marks : List Mark
   pub leads : Leads old mid marks
   pub only : OnlyOwnedBy owner_of 0 marks
-  pub such : All (IsBurialMark key) (mine 0 marks)
+  pub such : All (IsTombstoneMark key) (mine 0 marks)
   pub few : losses (mine 0 marks) ≤ most
   pub caller : CallerView
   pub at_caller : IsAt mid.callers 0 caller
@@ -198,10 +198,10 @@ ends_last {S} {V} m told old new by =
 pub only_ended : (number rounds : ℕ) (told : Answer) → OnlyOwnedBy owner_of 0 (kinds.Ended 0 number rounds told ∷ [])
 only_ended number rounds told = All-cons (λ i. (m : ℕ) → owner_of i ≡ Some m → m ≡ 0) (kinds.Ended 0 number rounds told) [] (λ m e. sym (some_is e)) (All-nil (λ i. (m : ℕ) → owner_of i ≡ Some m → m ≡ 0))
 
-pub such_ended : (such : Mark → Type 0) (key : List ℕ) (number rounds : ℕ) (told : Answer) (l : List Mark) → ((mark : Mark) → IsBurialMark key mark → such mark) → such (kinds.Ended 0 number rounds told) → All (IsBurialMark key) (mine 0 l) → All such (mine 0 (l ++ kinds.Ended 0 number rounds told ∷ []))
+pub such_ended : (such : Mark → Type 0) (key : List ℕ) (number rounds : ℕ) (told : Answer) (l : List Mark) → ((mark : Mark) → IsTombstoneMark key mark → such mark) → such (kinds.Ended 0 number rounds told) → All (IsTombstoneMark key) (mine 0 l) → All such (mine 0 (l ++ kinds.Ended 0 number rounds told ∷ []))
 such_ended such key number rounds told l weaker last all =
     subst (All such) (sym (mine_append 0 l (kinds.Ended 0 number rounds told ∷ []) ∙ ap (λ (k : List Mark). mine 0 l ++ k) (mine_own 0 (kinds.Ended 0 number rounds told) [] refl)))
-    (All-append such (mine 0 l) (kinds.Ended 0 number rounds told ∷ []) (All-weaker (IsBurialMark key) such weaker (mine 0 l) all) (All-cons such (kinds.Ended 0 number rounds told) [] last (All-nil such)))
+    (All-append such (mine 0 l) (kinds.Ended 0 number rounds told ∷ []) (All-weaker (IsTombstoneMark key) such weaker (mine 0 l) all) (All-cons such (kinds.Ended 0 number rounds told) [] last (All-nil such)))
 
 losses_ended : (number rounds most : ℕ) (told : Answer) (l : List Mark) → losses l ≤ most → losses (l ++ kinds.Ended 0 number rounds told ∷ []) ≤ most
 losses_ended number rounds most told l few = subst (λ (k : ℕ). k ≤ most) (sym (same l)) few
@@ -230,7 +230,7 @@ none_rescanned key told old council none (calls.stops of undone same) = absurd (
 none_rescanned key told old council none (calls.is_none not same) = same
 
 -- it ends, and the operator is told that it stopped
-pub stops_held : {S V : Type 0} (such : Mark → Type 0) (m : Meaning S V) (key : List ℕ) (call most : ℕ) (old mid new : View S V) (told : Answer) → ((mark : Mark) → IsBurialMark key mark → such mark) → (EntersEras such → ⊥) → such (kinds.Ended 0 call (rounds_in (own_part mid 0)) told) → Reaches key call most old mid → ((order : OrderView) → mid.council.order ≡ Some order → order.asked ≡ asked.Collect key) → old.council.plan ≡ None → mid.council.plan ≡ None → is_done told ≡ false → IsKept old → Stops m mid told new
+pub stops_held : {S V : Type 0} (such : Mark → Type 0) (m : Meaning S V) (key : List ℕ) (call most : ℕ) (old mid new : View S V) (told : Answer) → ((mark : Mark) → IsTombstoneMark key mark → such mark) → (EntersEras such → ⊥) → such (kinds.Ended 0 call (rounds_in (own_part mid 0)) told) → Reaches key call most old mid → ((order : OrderView) → mid.council.order ≡ Some order → order.asked ≡ asked.Collect key) → old.council.plan ≡ None → mid.council.plan ≡ None → is_done told ≡ false → IsKept old → Stops m mid told new
     → Held old new (IsToldIn (asked.Collect key) such most old new (op.Stopped told) × IsCollectAnswer key (op.Stopped told))
 stops_held {S} {V} such m key call most old mid new told weaker not_entering last reaches asks none_old none_mid undone kept (after, by, tells) =
     let ends = ends_last m told mid by.middle by.ends in
@@ -280,13 +280,13 @@ reaches_over key call most old mid caller was number over = record {
 }
 
 -- and the order stays
-pub asks_there : {S V : Type 0} (key : List ℕ) (old mid : View S V) (call : ℕ) → IsBurying old key call → mid.council ≡ old.council → (order : OrderView) → mid.council.order ≡ Some order → order.asked ≡ asked.Collect key
+pub asks_there : {S V : Type 0} (key : List ℕ) (old mid : View S V) (call : ℕ) → IsSettingTombstone old key call → mid.council ≡ old.council → (order : OrderView) → mid.council.order ≡ Some order → order.asked ≡ asked.Collect key
 asks_there key old mid call was same order is = ap (λ (o : OrderView). o.asked) (some_is (sym is ∙ ap (λ (c : Council). c.order) same ∙ was.at.order))
 
 -- the call goes on with another state of it, and what the operator has under way is this
-pub burial_held : {S V : Type 0} (key : List ℕ) (call most : ℕ) (old mid new : View S V) (caller : CallerView) (was : CallView) (council : Council) → caller.number ≡ call → (goes : CallGoesOn 0 most old mid caller was) → new ≡ record mid { council = council } → CollectsAt key step.Round 0 council → council.exchange ≡ None
-    → old.council.plan ≡ None → IsKeeping was key → wanted_by 0 old.marks ≡ Some (wants call key keep_always) → ((desk : DeskView V) → IsAt mid.desks 0 desk → IsStaged desk goes.next) → IsKept old → Held old new (OperatesIn (IsBurialMark key) most old new × HasBurial key call (own_part new 0) new.marks)
-burial_held {S} {V} key call most old mid new caller was council number goes is at none_asked none_old keeping wanted staged kept =
+pub tombstone_held : {S V : Type 0} (key : List ℕ) (call most : ℕ) (old mid new : View S V) (caller : CallerView) (was : CallView) (council : Council) → caller.number ≡ call → (goes : CallGoesOn 0 most old mid caller was) → new ≡ record mid { council = council } → CollectsAt key step.Round 0 council → council.exchange ≡ None
+    → old.council.plan ≡ None → IsKeeping was key → wanted_by 0 old.marks ≡ Some (wants call key keep_always) → ((desk : DeskView V) → IsAt mid.desks 0 desk → IsStaged desk goes.next) → IsKept old → Held old new (OperatesIn (IsTombstoneMark key) most old new × HasTombstoneCall key call (own_part new 0) new.marks)
+tombstone_held {S} {V} key call most old mid new caller was council number goes is at none_asked none_old keeping wanted staged kept =
     let next : CallerView = record caller { call = Some goes.next } in
     let leads : Leads old new goes.marks = leads_council old mid new goes.marks council (leads_acts old mid goes.marks goes.acts) is in
     let at_next : IsAt new.callers 0 next = subst (λ (w : View S V). IsAt w.callers 0 next) (sym is) goes.at_next in
@@ -295,7 +295,7 @@ burial_held {S} {V} key call most old mid new caller was council number goes is 
     record {
       does = (
         record { marks = goes.marks; makes = makes_led old new goes.marks leads goes.fine.may_add goes.fine.only; all_such = such_marks key caller.number goes.marks goes.fine.of_call (goes.fine.asks None); few = goes.fine.few; counts = λ enters. absurd (enters 0 0); keeps = λ not. ap rescanned_of (at_now.none_planned ∙ sym none_old) },
-        has_burial new key call (record { caller = next; at_caller = at_next; number = number; open_call = goes.next; is_open = refl; at = at_now; none_asked = ap (λ (w : View S V). w.council.exchange) is ∙ none_asked }) wanted_now,
+        has_tombstone new key call (record { caller = next; at_caller = at_next; number = number; open_call = goes.next; is_open = refl; at = at_now; none_asked = ap (λ (w : View S V). w.council.exchange) is ∙ none_asked }) wanted_now,
       );
       kept = kept_led old new goes.marks leads goes.fine.only kept (record {
         staged = λ desk one open_ at_desk at_one_ is_open.

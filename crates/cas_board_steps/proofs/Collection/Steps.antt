@@ -37,8 +37,8 @@ use Rattle.cas_world.specs.Collection.Collect.{IsDueStep}
 use Rattle.cas_world.specs.Exchanges.Exchange as world
 use Rattle.cas_world.specs.Exchanges.Exchange.{MayAskCollected, MayGather, WasToldOrder, asks_as, place_of, turn_of, refusal_of, gathering_by, gathering_of}
 use Rattle.cas_world.specs.Eras.Plans.{HasCollectedAll, rescanned_of}
-use Rattle.cas_board_steps.specs.Collection.Collecting.{CollectsAt, HasStep, HasQuestion, IsBurialMark, IsCollectAnswer}
-use Rattle.cas_board_steps.specs.Calls.Deeds.{harm_by}
+use Rattle.cas_board_steps.specs.Collection.Collecting.{CollectsAt, HasStep, HasQuestion, IsTombstoneMark, IsCollectAnswer}
+use Rattle.cas_board_steps.specs.Calls.Changes.{harm_by}
 use Rattle.cas_board_steps.specs.Kept.{IsKept, Makes}
 use Rattle.cas_board_steps.specs.Mine.{mine}
 use Rattle.cas_board_steps.specs.Exchanges.Orders.{new_order, OperatesIn, IsToldIn, IsAskingHarm}
@@ -52,7 +52,7 @@ use Rattle.cas_board_steps.proofs.Exchanges.Operating.{Leaves, leaves_desks, non
 use Rattle.cas_board_steps.proofs.Calls.Stages.{some_waits, none_waits}
 
 -- ---- marks
-such_asking : (key : List ℕ) (mark : Mark) → IsAskingHarm mark → IsBurialMark key mark
+such_asking : (key : List ℕ) (mark : Mark) → IsAskingHarm mark → IsTombstoneMark key mark
 such_asking key (kinds.Harmed caller call down) is = tt
 such_asking key (kinds.Begun caller call other program) is = absurd is
 such_asking key (kinds.Proposed p) is = absurd is
@@ -63,12 +63,12 @@ such_asking key (kinds.EraEntered proposer number) is = absurd is
 such_asking key (kinds.Ended caller call rounds told) is = absurd is
 such_asking key (kinds.Told asks told) is = absurd is
 
-all_asking : (key : List ℕ) (l : List Mark) → All IsAskingHarm l → All (IsBurialMark key) l
-all_asking key [] all = All-nil (IsBurialMark key)
-all_asking key (mark ∷ l) all = All-cons (IsBurialMark key) mark l (such_asking key mark (All-head IsAskingHarm mark l all)) (all_asking key l (All-tail IsAskingHarm mark l all))
+all_asking : (key : List ℕ) (l : List Mark) → All IsAskingHarm l → All (IsTombstoneMark key) l
+all_asking key [] all = All-nil (IsTombstoneMark key)
+all_asking key (mark ∷ l) all = All-cons (IsTombstoneMark key) mark l (such_asking key mark (All-head IsAskingHarm mark l all)) (all_asking key l (All-tail IsAskingHarm mark l all))
 
-pub no_marks : {S V : Type 0} (key : List ℕ) (most : ℕ) (old new : View S V) → Makes 0 old new [] → rescanned_of new.council.plan ≡ rescanned_of old.council.plan → OperatesIn (IsBurialMark key) most old new
-no_marks key most old new makes planned = record { marks = []; makes = makes; all_such = All-nil (IsBurialMark key); few = omega arith; counts = λ enters. absurd (enters 0 0); keeps = λ not. planned }
+pub no_marks : {S V : Type 0} (key : List ℕ) (most : ℕ) (old new : View S V) → Makes 0 old new [] → rescanned_of new.council.plan ≡ rescanned_of old.council.plan → OperatesIn (IsTombstoneMark key) most old new
+no_marks key most old new makes planned = record { marks = []; makes = makes; all_such = All-nil (IsTombstoneMark key); few = omega arith; counts = λ enters. absurd (enters 0 0); keeps = λ not. planned }
 
 -- ---- the next step
 -- what the operator's call asks
@@ -99,7 +99,7 @@ steps_on key due next council now at order collection then_ is_order is_collecti
 
 -- a hold that makes none of the operator's marks, after which a step is due
 pub step_held : {S V : Type 0} (key : List ℕ) (most : ℕ) (next : CollectStep) (old new : View S V) → Leaves old new [] → IsKept old → ((caller : CallerView) → IsAt old.callers 0 caller → caller.call ≡ None) → CollectsAt key next 2 new.council → new.council.exchange ≡ None
-    → rescanned_of new.council.plan ≡ rescanned_of old.council.plan → Held old new (OperatesIn (IsBurialMark key) most old new × HasStep key next (own_part new 0))
+    → rescanned_of new.council.plan ≡ rescanned_of old.council.plan → Held old new (OperatesIn (IsTombstoneMark key) most old new × HasStep key next (own_part new 0))
 step_held key most next old new leaves kept none at exchange planned =
     let held = silently old new leaves kept none in
     record { does = (no_marks key most old new held.does planned, has_step new key next (record { no_call = none_then old new [] leaves none; at = at; none_asked = exchange })); kept = held.kept; last_proposer = held.last_proposer }
@@ -138,9 +138,9 @@ stops_so {S} {V} old mid changed key due round said at is last_proposer desks ca
 }
 
 pub stopped_held : {S V : Type 0} (key : List ℕ) (most : ℕ) (old mid new : View S V) (told : OpAnswer) → StopsSo old mid key → WasToldOrder mid told → StepTell mid told new → IsKept old → ((caller : CallerView) → IsAt old.callers 0 caller → caller.call ≡ None)
-    → Held old new (IsToldIn (asked.Collect key) (IsBurialMark key) most old new told × IsCollectAnswer key told)
+    → Held old new (IsToldIn (asked.Collect key) (IsTombstoneMark key) most old new told × IsCollectAnswer key told)
 stopped_held key most old mid new told stops said ends kept none =
-    let held = tells_in (IsBurialMark key) most old mid new (asked.Collect key) told (told_so stops.said (new_order (asked.Collect key))) stops.leaves stops.order refl ends kept none (λ enters. absurd (enters 0 0))
+    let held = tells_in (IsTombstoneMark key) most old mid new (asked.Collect key) told (told_so stops.said (new_order (asked.Collect key))) stops.leaves stops.order refl ends kept none (λ enters. absurd (enters 0 0))
     (λ not. lasts_told mid new (asked.Collect key) told (told_so stops.said (new_order (asked.Collect key))) stops.order refl (λ era rescanned is. is) ends ∙ stops.planned) in
     record { does = (held.does, answers_same key stops.said told stops.answers (says_same mid (new_order (asked.Collect key)) stops.said told stops.order said)); kept = held.kept; last_proposer = held.last_proposer }
 
@@ -187,12 +187,12 @@ untold view a told is was = cc (sym (ap (λ (o : OrderView). o.told) (some_is (s
 
 -- what a hold answers then
 goes_held : {S V : Type 0} (key : List ℕ) (most : ℕ) (next : CollectStep) (old new : View S V) → GoesOrStops key next old new → new.council.order ≡ Some (new_order (asked.Collect key)) → IsKept old → ((caller : CallerView) → IsAt old.callers 0 caller → caller.call ≡ None)
-    → Held old new (OperatesIn (IsBurialMark key) most old new × HasStep key next (own_part new 0))
+    → Held old new (OperatesIn (IsTombstoneMark key) most old new × HasStep key next (own_part new 0))
 goes_held key most next old new (goes leaves at exchange planned) none_told kept none = step_held key most next old new leaves kept none at exchange planned
 goes_held key most next old new (stops so) none_told kept none = absurd (cc (ap (option_map (λ (o : OrderView). o.told)) (sym none_told ∙ so.order)))
 
 stops_held : {S V : Type 0} (key : List ℕ) (most : ℕ) (next : CollectStep) (old mid new : View S V) (told : OpAnswer) → GoesOrStops key next old mid → WasToldOrder mid told → StepTell mid told new → IsKept old → ((caller : CallerView) → IsAt old.callers 0 caller → caller.call ≡ None)
-    → Held old new (IsToldIn (asked.Collect key) (IsBurialMark key) most old new told × IsCollectAnswer key told)
+    → Held old new (IsToldIn (asked.Collect key) (IsTombstoneMark key) most old new told × IsCollectAnswer key told)
 stops_held key most next old mid new told (goes leaves at exchange planned) said ends kept none = absurd (untold mid (asked.Collect key) told at.order said)
 stops_held key most next old mid new told (stops so) said ends kept none = stopped_held key most old mid new told so said ends kept none
 
@@ -207,14 +207,14 @@ gathered_silently old new result (world.lists exchange places plan listing is_op
 gathered_silently old new result (world.acknowledged collection none is_collection is next) of_it = ap (λ (c : Council). c.order) next
 gathered_silently old new result (world.confirmed exchange collection removed kept is_open of_this is_collection is next) of_it = ap (λ (c : Council). c.order) next
 
-pub round_held : {S V : Type 0} (m : Meaning S V) (key : List ℕ) (most : ℕ) (old new : View S V) (result : Gathered) → HasStep key step.Round (own_part old 0) → IsKept old → Step m old (gathering_of old) new → world.HasGathered old result new → Held old new (OperatesIn (IsBurialMark key) most old new × HasStep key (step.Renew 0) (own_part new 0))
+pub round_held : {S V : Type 0} (m : Meaning S V) (key : List ℕ) (most : ℕ) (old new : View S V) (result : Gathered) → HasStep key step.Round (own_part old 0) → IsKept old → Step m old (gathering_of old) new → world.HasGathered old result new → Held old new (OperatesIn (IsTombstoneMark key) most old new × HasStep key (step.Renew 0) (own_part new 0))
 round_held m key most old new result has kept by ok =
     let was = is_step old key step.Round has in
     goes_held key most (step.Renew 0) old new (round_goes old new key was (as_round m old new was.none_asked by))
     (silent_now key step.Round 2 old.council new.council was.at (gathered_silently old new result ok (λ k x is. absurd (cc (sym was.none_asked ∙ is))))) kept was.no_call
 
 pub round_told : {S V : Type 0} (m : Meaning S V) (key : List ℕ) (most : ℕ) (old mid new : View S V) (told : OpAnswer) → HasStep key step.Round (own_part old 0) → IsKept old → Step m old (gathering_of old) mid → WasToldOrder mid told → StepTell mid told new
-    → Held old new (IsToldIn (asked.Collect key) (IsBurialMark key) most old new told × IsCollectAnswer key told)
+    → Held old new (IsToldIn (asked.Collect key) (IsTombstoneMark key) most old new told × IsCollectAnswer key told)
 round_told m key most old mid new told has kept by said ends =
     let was = is_step old key step.Round has in
     stops_held key most (step.Renew 0) old mid new told (round_goes old mid key was (as_round m old mid was.none_asked by)) said ends kept was.no_call
@@ -244,26 +244,26 @@ asks_or_not {S} {V} m key due old new was by = by_case by.asks
     by_case (collect.is_full question up is_question full is) = stops_asking (stops_so old new _ key due 2 (op.Stopped answer.RecordFull) was.at is refl refl refl refl refl refl tt) (ap (λ (w : View S V). w.council.exchange) is ∙ was.none_asked)
     by_case (collect.no_memory up is) = stops_asking (stops_so old new _ key due 2 (op.Stopped (answer.NoMemory false)) was.at is refl refl refl refl refl refl tt) (ap (λ (w : View S V). w.council.exchange) is ∙ was.none_asked)
 
-pub ask_held : {S V : Type 0} (m : Meaning S V) (key : List ℕ) (due : CollectStep) (most : ℕ) (old new : View S V) → HasStep key due (own_part old 0) → IsKept old → StepAskCollect m old new → IsSome new.council.exchange → Held old new (OperatesIn (IsBurialMark key) most old new × HasQuestion key due (own_part new 0))
+pub ask_held : {S V : Type 0} (m : Meaning S V) (key : List ℕ) (due : CollectStep) (most : ℕ) (old new : View S V) → HasStep key due (own_part old 0) → IsKept old → StepAskCollect m old new → IsSome new.council.exchange → Held old new (OperatesIn (IsTombstoneMark key) most old new × HasQuestion key due (own_part new 0))
 ask_held {S} {V} m key due most old new has kept by some = by_case (asks_or_not m key due old new was by)
   where
     was : IsStep old key due
     was = is_step old key due has
 
-    by_case : AsksOrStops key due old new → Held old new (OperatesIn (IsBurialMark key) most old new × HasQuestion key due (own_part new 0))
+    by_case : AsksOrStops key due old new → Held old new (OperatesIn (IsTombstoneMark key) most old new × HasQuestion key due (own_part new 0))
     by_case (asks leaves at exchange is_open of_it) =
         let held = silently old new leaves kept was.no_call in
         record { does = (no_marks key most old new held.does (none_counted was.at at), has_question new key due (record { no_call = none_then old new [] leaves was.no_call; at = at; exchange = exchange; is_open = is_open; of_it = of_it })); kept = held.kept; last_proposer = held.last_proposer }
     by_case (stops_asking so none) = absurd (cc (subst (λ (o : Option ExchangeView). IsSome o) none some))
 
 pub ask_told : {S V : Type 0} (m : Meaning S V) (key : List ℕ) (due : CollectStep) (most : ℕ) (old mid new : View S V) (told : OpAnswer) → HasStep key due (own_part old 0) → IsKept old → StepAskCollect m old mid → WasToldOrder mid told → StepTell mid told new
-    → Held old new (IsToldIn (asked.Collect key) (IsBurialMark key) most old new told × IsCollectAnswer key told)
+    → Held old new (IsToldIn (asked.Collect key) (IsTombstoneMark key) most old new told × IsCollectAnswer key told)
 ask_told {S} {V} m key due most old mid new told has kept by said ends = by_case (asks_or_not m key due old mid was by)
   where
     was : IsStep old key due
     was = is_step old key due has
 
-    by_case : AsksOrStops key due old mid → Held old new (IsToldIn (asked.Collect key) (IsBurialMark key) most old new told × IsCollectAnswer key told)
+    by_case : AsksOrStops key due old mid → Held old new (IsToldIn (asked.Collect key) (IsTombstoneMark key) most old new told × IsCollectAnswer key told)
     by_case (asks leaves at exchange is_open of_it) = absurd (untold mid (asked.Collect key) told at.order said)
     by_case (stops_asking so none) = stopped_held key most old mid new told so said ends kept was.no_call
 
@@ -293,7 +293,7 @@ collecting_harms (NextKeys places) of_it harmed = refl
 collecting_harms (NewAges k least) of_it harmed = refl
 collecting_harms (Removal k) of_it harmed = refl
 
-pub turn_held : {S V : Type 0} (m : Meaning S V) (key : List ℕ) (due : CollectStep) (v : Verdict) (old new : View S V) → HasQuestion key due (own_part old 0) → IsKept old → Step m old (turn_of old 0 v) new → Held old new (OperatesIn (IsBurialMark key) (harm_by v) old new × HasQuestion key due (own_part new 0))
+pub turn_held : {S V : Type 0} (m : Meaning S V) (key : List ℕ) (due : CollectStep) (v : Verdict) (old new : View S V) → HasQuestion key due (own_part old 0) → IsKept old → Step m old (turn_of old 0 v) new → Held old new (OperatesIn (IsTombstoneMark key) (harm_by v) old new × HasQuestion key due (own_part new 0))
 turn_held {S} {V} m key due v old new has kept step_ =
     let by : StepTurnExchange m old v new = subst (λ (e : steps.Event). Step m old e new) (turn_is old key due v has) step_ in
     let was = is_asked old key due has in
@@ -315,12 +315,12 @@ turn_may_tell {S} {V} m key due old mid has step_ =
     was_told_so mid (new_order (asked.Collect key)) (op.Stopped (answer.NoMemory false)) (refuses_asking m old mid (new_order (asked.Collect key)) was.at.order by).1 refl
 
 pub turn_told : {S V : Type 0} (m : Meaning S V) (key : List ℕ) (due : CollectStep) (most : ℕ) (old mid new : View S V) (told : OpAnswer) → told ≡ op.Stopped (answer.NoMemory false) → HasQuestion key due (own_part old 0) → IsKept old → Step m old (refusal_of old 0) mid → StepTell mid told new
-    → Held old new (IsToldIn (asked.Collect key) (IsBurialMark key) most old new told × IsCollectAnswer key told)
+    → Held old new (IsToldIn (asked.Collect key) (IsTombstoneMark key) most old new told × IsCollectAnswer key told)
 turn_told {S} {V} m key due most old mid new told is has kept step_ ends =
     let by : StepRefuseTurnExchange m old mid = subst (λ (e : steps.Event). Step m old e mid) (refusal_is old key due has) step_ in
     let was = is_asked old key due has in
     let refuses = refuses_asking m old mid (new_order (asked.Collect key)) was.at.order by in
-    let held = tells_in (IsBurialMark key) most old mid new (asked.Collect key) told (told_so (op.Stopped (answer.NoMemory false)) (new_order (asked.Collect key))) refuses.0 refuses.1 refl ends kept was.no_call (λ enters. absurd (enters 0 0))
+    let held = tells_in (IsTombstoneMark key) most old mid new (asked.Collect key) told (told_so (op.Stopped (answer.NoMemory false)) (new_order (asked.Collect key))) refuses.0 refuses.1 refl ends kept was.no_call (λ enters. absurd (enters 0 0))
     (λ not. lasts_told mid new (asked.Collect key) told (told_so (op.Stopped (answer.NoMemory false)) (new_order (asked.Collect key))) refuses.1 refl (λ era rescanned is. is) ends ∙ refusal_planned m old mid by) in
     record { does = (held.does, subst (IsCollectAnswer key) (sym is) tt); kept = held.kept; last_proposer = held.last_proposer }
 
@@ -347,13 +347,13 @@ gathered_now key due old new result was ok =
     silent_now key due 2 old.council new.council was.at (gathered_silently old new result ok (λ k x is. ap (λ (e : ExchangeView). is_of_collection e.question) (some_is (sym is ∙ was.is_open)) ∙ was.of_it))
 
 pub gather_held : {S V : Type 0} (m : Meaning S V) (key : List ℕ) (due next : CollectStep) (most : ℕ) (old new : View S V) (result : Gathered) → ((proposers : ℕ) → step_after proposers due ≡ next) → HasQuestion key due (own_part old 0) → IsKept old → Step m old (gathering_of old) new → world.HasGathered old result new
-    → Held old new (OperatesIn (IsBurialMark key) most old new × HasStep key next (own_part new 0))
+    → Held old new (OperatesIn (IsTombstoneMark key) most old new × HasStep key next (own_part new 0))
 gather_held m key due next most old new result after has kept by ok =
     let was = is_asked old key due has in
     goes_held key most next old new (gathers_or_not key due next old new after was (as_collect m key due old new was by)) (gathered_now key due old new result was ok) kept was.no_call
 
 pub gather_told : {S V : Type 0} (m : Meaning S V) (key : List ℕ) (due next : CollectStep) (most : ℕ) (old mid new : View S V) (told : OpAnswer) → ((proposers : ℕ) → step_after proposers due ≡ next) → HasQuestion key due (own_part old 0) → IsKept old → Step m old (gathering_of old) mid → WasToldOrder mid told → StepTell mid told new
-    → Held old new (IsToldIn (asked.Collect key) (IsBurialMark key) most old new told × IsCollectAnswer key told)
+    → Held old new (IsToldIn (asked.Collect key) (IsTombstoneMark key) most old new told × IsCollectAnswer key told)
 gather_told m key due next most old mid new told after has kept by said ends =
     let was = is_asked old key due has in
     stops_held key most next old mid new told (gathers_or_not key due next old mid after was (as_collect m key due old mid was by)) said ends kept was.no_call
@@ -362,7 +362,7 @@ gather_told m key due next most old mid new told after has kept by said ends =
 pub due_step : {S V : Type 0} (view : View S V) (key : List ℕ) (due : CollectStep) → HasStep key due (own_part view 0) → IsDueStep view due
 due_step view key due has = let is = is_step view key due has in record { collection = is.at.collection; is_collection = is.at.is_collection; is_due = is.at.is_due }
 
-pub floor_held : {S V : Type 0} (key : List ℕ) (most : ℕ) (old new : View S V) → HasStep key step.Floor (own_part old 0) → IsKept old → StepMakeFloor old new → Held old new (OperatesIn (IsBurialMark key) most old new × HasStep key step.Remove (own_part new 0))
+pub floor_held : {S V : Type 0} (key : List ℕ) (most : ℕ) (old new : View S V) → HasStep key step.Floor (own_part old 0) → IsKept old → StepMakeFloor old new → Held old new (OperatesIn (IsTombstoneMark key) most old new × HasStep key step.Remove (own_part new 0))
 floor_held {S} {V} key most old new has kept by =
     let was = is_step old key step.Floor has in
     let made : List Mark = kinds.Floor by.at.collection.course.key (tomb_of by.at.collection.tombstone) Empty ∷ [] in
@@ -372,7 +372,7 @@ floor_held {S} {V} key most old new has kept by =
     let at = steps_on key step.Floor step.Remove old.council new.council was.at by.at.order by.at.collection _ by.at.is_open by.at.is_collection (ap (λ (w : View S V). w.council.order) by.view) (ap (λ (w : View S V). w.council.plan) by.view) (ap (λ (w : View S V). w.council.collection) by.view) refl (ap (step_after by.at.collection.course.proposers) by.is_due) refl in
     record {
       does = (
-        record { marks = made; makes = makes_by old new made leaves (tt, tt) only; all_such = All-nil (IsBurialMark key); few = omega arith; counts = λ enters. absurd (enters 0 0); keeps = λ not. none_counted was.at at },
+        record { marks = made; makes = makes_by old new made leaves (tt, tt) only; all_such = All-nil (IsTombstoneMark key); few = omega arith; counts = λ enters. absurd (enters 0 0); keeps = λ not. none_counted was.at at },
         has_step new key step.Remove (record { no_call = none; at = at; none_asked = ap (λ (w : View S V). w.council.exchange) by.view ∙ was.none_asked }),
       );
       kept = kept_then old new made leaves only kept none;
@@ -398,14 +398,14 @@ collected_all {S} {V} m key old new result told has by ok says = by_case (gather
     by_case (stops so) = absurd (cc (ap (option_map (λ (o : OrderView). o.told)) (sym (gathered_now key step.Remove old new result was ok) ∙ so.order)))
 
 pub collected_told : {S V : Type 0} (m : Meaning S V) (key : List ℕ) (most : ℕ) (old mid new : View S V) (result : Gathered) (told : OpAnswer) → IsCollectAnswer key told → HasQuestion key step.Remove (own_part old 0) → IsKept old → Step m old (gathering_of old) mid → world.HasGathered old result mid → StepTell mid told new
-    → Held old new (IsToldIn (asked.Collect key) (IsBurialMark key) most old new told × IsCollectAnswer key told)
+    → Held old new (IsToldIn (asked.Collect key) (IsTombstoneMark key) most old new told × IsCollectAnswer key told)
 collected_told {S} {V} m key most old mid new result told is has kept by ok ends = by_case (gathers_or_not key step.Remove step.End old mid (λ p. refl) was (as_collect m key step.Remove old mid was by))
   where
     was : IsAsked old key step.Remove
     was = is_asked old key step.Remove has
 
-    by_case : GoesOrStops key step.End old mid → Held old new (IsToldIn (asked.Collect key) (IsBurialMark key) most old new told × IsCollectAnswer key told)
-    by_case (goes leaves at exchange planned) = let held = tells_in (IsBurialMark key) most old mid new (asked.Collect key) told (new_order (asked.Collect key)) leaves at.order refl ends kept was.no_call (λ enters. absurd (enters 0 0))
+    by_case : GoesOrStops key step.End old mid → Held old new (IsToldIn (asked.Collect key) (IsTombstoneMark key) most old new told × IsCollectAnswer key told)
+    by_case (goes leaves at exchange planned) = let held = tells_in (IsTombstoneMark key) most old mid new (asked.Collect key) told (new_order (asked.Collect key)) leaves at.order refl ends kept was.no_call (λ enters. absurd (enters 0 0))
         (λ not. lasts_told mid new (asked.Collect key) told (new_order (asked.Collect key)) at.order refl (λ era rescanned is. is) ends ∙ planned) in record { does = (held.does, is); kept = held.kept; last_proposer = held.last_proposer }
     by_case (stops so) = absurd (cc (ap (option_map (λ (o : OrderView). o.told)) (sym (gathered_now key step.Remove old mid result was ok) ∙ so.order)))
 

@@ -46,7 +46,7 @@ use Rattle.cas_world.specs.declared.plans.Target.TheVariants as target
 use Rattle.cas_world.specs.Eras.Plans.{asked_of, HasFinished, IsFor, IsUnderWay, IsPartial, MayEnterNext, MayOpenPlan, entrant_of, rescanned_of, step_of}
 use Rattle.cas_model.specs.Eras.Course.{next_era}
 use Rattle.cas_model_causes.specs.Eras.Tellings.{IsPassing}
-use Rattle.cas_board_steps.specs.Calls.Deeds.{harm_by}
+use Rattle.cas_board_steps.specs.Calls.Changes.{harm_by}
 use Rattle.cas_board_steps.specs.Kept.{IsKept, Makes}
 use Rattle.cas_board_steps.specs.Eras.Membership.{HasPlan, HasListing, IsPlanMark, IsMembersAnswer}
 use Rattle.cas_board_steps.specs.Mine.{mine, losses, done_calls, wanted_by}
@@ -56,7 +56,7 @@ use Rattle.cas_board_steps.proofs.Eras.Counting.{after_same, begun_same, counts_
 use Rattle.cas_board_steps.proofs.Closing.{ClosesRound, closes_round, kept_marked}
 use Rattle.cas_board_steps.proofs.Exchanges.Councils.{is_ordered, IsOrdered, none_beside, own_is_council, order_told, no_exchange, exchange_told, plan_told, listing_told}
 use Rattle.cas_board_steps.proofs.Calls.Holds.{Held}
-use Rattle.cas_board_steps.proofs.Exchanges.Operating.{Leaves, leaves_then, leaves_desks, leaves_others, Deed, deed_then, quiet_deed, tells_after, tells_in, told_may_add, operates, turns_asking, own_kept, refuses_asking, refusal_planned, says_same, turns_planned, was_told_so}
+use Rattle.cas_board_steps.proofs.Exchanges.Operating.{Leaves, leaves_then, leaves_desks, leaves_others, OwnStep, own_step_then, quiet_own_step, tells_after, tells_in, told_may_add, operates, turns_asking, own_kept, refuses_asking, refusal_planned, says_same, turns_planned, was_told_so}
 use Rattle.cas_board_steps.proofs.Exchanges.Probes.{no_call_at}
 
 -- ---- what its own part tells
@@ -208,8 +208,8 @@ pub open_held : {S V : Type 0} (m : Meaning S V) (old new : View S V) (asked : A
 open_held m old new asked has kept by up =
     let was = is_ordered old asked has in
     let opens = opens_or_tells m old new asked was by in
-    let deed = quiet_deed old new opens.leaves kept was.no_call in
-    record { does = (deed.makes, has_plan new asked (under_way new asked deed.none opens.unasked up), opens.planned); kept = deed.kept; last_proposer = deed.last_proposer }
+    let own_step = quiet_own_step old new opens.leaves kept was.no_call in
+    record { does = (own_step.makes, has_plan new asked (under_way new asked own_step.none opens.unasked up), opens.planned); kept = own_step.kept; last_proposer = own_step.last_proposer }
 
 pub open_told : {S V : Type 0} (m : Meaning S V) (old mid new : View S V) (asked : Asked) (told : OpAnswer) → HasOrder asked (own_part old 0) → IsKept old → StepOpenPlan m old mid → WasToldOrder mid told → StepTell mid told new
     → Held old new (IsToldIn asked IsPlanMark 0 old new told × IsMembersAnswer asked told)
@@ -232,7 +232,7 @@ marked_others old new callers (suc m) other = ap (λ (l : List CallerView). call
 
 record EntersOrTells {S V : Type 0} (old new : View S V) (asked : Asked) : Type 0 where
   marks : List Mark
-  deed : Deed old new marks
+  own_step : OwnStep old new marks
   may_tell : (told : OpAnswer) → MayAdd (marks ++ told_marks asked told)
   such : All IsPlanMark (mine 0 marks)
   none_lost : losses (mine 0 marks) ≡ 0
@@ -242,8 +242,8 @@ record EntersOrTells {S V : Type 0} (old new : View S V) (asked : Asked) : Type 
   none_done : done_calls (mine 0 marks) ≡ 0
   planned : rescanned_of new.council.plan ≡ rescanned_of old.council.plan
 
-closes_deed : {S V : Type 0} (old new : View S V) → ClosesRound old new → Deed old new []
-closes_deed {S} {V} old new closes = record {
+closing_step : {S V : Type 0} (old new : View S V) → ClosesRound old new → OwnStep old new []
+closing_step {S} {V} old new closes = record {
   makes = record { last_proposer = closes.last_proposer; made = closes.marks ∙ sym (append-nil old.marks); may_add = tt; owned = All-nil (λ i. (m : ℕ) → owner_of i ≡ Some m → m ≡ 0); others = others };
   kept = closes.kept;
   last_proposer = closes.last_proposer;
@@ -254,17 +254,17 @@ closes_deed {S} {V} old new closes = record {
     others zero other = absurd (other refl)
     others (suc m) other = closes.parts (suc m)
 
--- a deed, and then something that leaves all but what the operator has under way
-deed_told : {S V : Type 0} (old middle changed new : View S V) → Deed old middle [] → new ≡ changed → changed.last_proposer ≡ middle.last_proposer → changed.desks ≡ middle.desks → changed.callers ≡ middle.callers → changed.marks ≡ middle.marks → Deed old new []
-deed_told old middle changed new deed is last_proposer desks callers marks =
-    deed_then old middle new [] [] deed (quiet_deed middle new (leaves_desks middle changed new [] is last_proposer desks callers (marks ∙ sym (append-nil middle.marks))) deed.kept deed.none) tt
+-- a own_step, and then something that leaves all but what the operator has under way
+own_step_told : {S V : Type 0} (old middle changed new : View S V) → OwnStep old middle [] → new ≡ changed → changed.last_proposer ≡ middle.last_proposer → changed.desks ≡ middle.desks → changed.callers ≡ middle.callers → changed.marks ≡ middle.marks → OwnStep old new []
+own_step_told old middle changed new own_step is last_proposer desks callers marks =
+    own_step_then old middle new [] [] own_step (quiet_own_step middle new (leaves_desks middle changed new [] is last_proposer desks callers (marks ∙ sym (append-nil middle.marks))) own_step.kept own_step.none) tt
 
-tells_nothing : {S V : Type 0} (old middle new : View S V) (asked : Asked) (said : OpAnswer) → Deed old middle [] → middle.council.order ≡ Some (new_order asked) → middle.council.exchange ≡ None → new ≡ council.told_view middle said → ((told : OpAnswer) → SaysTheSame said told → IsMidway asked told) → rescanned_of middle.council.plan ≡ rescanned_of old.council.plan → EntersOrTells old new asked
-tells_nothing {S} {V} old middle new asked said deed order unasked is answers planned =
+tells_nothing : {S V : Type 0} (old middle new : View S V) (asked : Asked) (said : OpAnswer) → OwnStep old middle [] → middle.council.order ≡ Some (new_order asked) → middle.council.exchange ≡ None → new ≡ council.told_view middle said → ((told : OpAnswer) → SaysTheSame said told → IsMidway asked told) → rescanned_of middle.council.plan ≡ rescanned_of old.council.plan → EntersOrTells old new asked
+tells_nothing {S} {V} old middle new asked said own_step order unasked is answers planned =
     let order_now : new.council.order ≡ Some (told_so said (new_order asked)) = ap (λ (w : View S V). w.council.order) is ∙ ap (option_map (told_so said)) order in
     record {
       marks = [];
-      deed = deed_told old middle (council.told_view middle said) new deed is refl refl refl refl;
+      own_step = own_step_told old middle (council.told_view middle said) new own_step is refl refl refl refl;
       may_tell = λ told. told_may_add asked told;
       such = All-nil IsPlanMark;
       none_lost = refl;
@@ -276,8 +276,8 @@ tells_nothing {S} {V} old middle new asked said deed order unasked is answers pl
     }
 
 -- the vault of a proposer alone changes
-vault_deed : {S V : Type 0} (old new : View S V) (id : ℕ) (desk now : DeskView V) → IsAt old.desks id desk → now.round ≡ desk.round → new ≡ with_desk old id now → IsKept old → ((caller : CallerView) → IsAt old.callers 0 caller → caller.call ≡ None) → Deed old new []
-vault_deed {S} {V} old new id desk now at same is kept none =
+vault_own_step : {S V : Type 0} (old new : View S V) (id : ℕ) (desk now : DeskView V) → IsAt old.desks id desk → now.round ≡ desk.round → new ≡ with_desk old id now → IsKept old → ((caller : CallerView) → IsAt old.callers 0 caller → caller.call ≡ None) → OwnStep old new []
+vault_own_step {S} {V} old new id desk now at same is kept none =
     let acts : Acts id old new [] = record { last_proposer = ap (λ (w : View S V). w.last_proposer) is; desks = desks_set id old new now (ap (λ (w : View S V). w.desks) is); callers = spares_same id old.callers new.callers (ap (λ (w : View S V). w.callers) is); council = ap (λ (w : View S V). w.council) is; made = ap (λ (w : View S V). w.marks) is ∙ sym (append-nil old.marks) } in
     let callers : new.callers ≡ old.callers = ap (λ (w : View S V). w.callers) is in
     let at_now : IsAt new.desks id now = subst (λ (w : View S V). IsAt w.desks id now) (sym is) (at_set old.desks id desk now at) in
@@ -301,13 +301,13 @@ no_round_failed : {V : Type 0} (m : _) (era : Era) (desk now : DeskView V) → F
 no_round_failed {V} m era desk now fails = ap (λ (d : DeskView V). d.round) fails.crashed
 
 -- the operator's exchange stays closed, and its order stays
-goes_down : {S V : Type 0} (m : Meaning S V) (era : Era) (old middle : View S V) (id : ℕ) → IsKept old → ((caller : CallerView) → IsAt old.callers 0 caller → caller.call ≡ None) → GoesDown (FailsToEnter m.disks era) old id middle → Deed old middle [] × (middle.council.order ≡ old.council.order) × (middle.council.exchange ≡ option_map broken_off old.council.exchange ⊎ (middle.council.exchange ≡ old.council.exchange)) × (middle.council.plan ≡ old.council.plan)
+goes_down : {S V : Type 0} (m : Meaning S V) (era : Era) (old middle : View S V) (id : ℕ) → IsKept old → ((caller : CallerView) → IsAt old.callers 0 caller → caller.call ≡ None) → GoesDown (FailsToEnter m.disks era) old id middle → OwnStep old middle [] × (middle.council.order ≡ old.council.order) × (middle.council.exchange ≡ option_map broken_off old.council.exchange ⊎ (middle.council.exchange ≡ old.council.exchange)) × (middle.council.plan ≡ old.council.plan)
 goes_down {S} {V} m era old middle id kept none (stops.of_client client leaves) =
     let closes = closes_round answer.Crashed cause.Crashed old middle id (no_round_failed m.disks era) refl refl kept none leaves in
-    (closes_deed old middle closes, ap (λ (k : Council). k.order) closes.council, inr (ap (λ (k : Council). k.exchange) closes.council), ap (λ (k : Council). k.plan) closes.council)
+    (closing_step old middle closes, ap (λ (k : Council). k.order) closes.council, inr (ap (λ (k : Council). k.exchange) closes.council), ap (λ (k : Council). k.plan) closes.council)
 goes_down {S} {V} m era old middle id kept none (stops.of_operator near is_first leaves is) =
     let closes = closes_round answer.Crashed cause.Crashed old near id (no_round_failed m.disks era) refl refl kept none leaves in (
-      deed_told old near (stops.broken_off_view near) middle (closes_deed old near closes) is refl refl refl refl,
+      own_step_told old near (stops.broken_off_view near) middle (closing_step old near closes) is refl refl refl refl,
       ap (λ (w : View S V). w.council.order) is ∙ ap (λ (k : Council). k.order) closes.council,
       inl (ap (λ (w : View S V). w.council.exchange) is ∙ ap (λ (k : Council). option_map broken_off k.exchange) closes.council),
       ap (λ (w : View S V). w.council.plan) is ∙ ap (λ (k : Council). k.plan) closes.council,
@@ -320,8 +320,8 @@ still_unasked now was (inr same) none = same ∙ none
 enters_or_tells : {S V : Type 0} (m : Meaning S V) (old new : View S V) (asked : Asked) (proposer : ℕ) → IsChanging old asked → IsKept old → StepEnterEra m old proposer new → EntersOrTells old new asked
 enters_or_tells {S} {V} m old new asked proposer was kept by = by_case by.enters
   where
-    here : Deed old old []
-    here = quiet_deed old old (same_view old) kept was.no_call
+    here : OwnStep old old []
+    here = quiet_own_step old old (same_view old) kept was.no_call
 
     by_case : EntersNext m old by.plan by.next by.desk new → EntersOrTells old new asked
     by_case (plans.is_full full is) = tells_nothing old old new asked (op.Stopped answer.RecordFull) here was.order was.unasked is (λ told same. subst (IsMidway asked) same (tt, tt)) refl
@@ -331,22 +331,22 @@ enters_or_tells {S} {V} m old new asked proposer was kept by = by_case by.enters
         tells_nothing old middle new asked (op.ProposerDown by.plan.entered) down.0 (down.1 ∙ was.order) (still_unasked middle.council.exchange old.council.exchange down.2 was.unasked) is (λ told same. subst (IsMidway asked) same (tt, tt)) (ap rescanned_of down.3)
     by_case (plans.no_memory now room up keeps is_now is) =
         let near : View S V = with_desk old by.plan.entered now in
-        tells_nothing old near new asked (op.Stopped (answer.NoMemory false)) (vault_deed old near by.plan.entered by.desk now by.may.at_desk (ap (λ (d : DeskView V). d.round) is_now) refl kept was.no_call) was.order was.unasked is (λ told same. subst (IsMidway asked) same (tt, tt)) refl
+        tells_nothing old near new asked (op.Stopped (answer.NoMemory false)) (vault_own_step old near by.plan.entered by.desk now by.may.at_desk (ap (λ (d : DeskView V). d.round) is_now) refl kept was.no_call) was.order was.unasked is (λ told same. subst (IsMidway asked) same (tt, tt)) refl
     by_case (plans.enters middle room leaves is) =
         let closes = closes_round (answer.Moved by.next.number) (cause.Moved by.next.number) old middle by.plan.entered (no_round_entered m.disks by.next) refl refl kept was.no_call leaves in
-        let deed = closes_deed old middle closes in
+        let own_step = closing_step old middle closes in
         let marked : List Mark = EraEntered by.plan.entered by.next.number ∷ [] in
         let made : new.marks ≡ middle.marks ++ marked = ap (λ (w : View S V). w.marks) is in
         let order_now : new.council.order ≡ Some (silent_order (new_order asked)) = ap (λ (w : View S V). w.council.order) is ∙ ap (λ (k : Council). option_map silent_order k.order) closes.council ∙ ap (option_map silent_order) was.order in
-        let marks_deed : Deed middle new marked = record {
+        let marking_step : OwnStep middle new marked = record {
           makes = record { last_proposer = ap (λ (w : View S V). w.last_proposer) is; made = made; may_add = (tt, tt); owned = only_entered by.plan.entered by.next.number; others = λ k other. marked_others middle new (ap (λ (w : View S V). w.callers) is) k other };
-          kept = kept_marked middle new marked (ap (λ (w : View S V). w.last_proposer) is) (ap (λ (w : View S V). w.desks) is) (ap (λ (w : View S V). w.callers) is) made (λ n before. refl) deed.kept;
+          kept = kept_marked middle new marked (ap (λ (w : View S V). w.last_proposer) is) (ap (λ (w : View S V). w.desks) is) (ap (λ (w : View S V). w.callers) is) made (λ n before. refl) own_step.kept;
           last_proposer = ap (λ (w : View S V). w.last_proposer) is;
-          none = λ caller at. deed.none caller (subst (λ (w : View S V). IsAt w.callers 0 caller) is at);
+          none = λ caller at. own_step.none caller (subst (λ (w : View S V). IsAt w.callers 0 caller) is at);
         } in
         record {
           marks = marked;
-          deed = deed_then old middle new [] marked deed marks_deed (tt, tt);
+          own_step = own_step_then old middle new [] marked own_step marking_step (tt, tt);
           may_tell = λ told. (tt, told_may_add asked told);
           such = All-nil IsPlanMark;
           none_lost = refl;
@@ -361,17 +361,17 @@ pub enter_held : {S V : Type 0} (m : Meaning S V) (old new : View S V) (asked : 
 enter_held m old new asked proposer has kept by up =
     let enters = enters_or_tells m old new asked proposer (is_changing old asked has) kept by in
     record {
-      does = (record { marks = enters.marks; makes = enters.deed.makes; all_such = enters.such; few = (let none = enters.none_lost in omega (arith, none)); counts = λ eras. counts_still old new enters.marks enters.deed.makes.made enters.none_done enters.planned; keeps = λ not. absurd (not (λ p e. tt)) }, has_plan new asked (under_way new asked enters.deed.none enters.unasked up));
-      kept = enters.deed.kept;
-      last_proposer = enters.deed.last_proposer;
+      does = (record { marks = enters.marks; makes = enters.own_step.makes; all_such = enters.such; few = (let none = enters.none_lost in omega (arith, none)); counts = λ eras. counts_still old new enters.marks enters.own_step.makes.made enters.none_done enters.planned; keeps = λ not. absurd (not (λ p e. tt)) }, has_plan new asked (under_way new asked enters.own_step.none enters.unasked up));
+      kept = enters.own_step.kept;
+      last_proposer = enters.own_step.last_proposer;
     }
 
 pub enter_told : {S V : Type 0} (m : Meaning S V) (old mid new : View S V) (asked : Asked) (proposer : ℕ) (told : OpAnswer) → HasPlan asked (own_part old 0) → IsKept old → StepEnterEra m old proposer mid → WasToldOrder mid told → StepTell mid told new
     → Held old new (IsToldIn asked IsPlanMark 0 old new told × IsMembersAnswer asked told)
 enter_told m old mid new asked proposer told has kept by said ends =
     let enters = enters_or_tells m old mid asked proposer (is_changing old asked has) kept by in
-    let held = tells_after IsPlanMark 0 old mid new enters.marks asked told said.order enters.deed (enters.such) (let none = enters.none_lost in omega (arith, none)) (enters.may_tell told) said.is_open (enters.asks said.order said.is_open) ends
-    (λ eras. told_counts asked told said.order mid new said.is_open (enters.asks said.order said.is_open) ends old (enters.tells told said).1 (counts_still old mid enters.marks enters.deed.makes.made enters.none_done enters.planned)) (λ not. absurd (not (λ p e. tt))) in
+    let held = tells_after IsPlanMark 0 old mid new enters.marks asked told said.order enters.own_step (enters.such) (let none = enters.none_lost in omega (arith, none)) (enters.may_tell told) said.is_open (enters.asks said.order said.is_open) ends
+    (λ eras. told_counts asked told said.order mid new said.is_open (enters.asks said.order said.is_open) ends old (enters.tells told said).1 (counts_still old mid enters.marks enters.own_step.makes.made enters.none_done enters.planned)) (λ not. absurd (not (λ p e. tt))) in
     record { does = (held.does, (enters.tells told said).0); kept = held.kept; last_proposer = held.last_proposer }
 
 -- it was at its end already
@@ -450,8 +450,8 @@ pub list_held : {S V : Type 0} (m : Meaning S V) (old new : View S V) (asked : A
 list_held m old new asked has kept by some =
     let was = is_changing old asked has in
     let lists = lists_or_tells m old new asked _ was by in
-    let deed = quiet_deed old new lists.leaves kept was.no_call in
-    record { does = (deed.makes, has_listing new asked (lists.opens some deed.none), lists.planned); kept = deed.kept; last_proposer = deed.last_proposer }
+    let own_step = quiet_own_step old new lists.leaves kept was.no_call in
+    record { does = (own_step.makes, has_listing new asked (lists.opens some own_step.none), lists.planned); kept = own_step.kept; last_proposer = own_step.last_proposer }
 
 pub list_told : {S V : Type 0} (m : Meaning S V) (old mid new : View S V) (asked : Asked) (told : OpAnswer) → HasPlan asked (own_part old 0) → IsKept old → StepAskAll m old (question_in old query.List) mid → WasToldOrder mid told → StepTell mid told new
     → Held old new (IsToldIn asked IsPlanMark 0 old new told × IsMembersAnswer asked told)
@@ -570,8 +570,8 @@ pub gather_list_held : {S V : Type 0} (m : Meaning S V) (old new : View S V) (as
 gather_list_held {S} {V} m old new asked result has kept step_ gathered_ =
     let by : StepGather old new = subst (λ (e : step.Event). Step m old e new) (gathering_list old asked has) step_ in
     let gathers = gathers_list old new asked was by in
-    let deed = quiet_deed old new gathers.leaves kept was.no_call in
-    record { does = (deed.makes, has_plan new asked (on deed.none gathered_), gathers.planned); kept = deed.kept; last_proposer = deed.last_proposer }
+    let own_step = quiet_own_step old new gathers.leaves kept was.no_call in
+    record { does = (own_step.makes, has_plan new asked (on own_step.none gathered_), gathers.planned); kept = own_step.kept; last_proposer = own_step.last_proposer }
   where
     was : IsListing old asked
     was = is_listing old asked has
@@ -636,14 +636,14 @@ enter_under_way old new asked has up = up (new_order asked) (is_changing old ask
 -- it is under way already, and nothing is done
 pub up_held : {S V : Type 0} (view : View S V) (asked : Asked) → HasOrder asked (own_part view 0) → IsKept view → IsFor view.council.plan asked → Held view view (Makes 0 view view [] × HasPlan asked (own_part view 0) × (rescanned_of view.council.plan ≡ rescanned_of view.council.plan))
 up_held view asked has kept for_it =
-    let deed = quiet_deed view view (same_view view) kept (is_ordered view asked has).no_call in
-    record { does = (deed.makes, up_already view asked has for_it, refl); kept = deed.kept; last_proposer = deed.last_proposer }
+    let own_step = quiet_own_step view view (same_view view) kept (is_ordered view asked has).no_call in
+    record { does = (own_step.makes, up_already view asked has for_it, refl); kept = own_step.kept; last_proposer = own_step.last_proposer }
 
 -- nothing is done
 pub nothing_done : {S V : Type 0} (view : View S V) (asked : Asked) → HasPlan asked (own_part view 0) → IsKept view → OperatesIn IsPlanMark 0 view view
 nothing_done view asked has kept =
-    let deed = quiet_deed view view (same_view view) kept (is_changing view asked has).no_call in
-    record { marks = []; makes = deed.makes; all_such = All-nil IsPlanMark; few = omega arith; counts = λ enters. risen_by refl; keeps = λ not. refl }
+    let own_step = quiet_own_step view view (same_view view) kept (is_changing view asked has).no_call in
+    record { marks = []; makes = own_step.makes; all_such = All-nil IsPlanMark; few = omega arith; counts = λ enters. risen_by refl; keeps = λ not. refl }
 
 -- no memory was found for the key that is due
 pub key_may_tell : {S V : Type 0} (old mid new : View S V) (asked : Asked) (told : OpAnswer) → HasPlan asked (own_part old 0) → IsKept old → StepRefuseKey old mid → WasToldOrder mid told → StepTell mid told new

@@ -22,9 +22,9 @@ use Rattle.cas_model.proofs.Places.{some_is}
 use Rattle.cas_world.specs.Exchanges.Exchange.{WasToldOrder}
 use Rattle.cas_world.specs.Eras.Plans.{rescanned_of}
 use Rattle.cas_board_steps.specs.Calls.Conflicts.{is_conflict}
-use Rattle.cas_board_steps.specs.Calls.Deeds as deeds
+use Rattle.cas_board_steps.specs.Calls.Changes as begins
 use Rattle.cas_board_steps.specs.Eras.Counting.{CountsTo, EntersEras}
-use Rattle.cas_board_steps.specs.Calls.Deeds.{BeginsIn, BeginsNot, GoesOnIn, EndsMarked, IsRefusalBehind}
+use Rattle.cas_board_steps.specs.Calls.Changes.{BeginsIn, BeginsNot, GoesOnIn, EndsMarked, IsRefusalBehind}
 use Rattle.cas_board_steps.specs.Kept.{IsKept, Makes}
 use Rattle.cas_board_steps.specs.Eras.Membership.{HasPlan, KeyIsDue, HasRescan, IsPlanMark, IsRescanMark}
 use Rattle.cas_board_steps.specs.Mine.{mine, losses, done_calls, call_of, AreOfCall, Wanted, wants, wanted_by}
@@ -166,7 +166,7 @@ refused_undone (inl full) = ap is_done full.0
 refused_undone (inr none) = ap is_done none
 
 begins_not : {S V : Type 0} (old mid : View S V) (asked : Asked) (key : List ℕ) (told : Answer) → HasPlan asked (own_part old 0) → due_in old.council.plan ≡ Some key → BeginsNot 0 key keep_always old mid told → EndsRescan IsPlanMark 0 old mid asked told
-begins_not old mid asked key told has due (deeds.ends_at_once call rounds makes leaves no_conflict) =
+begins_not old mid asked key told has due (begins.ends_at_once call rounds makes leaves no_conflict) =
     let begun : Mark = Begun 0 call key keep_always in
     let ended : Mark = Ended 0 call rounds told in
     let own : mine 0 (begun ∷ ended ∷ []) ≡ begun ∷ ended ∷ [] = mine_own 0 begun (ended ∷ []) refl ∙ ap (λ (l : List Mark). begun ∷ l) (mine_own 0 ended [] refl) in
@@ -182,7 +182,7 @@ begins_not old mid asked key told has due (deeds.ends_at_once call rounds makes 
       counts = counts_by old mid (begun ∷ ended ∷ []) makes.made (rescanned_of mid.council.plan) (if is_done told then 1 else 0)
           (rescans_count old.council mid.council key told (due_rescan old.council asked key (due_there old asked key has due)) leaves.rescans) (sym (ap done_calls own));
     }
-begins_not old mid asked key told has due (deeds.is_refused refusal makes leaves) =
+begins_not old mid asked key told has due (begins.is_refused refusal makes leaves) =
     let none = idle_call mid 0 leaves.is_idle in
     record {
       marks = [];

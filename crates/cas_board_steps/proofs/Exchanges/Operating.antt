@@ -40,7 +40,7 @@ use Rattle.cas_turn.specs.Seen.{OnlyOwnedBy}
 use Rattle.cas_world.specs.Exchanges.Exchange.{WasToldOrder}
 use Rattle.cas_world.specs.Eras.Plans.{rescanned_of}
 use Rattle.cas_board_steps.specs.Eras.Counting.{EntersEras, TellsCount}
-use Rattle.cas_board_steps.specs.Calls.Deeds.{harm_by}
+use Rattle.cas_board_steps.specs.Calls.Changes.{harm_by}
 use Rattle.cas_board_steps.specs.Kept.{IsKept, Makes}
 use Rattle.cas_board_steps.specs.Mine.{mine, losses}
 use Rattle.cas_board_steps.specs.Exchanges.Orders.{IsAskingHarm, OperatesIn, IsToldIn}
@@ -114,19 +114,19 @@ operates most old new marks leaves of kept none planned = record {
 }
 
 -- ---- what one call after another does
-pub record Deed {S V : Type 0} (old new : View S V) (marks : List Mark) : Type 0 where
+pub record OwnStep {S V : Type 0} (old new : View S V) (marks : List Mark) : Type 0 where
   pub makes : Makes 0 old new marks
   pub kept : IsKept new
   pub last_proposer : new.last_proposer ≡ old.last_proposer
   pub none : (caller : CallerView) → IsAt new.callers 0 caller → caller.call ≡ None
 
-pub deed_of : {S V : Type 0} (old new : View S V) (marks : List Mark) → Leaves old new marks → MayAdd marks → OnlyOwnedBy owner_of 0 marks → IsKept old → ((caller : CallerView) → IsAt old.callers 0 caller → caller.call ≡ None) → Deed old new marks
-deed_of old new marks leaves may only kept none =
+pub own_step_of : {S V : Type 0} (old new : View S V) (marks : List Mark) → Leaves old new marks → MayAdd marks → OnlyOwnedBy owner_of 0 marks → IsKept old → ((caller : CallerView) → IsAt old.callers 0 caller → caller.call ≡ None) → OwnStep old new marks
+own_step_of old new marks leaves may only kept none =
     let none_now = none_then old new marks leaves none in
     record { makes = makes_by old new marks leaves may only; kept = kept_then old new marks leaves only kept none_now; last_proposer = leaves.last_proposer; none = none_now }
 
-pub quiet_deed : {S V : Type 0} (old new : View S V) → Leaves old new [] → IsKept old → ((caller : CallerView) → IsAt old.callers 0 caller → caller.call ≡ None) → Deed old new []
-quiet_deed old new leaves kept none = let fine = fine_none 0 0 0 in deed_of old new [] leaves fine.may_add fine.only kept none
+pub quiet_own_step : {S V : Type 0} (old new : View S V) → Leaves old new [] → IsKept old → ((caller : CallerView) → IsAt old.callers 0 caller → caller.call ≡ None) → OwnStep old new []
+quiet_own_step old new leaves kept none = let fine = fine_none 0 0 0 in own_step_of old new [] leaves fine.may_add fine.only kept none
 
 pub makes_then : {S V : Type 0} (a b c : View S V) (marks more : List Mark) → Makes 0 a b marks → Makes 0 b c more → MayAdd (marks ++ more) → Makes 0 a c (marks ++ more)
 makes_then a b c marks more first then_ may = record {
@@ -137,8 +137,8 @@ makes_then a b c marks more first then_ may = record {
   others = λ m other. then_.others m other ∙ first.others m other;
 }
 
-pub deed_then : {S V : Type 0} (a b c : View S V) (marks more : List Mark) → Deed a b marks → Deed b c more → MayAdd (marks ++ more) → Deed a c (marks ++ more)
-deed_then a b c marks more first then_ may = record { makes = makes_then a b c marks more first.makes then_.makes may; kept = then_.kept; last_proposer = then_.last_proposer ∙ first.last_proposer; none = then_.none }
+pub own_step_then : {S V : Type 0} (a b c : View S V) (marks more : List Mark) → OwnStep a b marks → OwnStep b c more → MayAdd (marks ++ more) → OwnStep a c (marks ++ more)
+own_step_then a b c marks more first then_ may = record { makes = makes_then a b c marks more first.makes then_.makes may; kept = then_.kept; last_proposer = then_.last_proposer ∙ first.last_proposer; none = then_.none }
 
 -- ---- the operator is told
 told_some : (asks : Asked) (told : OpAnswer) → (told_marks asks told ≡ []) ⊎ (told_marks asks told ≡ Told asks told ∷ [])
@@ -199,12 +199,12 @@ tells_of {S} {V} old new asks told order is_order is_asked by = by_case by
     by_case (council.collects other is_other collected is) = over old other is_other refl refl refl refl is
 
 -- what was done told the operator its answer, and its call ends
-pub tells_after : {S V : Type 0} (such : Mark → Type 0) (most : ℕ) (old mid new : View S V) (marks : List Mark) (asks : Asked) (told : OpAnswer) (order : OrderView) → Deed old mid marks → All such (mine 0 marks) → losses (mine 0 marks) ≤ most → MayAdd (marks ++ told_marks asks told)
+pub tells_after : {S V : Type 0} (such : Mark → Type 0) (most : ℕ) (old mid new : View S V) (marks : List Mark) (asks : Asked) (told : OpAnswer) (order : OrderView) → OwnStep old mid marks → All such (mine 0 marks) → losses (mine 0 marks) ≤ most → MayAdd (marks ++ told_marks asks told)
     → mid.council.order ≡ Some order → order.asked ≡ asks → StepTell mid told new → (EntersEras such → TellsCount told old new) → ((EntersEras such → ⊥) → rescanned_of new.council.plan ≡ rescanned_of old.council.plan) → Held old new (IsToldIn asks such most old new told)
-tells_after such most old mid new marks asks told order deed all_such few may is_order is_asked by counts keeps =
+tells_after such most old mid new marks asks told order own_step all_such few may is_order is_asked by counts keeps =
     let t = tells_of mid new asks told order is_order is_asked by in
-    let tells = deed_of mid new (told_marks asks told) t.leaves (told_may_add asks told) (told_only asks told) deed.kept deed.none in
-    let all = deed_then old mid new marks (told_marks asks told) deed tells may in
+    let tells = own_step_of mid new (told_marks asks told) t.leaves (told_may_add asks told) (told_only asks told) own_step.kept own_step.none in
+    let all = own_step_then old mid new marks (told_marks asks told) own_step tells may in
     record {
       does = record {
         marks = marks;
@@ -222,7 +222,7 @@ tells_after such most old mid new marks asks told order deed all_such few may is
 pub tells_in : {S V : Type 0} (such : Mark → Type 0) (most : ℕ) (old mid new : View S V) (asks : Asked) (told : OpAnswer) (order : OrderView) → Leaves old mid [] → mid.council.order ≡ Some order → order.asked ≡ asks → StepTell mid told new → IsKept old
     → ((caller : CallerView) → IsAt old.callers 0 caller → caller.call ≡ None) → (EntersEras such → TellsCount told old new) → ((EntersEras such → ⊥) → rescanned_of new.council.plan ≡ rescanned_of old.council.plan) → Held old new (IsToldIn asks such most old new told)
 tells_in such most old mid new asks told order leaves is_order is_asked by kept none counts keeps =
-    tells_after such most old mid new [] asks told order (quiet_deed old mid leaves kept none) (All-nil such) (omega arith) (told_may_add asks told) is_order is_asked by counts keeps
+    tells_after such most old mid new [] asks told order (quiet_own_step old mid leaves kept none) (All-nil such) (omega arith) (told_may_add asks told) is_order is_asked by counts keeps
 
 -- ---- a turn of an exchange
 of_none : (most : ℕ) → IsOfAsking most []

@@ -34,10 +34,10 @@ use Rattle.cas_board_steps.specs.declared.orders.Inquiry.{Inquiry}
 use Rattle.cas_board_steps.specs.declared.orders.Inquiry.TheVariants as inquiry
 use Rattle.cas_world.specs.Exchanges.Exchange.{MayAskKey, MayAskThis, asking_of, MayGather, MayGatherMembers, HasGathered, IsStopped, WasToldOrder, asks_as, place_of, turn_of, refusal_of, gathering_by, gathering_of}
 use Rattle.cas_world.specs.Eras.Plans.{rescanned_of}
-use Rattle.cas_board_steps.specs.Calls.Deeds.{harm_by}
+use Rattle.cas_board_steps.specs.Calls.Changes.{harm_by}
 use Rattle.cas_board_steps.specs.Kept.{IsKept, Makes}
 use Rattle.cas_board_steps.specs.Calls.Open.{NothingIsOpen}
-use Rattle.cas_board_steps.specs.Exchanges.Orders.{asked_for, exchange_for, reads_flag, new_order, HasOrder, HasProbe, HasHarms, WasAskedBehind, OperatesIn, IsToldIn, IsAskingHarm, IsProbeAnswer, IsSilentAtMost, IsProbeStop, IsTrueProbe, AreAllConfirmers, IsAgreedIn, IsAgreedSo, IsTrueAgreement, IsTrueRead, IsOfKey, HasParts, MarksHarms, named_in, stops_probe}
+use Rattle.cas_board_steps.specs.Exchanges.Orders.{asked_for, exchange_for, order_for, reads_flag, new_order, HasOrder, HasProbe, HasHarms, WasAskedBehind, OperatesIn, IsToldIn, IsAskingHarm, IsProbeAnswer, IsSilentAtMost, IsProbeStop, IsTrueProbe, AreAllConfirmers, IsAgreedIn, IsAgreedSo, IsTrueAgreement, IsTrueRead, IsOfKey, HasParts, MarksHarms, named_in, stops_probe, IsOrderOf, IsHeardTrue}
 use Rattle.cas_board_steps.specs.OwnParts.{asked_of, harms_part, reads_part, own_part}
 use Rattle.cas_model_causes.specs.Exchanges.Answering.{silent_in, tellers_of, IsHearing}
 use Rattle.cas_model_causes.specs.Exchanges.Current.{AreCurrentTells}
@@ -58,13 +58,32 @@ use Rattle.cas_record.specs.declared.mark.Mark.{Mark}
 use Rattle.cas_board_steps.proofs.Eras.Counting.{lasts_told}
 use Rattle.cas_board_steps.proofs.Exchanges.Councils.{IsOrdered, IsProbed, has_order, is_ordered, has_probe, is_probed, has_harms, harms_are, asked_behind, behind_is, free_idle}
 use Rattle.cas_board_steps.specs.Calls.Stages.{IsFirst, HasFirst, front_of}
-use Rattle.cas_board_steps.specs.declared.deeds.Waiting.{Waiting}
+use Rattle.cas_board_steps.specs.declared.changes.Waiting.{Waiting}
+use Rattle.cas_board_steps.specs.declared.orders.ProbeOrder.{ProbeOrder}
 use Rattle.std.specs.Prelude.{IfSome}
 use Rattle.cas_board_steps.proofs.Calls.Holds.{Held}
 use Rattle.cas_board_steps.proofs.Calls.Stages.{some_waits, none_waits}
-use Rattle.cas_board_steps.proofs.Exchanges.Operating.{Leaves, leaves_desks, leaves_others, none_then, silently, operates, deed_of, tells_after, tells_in, told_may_add, TurnsAsking, turns_asking, refuses_asking, refusal_planned, says_same, turns_planned, was_told_so}
+use Rattle.cas_board_steps.proofs.Exchanges.Operating.{Leaves, leaves_desks, leaves_others, none_then, silently, operates, own_step_of, tells_after, tells_in, told_may_add, TurnsAsking, turns_asking, refuses_asking, refusal_planned, says_same, turns_planned, was_told_so}
 
 -- ---- its order
+-- the question that it holds
+pub order_asks : {asks_for : Inquiry} {key : List ℕ} {order : ProbeOrder} {own : List ℕ} → IsOrderOf asks_for key order own → order.question ≡ exchange_for asks_for key
+order_asks by = ap (λ (o : ProbeOrder). o.question) by.is
+
+-- which inquiry it is of, and the key
+pub order_inquiry : {asks_for : Inquiry} {key : List ℕ} {order : ProbeOrder} {own : List ℕ} → IsOrderOf asks_for key order own → order.inquiry ≡ asks_for
+order_inquiry by = ap (λ (o : ProbeOrder). o.inquiry) by.is
+
+pub order_key : {asks_for : Inquiry} {key : List ℕ} {order : ProbeOrder} {own : List ℕ} → IsOrderOf asks_for key order own → order.key ≡ key
+order_key by = ap (λ (o : ProbeOrder). o.key) by.is
+
+-- it is one of what it holds itself
+pub own_order : {asks_for : Inquiry} {key : List ℕ} {order : ProbeOrder} {own : List ℕ} → IsOrderOf asks_for key order own → IsOrderOf order.inquiry order.key order own
+own_order {own = own} by = record {
+  is = by.is ∙ sym (ap (λ (o : ProbeOrder). order_for o.inquiry o.key) by.is);
+  ordered = subst (λ (o : ProbeOrder). HasOrder (asked_for o.inquiry o.key) own) (sym by.is) by.ordered;
+}
+
 pub order_held : {S V : Type 0} (old new : View S V) (asked : Asked) → NothingIsOpen (own_part old 0) → IsKept old → StepOrder old asked new → Held old new (Makes 0 old new [] × HasOrder asked (own_part new 0))
 order_held {S} {V} old new asked free kept by =
     let idle = free_idle old free in
@@ -530,7 +549,7 @@ gather_told {S} {V} m most old mid new asks_for key members told has kept step_ 
     let was = is_probed old asks_for key members has in
     let gathers = gathers_probe m old mid asks_for key members was (gathers_by m old mid asks_for key members has step_) in
     let same = says_same mid (new_order (asked_for asks_for key)) gathers.said told gathers.order said in
-    let held = tells_after IsAskingHarm most old mid new gathers.marks (asked_for asks_for key) told (told_so gathers.said (new_order (asked_for asks_for key))) (deed_of old mid gathers.marks gathers.leaves gathers.nobodys.may_add gathers.nobodys.only kept was.no_call)
+    let held = tells_after IsAskingHarm most old mid new gathers.marks (asked_for asks_for key) told (told_so gathers.said (new_order (asked_for asks_for key))) (own_step_of old mid gathers.marks gathers.leaves gathers.nobodys.may_add gathers.nobodys.only kept was.no_call)
     (subst (All IsAskingHarm) (sym gathers.nobodys.none_mine) (All-nil IsAskingHarm)) (omega (arith, ap losses gathers.nobodys.none_mine)) (told_behind (asked_for asks_for key) told gathers.marks gathers.nobodys (gathers.alone told same)) gathers.order refl ends (λ enters. absurd (enters 0 0))
     (λ not. lasts_told mid new (asked_for asks_for key) told (told_so gathers.said (new_order (asked_for asks_for key))) gathers.order refl (λ era rescanned is. unfinished asks_for key era rescanned told is) ends ∙ gathers.planned) in
     record { does = (held.does, gathers.answer told same); kept = held.kept; last_proposer = held.last_proposer }
@@ -648,6 +667,14 @@ none_reads before all (op.NotEmpty version) = tt
 none_reads before all (op.Absent acceptor) = tt
 none_reads before all (op.ProposerDown proposer) = tt
 none_reads before all (op.Stopped why) = tt
+
+-- so all is that was heard of what stopped it
+pub stop_heard : (asks_for : Inquiry) (acceptors vaults : Type 0) (before all : List Mark) (told : OpAnswer) → IsProbeStop told → IsHeardTrue asks_for acceptors vaults before all (record { told = told; agreement = None })
+stop_heard asks_for acceptors vaults before all told is = record {
+  probed = λ tell keep. stopped_truly before all told is;
+  agreed = λ read. stop_agrees acceptors vaults all told None is;
+  read = λ tell keep. none_reads before all told;
+}
 
 -- a read that is gathered is over, and may have marked something
 record ReadIsOver {S V : Type 0} (old mid : View S V) (exchange : ExchangeView) : Type 0 where

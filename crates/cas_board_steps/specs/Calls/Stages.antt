@@ -6,9 +6,9 @@ use Rattle.cas_flow.specs.Message.{head_of}
 use Rattle.cas_proposer.specs.Desk.{DeskView}
 use Rattle.cas_model.specs.View.{View, IsAt}
 use Rattle.cas_world.specs.Exchanges.Exchange.{place_of}
-use Rattle.cas_board_steps.specs.declared.deeds.Stage.{Stage}
-use Rattle.cas_board_steps.specs.declared.deeds.Stage.TheVariants.{Waits, Through, Met}
-use Rattle.cas_board_steps.specs.declared.deeds.Waiting.{Waiting}
+use Rattle.cas_board_steps.specs.declared.changes.Stage.{Stage}
+use Rattle.cas_board_steps.specs.declared.changes.Stage.TheVariants.{Waits, Through, Met}
+use Rattle.cas_board_steps.specs.declared.changes.Waiting.{Waiting}
 
 -- the leg of the caller's first frame that waits, and the acceptor at its other end
 abbrev pub front_of : {S V : Type 0} → View S V → ℕ → Option (Leg × ℕ)

@@ -28,7 +28,7 @@ use Rattle.cas_board_steps.specs.declared.collections.Course.TheVariants as cour
 
 -- ---- what is open
 -- The operator's call collects the key, was told nothing, and that step of its collection is due; no change of membership is under way.
--- Of the call of its round that is what its own part tells.
+-- Its own part tells as much of the call of its round.
 pub record CollectsAt (key : List ℕ) (due : CollectStep) (round : ℕ) (council : Council) : Type 0 where
   pub order : council.order ≡ Some (new_order (asked.Collect key))
   pub none_planned : council.plan ≡ None
@@ -39,7 +39,7 @@ pub record CollectsAt (key : List ℕ) (due : CollectStep) (round : ℕ) (counci
   pub round_is : round_part collection ≡ round
 
 -- the call of its round is open, which the caller's newest mark of a beginning began
-pub record HasBurial (key : List ℕ) (call : ℕ) (own : List ℕ) (marks : List Mark) : Type 0 where
+pub record HasTombstoneCall (key : List ℕ) (call : ℕ) (own : List ℕ) (marks : List Mark) : Type 0 where
   pub rounds : ℕ
   pub phase : ℕ
   pub council : Council
@@ -79,8 +79,8 @@ pub record HasQuestion (key : List ℕ) (due : CollectStep) (own : List ℕ) : T
 -- the collection of the key has come so far, whose call may have so many rounds
 abbrev pub HasCourse : List ℕ → ℕ → Course → List ℕ → List Mark → Type 0
 HasCourse key tries course.Ordered own marks = HasOrder (asked.Collect key) own
-HasCourse key tries (course.Buries call rounds) own marks = HasBurial key call own marks × HasRoundsWithin tries rounds own
-HasCourse key tries course.Buried own marks = HasStep key step.Round own
+HasCourse key tries (course.Buries call rounds) own marks = HasTombstoneCall key call own marks × HasRoundsWithin tries rounds own
+HasCourse key tries course.TombstoneSet own marks = HasStep key step.Round own
 HasCourse key tries course.Renews own marks = HasStep key step.Ages own ⊎ ((proposer : ℕ) × HasStep key (step.Renew proposer) own)
 HasCourse key tries course.HearsAges own marks = HasQuestion key step.Ages own
 HasCourse key tries course.Floors own marks = HasStep key step.Floor own
@@ -89,12 +89,12 @@ HasCourse key tries course.HearsRemovals own marks = HasQuestion key step.Remove
 
 -- ---- what a hold does
 -- It is of the call of the key's round, which changes no state and ends with no conflict; or it tells of a frame that was harmed.
-abbrev pub IsBurialMark : List ℕ → Mark → Type 0
-IsBurialMark key (Begun caller call other program) = (other ≡ key) × (program ≡ keep_always)
-IsBurialMark key (Proposed p) = ⊤
-IsBurialMark key (Ended caller call rounds answer) = is_conflict answer ≡ false
-IsBurialMark key (Harmed caller call down) = ⊤
-IsBurialMark key other = ⊥
+abbrev pub IsTombstoneMark : List ℕ → Mark → Type 0
+IsTombstoneMark key (Begun caller call other program) = (other ≡ key) × (program ≡ keep_always)
+IsTombstoneMark key (Proposed p) = ⊤
+IsTombstoneMark key (Ended caller call rounds answer) = is_conflict answer ≡ false
+IsTombstoneMark key (Harmed caller call down) = ⊤
+IsTombstoneMark key other = ⊥
 
 -- the same, but that call may end with a conflict once it has had so many rounds
 abbrev pub IsCollectingMark : List ℕ → ℕ → Mark → Type 0
@@ -117,7 +117,7 @@ IsCollectAnswer key other = ⊥
 -- The collection of the key goes on, and so far it has come then; or the operator was told its answer, and it is over. Such marks are
 -- made, and so many losses at most are marked.
 abbrev pub CollectsIn : {S V : Type 0} → List ℕ → ℕ → ℕ → View S V → View S V → Result Course OpAnswer → Type 0
-CollectsIn key tries most old new (Ok course) = OperatesIn (IsBurialMark key) most old new × HasCourse key tries course (own_part new 0) new.marks
+CollectsIn key tries most old new (Ok course) = OperatesIn (IsTombstoneMark key) most old new × HasCourse key tries course (own_part new 0) new.marks
 CollectsIn key tries most old new (Err answer) = IsToldIn (asked.Collect key) (IsCollectingMark key tries) most old new answer × IsCollectAnswer key answer
 
 -- its call ends with that, and the operator is told that it stopped, and why
@@ -125,9 +125,9 @@ abbrev pub Stops : {S V : Type 0} → Meaning S V → View S V → Answer → Vi
 Stops {S} {V} m old answer new = (middle : View S V) × Step m old (EndCollect answer) middle × Step m middle (Tell (told.Stopped answer)) new
 
 -- Its new call is refused so: it was not begun, as the operator's call was told; or it was begun, and was told that.
-pub data IsRefusedBurial {S V : Type 0} (view : View S V) (call : ℕ) (refusal : OpAnswer) : Type 0 where
-  not_begun : leaves_no_call refusal ≡ true → WasToldOrder view refusal → IsRefusedBurial view call refusal
-  begun : (said : Answer) → refusal ≡ told.Stopped said → leaves_no_call refusal ≡ false → is_done said ≡ false → WasTold view 0 call said → IsCollectingCall view → IsRefusedBurial view call refusal
+pub data IsRefusedTombstone {S V : Type 0} (view : View S V) (call : ℕ) (refusal : OpAnswer) : Type 0 where
+  not_begun : leaves_no_call refusal ≡ true → WasToldOrder view refusal → IsRefusedTombstone view call refusal
+  begun : (said : Answer) → refusal ≡ told.Stopped said → leaves_no_call refusal ≡ false → is_done said ≡ false → WasTold view 0 call said → IsCollectingCall view → IsRefusedTombstone view call refusal
 
 -- the operator is told of it, and its call ends if it was begun
 pub data TellsRefusal {S V : Type 0} (m : Meaning S V) (old : View S V) (refusal : OpAnswer) (new : View S V) : Type 0 where

@@ -13,7 +13,7 @@ use Rattle.cas_board_steps.specs.Calls.Conflicts.{is_conflict}
 use Rattle.cas_board_steps.specs.Mine.{Wanted, wants}
 use Rattle.cas_board_steps.specs.Calls.Open.{HasOpen, beside_in, rounds_in, is_met_in, rounds_after}
 use Rattle.cas_board_steps.specs.Calls.Stages.{tells_met}
-use Rattle.cas_board_steps.specs.declared.deeds.Stage.{Stage}
+use Rattle.cas_board_steps.specs.declared.changes.Stage.{Stage}
 use Rattle.cas_board_steps.specs.declared.membership.Listing.{Listing}
 use Rattle.cas_board_steps.specs.declared.membership.Listing.TheVariants as listing
 use Rattle.cas_board_steps.specs.declared.membership.Rescanning.{Rescanning}

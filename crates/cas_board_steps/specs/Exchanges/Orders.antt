@@ -16,8 +16,10 @@ use Rattle.cas_world.specs.declared.exchange.Exchange.{Exchange}
 use Rattle.cas_world.specs.declared.exchange.Exchange.TheVariants as this
 use Rattle.cas_world_calls.specs.declared.council.Gathered.{Gathered}
 use Rattle.cas_world_calls.specs.declared.council.Gathered.TheVariants as gathered
+use Rattle.cas_board_steps.specs.declared.orders.Heard.{Heard}
 use Rattle.cas_board_steps.specs.declared.orders.Inquiry.{Inquiry}
 use Rattle.cas_board_steps.specs.declared.orders.Inquiry.TheVariants as inquiry
+use Rattle.cas_board_steps.specs.declared.orders.ProbeOrder.{ProbeOrder}
 use Rattle.cas_record.specs.Places.{Stands}
 use Rattle.cas_record.specs.declared.answer.Answer.{Answer}
 use Rattle.cas_record.specs.declared.answer.Answer.TheVariants as answer
@@ -70,6 +72,15 @@ pub record HasOrder (asked : Asked) (own : List ℕ) : Type 0 where
   pub order : council.order ≡ Some (new_order asked)
   pub exchange : council.exchange ≡ None
   pub collection : council.collection ≡ None
+
+-- what its order holds that was begun for this key
+abbrev pub order_for : Inquiry → List ℕ → ProbeOrder
+order_for asks_for key = record { inquiry = asks_for; question = exchange_for asks_for key; key = key }
+
+-- this is such an order, and the operator's call for it is open
+pub record IsOrderOf (asks_for : Inquiry) (key : List ℕ) (order : ProbeOrder) (own : List ℕ) : Type 0 where
+  pub is : order ≡ order_for asks_for key
+  pub ordered : HasOrder (asked_for asks_for key) own
 
 -- a probe or a read of the key is open, for which these were asked
 pub record HasProbe (asks_for : Inquiry) (key members own : List ℕ) : Type 0 where
@@ -195,7 +206,7 @@ IsAgreedSo acceptors vaults marks (told.Probed key found) None = ⊥
 IsAgreedSo acceptors vaults marks other agreement = ⊤
 
 -- the register was empty at some time since so many marks, or more, had been made
-pub record WasEmptySince (many : ℕ) (all : List Mark) (key : List ℕ) : Type 0 where
+pub record WasEmptyBehind (many : ℕ) (all : List Mark) (key : List ℕ) : Type 0 where
   pub since : ℕ
   pub more : many ≤ since
   pub empty : WasEmptyOnce (reverse (take since all)) (reverse all) key
@@ -203,7 +214,7 @@ pub record WasEmptySince (many : ℕ) (all : List Mark) (key : List ℕ) : Type 
 -- What they agree on is so: if it is nothing, the register was empty; else the state is that of the history up to its ballot, which goes on from
 -- what was settled before, and begins what is settled now.
 pub record IsReadTrue (before all : List Mark) (key : List ℕ) (found : Probes) (ballot : Ballot) (at : Option ℕ) : Type 0 where
-  pub nothing : ballot ≡ zero_ballot → WasEmptySince (length before) all key
+  pub nothing : ballot ≡ zero_ballot → WasEmptyBehind (length before) all key
   pub state : (place : ℕ) (one : ProbeOf) (promise : Ballot) (accepted : Accepted) → at ≡ Some place → IsAt found.probes.items place one → one.told ≡ Some (tell.Probed promise (Some accepted)) → (accepted.ballot ≡ ballot) × IsReadSo (reverse before) (reverse all) key accepted
 
 abbrev pub IsTrueAgreement : List Mark → List Mark → List ℕ → Probes → Agreement → Type 0
@@ -214,6 +225,12 @@ IsTrueAgreement before all key found other = ⊤
 abbrev pub IsTrueRead : List Mark → List Mark → OpAnswer → Option Agreement → Type 0
 IsTrueRead before all (told.Probed key found) (Some agreement) = IsTrueAgreement before all key found agreement
 IsTrueRead before all other agreement = ⊤
+
+-- What was heard is so, where disks tell, of what was marked before the members were asked: what each keeps and, to a read, what they agree on.
+pub record IsHeardTrue (asks_for : Inquiry) (acceptors vaults : Type 0) (before all : List Mark) (heard : Heard) : Type 0 where
+  pub probed : acceptors → vaults → IsTrueProbe before all heard.told
+  pub agreed : asks_for ≡ inquiry.Read → IsAgreedSo acceptors vaults all heard.told heard.agreement
+  pub read : acceptors → vaults → IsTrueRead before all heard.told heard.agreement
 
 -- No more of them are harmed as a hold goes on with it than marks of caller 0 were made.
 abbrev pub MarksHarms : {S V : Type 0} → View S V → View S V → Type 0

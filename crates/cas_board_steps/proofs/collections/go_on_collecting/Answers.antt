@@ -1,6 +1,6 @@
 use Rattle.std.proofs.Common.{subst}
 use Rattle.cas_board_steps.specs.Collection.Collecting.{HasCourse, most_rounds}
-use Rattle.cas_board_steps.specs.Calls.Deeds.{harm_by}
+use Rattle.cas_board_steps.specs.Calls.Changes.{harm_by}
 use Rattle.cas_board_steps.specs.OwnParts.{own_part}
 use Rattle.cas_board_steps.proofs.Collection.Steps.{removals_through, removals_wait}
 use Rattle.cas_board_steps.proofs.collections.go_on_collecting.Goals as goal

@@ -3,7 +3,7 @@ use Rattle.std.specs.Prelude.{Err}
 use Rattle.cas_collect.specs.declared.collect.CollectStep.TheVariants as step
 use Rattle.cas_world.specs.Eras.Plans.{MayTell, was_told}
 use Rattle.cas_board_steps.specs.Collection.Collecting.{CollectsIn}
-use Rattle.cas_board_steps.specs.Calls.Deeds.{harm_by}
+use Rattle.cas_board_steps.specs.Calls.Changes.{harm_by}
 use Rattle.cas_board_steps.proofs.Collection.Steps.{frame_waits, turn_held, turn_may_tell, turn_told}
 use Rattle.cas_board_steps.proofs.Calls.Tries.{told_within}
 use Rattle.cas_board_steps.proofs.collections.hear_removals.Goals as goal

@@ -1,7 +1,7 @@
 use Rattle.std.proofs.Common.{List, sym, subst, ◌∙◌}
 use Rattle.cas_change.specs.declared.program.Clause.{Clause}
 use Rattle.cas_world.specs.Eras.Plans.{asked_of, was_told}
-use Rattle.cas_board_steps.specs.Calls.Deeds.{BeginsIn, BeginsNot}
+use Rattle.cas_board_steps.specs.Calls.Changes.{BeginsIn, BeginsNot}
 use Rattle.cas_board_steps.specs.Eras.Membership.{IsPlanMark, IsMembersAnswer}
 use Rattle.cas_board_steps.specs.Exchanges.Orders.{IsToldIn}
 use Rattle.cas_board_steps.specs.OwnParts.{own_part}

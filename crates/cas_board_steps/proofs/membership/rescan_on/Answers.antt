@@ -1,6 +1,6 @@
 use Rattle.std.proofs.Common.{refl, sym, subst, ◌∙◌}
 use Rattle.cas_world.specs.Eras.Plans.{asked_of, was_told}
-use Rattle.cas_board_steps.specs.Calls.Deeds.{harm_by}
+use Rattle.cas_board_steps.specs.Calls.Changes.{harm_by}
 use Rattle.cas_board_steps.specs.Eras.Membership.{IsRescanMark, IsMembersAnswer}
 use Rattle.cas_board_steps.specs.Calls.Open.{rounds_after}
 use Rattle.cas_board_steps.specs.Exchanges.Orders.{IsToldIn}

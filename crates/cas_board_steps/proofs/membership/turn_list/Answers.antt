@@ -1,7 +1,7 @@
 use Rattle.std.proofs.Common.{sym, subst, ◌∙◌}
 use Rattle.cas_world.specs.Eras.Plans.{MayTell, asked_of, was_told}
 use Rattle.cas_model_causes.specs.Eras.Tellings.{IsPassing}
-use Rattle.cas_board_steps.specs.Calls.Deeds.{harm_by}
+use Rattle.cas_board_steps.specs.Calls.Changes.{harm_by}
 use Rattle.cas_board_steps.specs.Eras.Membership.{IsPlanMark, IsMembersAnswer}
 use Rattle.cas_board_steps.specs.Exchanges.Orders.{IsToldIn}
 use Rattle.cas_board_steps.proofs.Eras.Plans.{list_frame_waits, list_turn_held, list_turn_may_tell, list_turn_told, still_listing}

@@ -32,16 +32,6 @@ pub returns-in-Ok-clause-silent : goal.returns-in-Ok-clause-silent
 returns-in-Ok-clause-silent g c harms has =
     subst (IsSilentAtMost harms) (sym c.tell.ensures.same) (gather_silent _ c.args.world.now c.gather.new.self c.args.inquiry c.args.key c.requires.asks.0 (op.Probed c.args.key c.parts_of-found.result.0) c.requires.asks.1 c.in-Ok.ensures.step (found_told c.args.world.now c.gather.new.self c.args.inquiry c.args.key c.requires.asks.0 c.in-Ok.gathered c.parts_of-found.result.0 c.parts_of-found.result.1 c.requires.asks.1 c.parts_of-found.ensures c.in-Ok.ensures.ok) c.in-Ok.ensures.steady harms has)
 
-pub returns-in-Ok-clause-truly : goal.returns-in-Ok-clause-truly
-returns-in-Ok-clause-truly g c shelves disks many asked_then =
-    subst (IsTrueProbe (take many c.tell.new.self.marks) c.tell.new.self.marks) (sym c.tell.ensures.same)
-    (gather_truly _ c.args.world.now c.gather.new.self c.tell.new.self c.args.inquiry c.args.key c.requires.asks.0 (op.Probed c.args.key c.parts_of-found.result.0) c.requires.asks.1 c.in-Ok.ensures.step (found_told c.args.world.now c.gather.new.self c.args.inquiry c.args.key c.requires.asks.0 c.in-Ok.gathered c.parts_of-found.result.0 c.parts_of-found.result.1 c.requires.asks.1 c.parts_of-found.ensures c.in-Ok.ensures.ok) c.tell.ensures.step c.in-Ok.ensures.steady shelves disks many asked_then)
-
-pub returns-in-Ok-clause-agreed : goal.returns-in-Ok-clause-agreed
-returns-in-Ok-clause-agreed g c read =
-    subst (λ (a : OpAnswer). IsAgreedSo g.S.Shelf.tells g.V.Disk.tells c.tell.new.self.marks a c.parts_of-found.result.1) (sym c.tell.ensures.same)
-    (gather_agrees _ c.args.world.now c.gather.new.self c.tell.new.self c.args.inquiry c.args.key c.requires.asks.0 c.in-Ok.gathered c.parts_of-found.result.0 c.parts_of-found.result.1 c.requires.asks.1 c.parts_of-found.ensures c.in-Ok.ensures.ok c.in-Ok.ensures.step c.tell.ensures.step c.in-Ok.ensures.steady read)
-
 pub returns-in-Err-clause-kept : goal.returns-in-Err-clause-kept
 returns-in-Err-clause-kept g c = (gather_told _ 0 c.args.world.now c.gather.new.self c.tell-in-Err.new.self c.args.inquiry c.args.key c.requires.asks.0 c.in-Err.told c.requires.asks.1 c.requires.kept c.in-Err.ensures.step c.in-Err.ensures.err c.tell-in-Err.ensures.step).kept
 
@@ -57,20 +47,27 @@ returns-in-Err-clause-answer g c members has = subst (IsProbeAnswer c.args.key m
 pub returns-in-Err-clause-silent : goal.returns-in-Err-clause-silent
 returns-in-Err-clause-silent g c harms has = subst (IsSilentAtMost harms) (sym c.tell-in-Err.ensures.same) (gather_silent _ c.args.world.now c.gather.new.self c.args.inquiry c.args.key c.requires.asks.0 c.in-Err.told c.requires.asks.1 c.in-Err.ensures.step c.in-Err.ensures.err c.in-Err.ensures.steady harms has)
 
+pub returns-in-Ok-clause-truly : goal.returns-in-Ok-clause-truly
+returns-in-Ok-clause-truly g c many asked_then = record {
+  probed = λ shelves disks.
+      subst (IsTrueProbe (take many c.tell.new.self.marks) c.tell.new.self.marks) (sym c.tell.ensures.same)
+      (gather_truly _ c.args.world.now c.gather.new.self c.tell.new.self c.args.inquiry c.args.key c.requires.asks.0 (op.Probed c.args.key c.parts_of-found.result.0) c.requires.asks.1 c.in-Ok.ensures.step (found_told c.args.world.now c.gather.new.self c.args.inquiry c.args.key c.requires.asks.0 c.in-Ok.gathered c.parts_of-found.result.0 c.parts_of-found.result.1 c.requires.asks.1 c.parts_of-found.ensures c.in-Ok.ensures.ok) c.tell.ensures.step c.in-Ok.ensures.steady shelves disks many asked_then);
+  agreed = λ read.
+      subst (λ (a : OpAnswer). IsAgreedSo g.S.Shelf.tells g.V.Disk.tells c.tell.new.self.marks a c.parts_of-found.result.1) (sym c.tell.ensures.same)
+      (gather_agrees _ c.args.world.now c.gather.new.self c.tell.new.self c.args.inquiry c.args.key c.requires.asks.0 c.in-Ok.gathered c.parts_of-found.result.0 c.parts_of-found.result.1 c.requires.asks.1 c.parts_of-found.ensures c.in-Ok.ensures.ok c.in-Ok.ensures.step c.tell.ensures.step c.in-Ok.ensures.steady read);
+  read = λ shelves disks.
+      subst (λ (a : OpAnswer). IsTrueRead (take many c.tell.new.self.marks) c.tell.new.self.marks a c.parts_of-found.result.1) (sym c.tell.ensures.same)
+      (gather_reads _ c.args.world.now c.gather.new.self c.tell.new.self c.args.inquiry c.args.key c.requires.asks.0 c.in-Ok.gathered c.parts_of-found.result.0 c.parts_of-found.result.1 c.requires.asks.1 c.parts_of-found.ensures c.in-Ok.ensures.ok c.in-Ok.ensures.step c.tell.ensures.step c.in-Ok.ensures.steady shelves disks many asked_then);
+}
+
 pub returns-in-Err-clause-truly : goal.returns-in-Err-clause-truly
-returns-in-Err-clause-truly g c shelves disks many asked_then =
-    subst (IsTrueProbe (take many c.tell-in-Err.new.self.marks) c.tell-in-Err.new.self.marks) (sym c.tell-in-Err.ensures.same)
-    (gather_truly _ c.args.world.now c.gather.new.self c.tell-in-Err.new.self c.args.inquiry c.args.key c.requires.asks.0 c.in-Err.told c.requires.asks.1 c.in-Err.ensures.step c.in-Err.ensures.err c.tell-in-Err.ensures.step c.in-Err.ensures.steady shelves disks many asked_then)
-
-pub returns-in-Err-clause-agreed : goal.returns-in-Err-clause-agreed
-returns-in-Err-clause-agreed g c read =
-    subst (λ (a : OpAnswer). IsAgreedSo g.S.Shelf.tells g.V.Disk.tells c.tell-in-Err.new.self.marks a None) (sym c.tell-in-Err.ensures.same)
-    (stopped_agrees g.S.Shelf.tells g.V.Disk.tells c.tell-in-Err.new.self.marks c.in-Err.told None (c.in-Err.ensures.stopped (may_gather_members c.args.world.now c.args.inquiry c.args.key c.requires.asks.0 c.requires.asks.1 c.requires.through)))
-
-pub returns-in-Ok-clause-reads : goal.returns-in-Ok-clause-reads
-returns-in-Ok-clause-reads g c shelves disks many asked_then =
-    subst (λ (a : OpAnswer). IsTrueRead (take many c.tell.new.self.marks) c.tell.new.self.marks a c.parts_of-found.result.1) (sym c.tell.ensures.same)
-    (gather_reads _ c.args.world.now c.gather.new.self c.tell.new.self c.args.inquiry c.args.key c.requires.asks.0 c.in-Ok.gathered c.parts_of-found.result.0 c.parts_of-found.result.1 c.requires.asks.1 c.parts_of-found.ensures c.in-Ok.ensures.ok c.in-Ok.ensures.step c.tell.ensures.step c.in-Ok.ensures.steady shelves disks many asked_then)
-
-pub returns-in-Err-clause-reads : goal.returns-in-Err-clause-reads
-returns-in-Err-clause-reads g c shelves disks many asked_then = none_reads (take many c.tell-in-Err.new.self.marks) c.tell-in-Err.new.self.marks c.tell-in-Err.result
+returns-in-Err-clause-truly g c many asked_then = record {
+  probed = λ shelves disks.
+      subst (IsTrueProbe (take many c.tell-in-Err.new.self.marks) c.tell-in-Err.new.self.marks) (sym c.tell-in-Err.ensures.same)
+      (gather_truly _ c.args.world.now c.gather.new.self c.tell-in-Err.new.self c.args.inquiry c.args.key c.requires.asks.0 c.in-Err.told c.requires.asks.1 c.in-Err.ensures.step c.in-Err.ensures.err c.tell-in-Err.ensures.step c.in-Err.ensures.steady shelves disks many asked_then);
+  agreed = λ read.
+      subst (λ (a : OpAnswer). IsAgreedSo g.S.Shelf.tells g.V.Disk.tells c.tell-in-Err.new.self.marks a None) (sym c.tell-in-Err.ensures.same)
+      (stopped_agrees g.S.Shelf.tells g.V.Disk.tells c.tell-in-Err.new.self.marks c.in-Err.told None (c.in-Err.ensures.stopped (may_gather_members c.args.world.now c.args.inquiry c.args.key c.requires.asks.0 c.requires.asks.1 c.requires.through)));
+  read = λ shelves disks.
+      none_reads (take many c.tell-in-Err.new.self.marks) c.tell-in-Err.new.self.marks c.tell-in-Err.result;
+}

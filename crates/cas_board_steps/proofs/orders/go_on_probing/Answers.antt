@@ -1,6 +1,6 @@
 use Rattle.std.proofs.Common.{None, not, ap, ◌∙◌}
 use Rattle.std.specs.Prelude.{take}
-use Rattle.cas_board_steps.proofs.Exchanges.Probes.{one_waits, no_frame_waits, stopped_answers, stopped_silent, stopped_truly, stop_agrees, none_reads}
+use Rattle.cas_board_steps.proofs.Exchanges.Probes.{one_waits, no_frame_waits, stopped_answers, stopped_silent, stop_heard}
 use Rattle.cas_board_steps.proofs.orders.go_on_probing.Goals as goal
 
 pub gather_probe-requires-clause-through : goal.gather_probe-requires-clause-through
@@ -16,10 +16,5 @@ pub returns-in-Err-clause-silent : goal.returns-in-Err-clause-silent
 returns-in-Err-clause-silent g c harms has = stopped_silent harms c.in-Err.told c.in-Err.ensures.stopped
 
 pub returns-in-Err-clause-truly : goal.returns-in-Err-clause-truly
-returns-in-Err-clause-truly g c shelves disks many asked_then = stopped_truly (take many c.take_probe_turn.new.world.marks) c.take_probe_turn.new.world.marks c.in-Err.told c.in-Err.ensures.stopped
-
-pub returns-in-Err-clause-agreed : goal.returns-in-Err-clause-agreed
-returns-in-Err-clause-agreed g c read = stop_agrees g.S.Shelf.tells g.V.Disk.tells c.take_probe_turn.new.world.marks c.in-Err.told None c.in-Err.ensures.stopped
-
-pub returns-in-Err-clause-reads : goal.returns-in-Err-clause-reads
-returns-in-Err-clause-reads g c shelves disks many asked_then = none_reads (take many c.take_probe_turn.new.world.marks) c.take_probe_turn.new.world.marks c.in-Err.told
+returns-in-Err-clause-truly g c many asked_then =
+    stop_heard c.args.probing.inquiry g.S.Shelf.tells g.V.Disk.tells (take many c.take_probe_turn.new.world.marks) c.take_probe_turn.new.world.marks c.in-Err.told c.in-Err.ensures.stopped

@@ -1,7 +1,7 @@
 use Rattle.std.proofs.Common.{false, refl, sym, subst, ◌∙◌}
 use Rattle.cas_record.specs.declared.answer.Answer.TheVariants as answer
 use Rattle.cas_world.specs.Eras.Plans.{MayTell, was_told}
-use Rattle.cas_board_steps.specs.Calls.Deeds.{harm_by}
+use Rattle.cas_board_steps.specs.Calls.Changes.{harm_by}
 use Rattle.cas_board_steps.specs.Exchanges.Orders.{asked_for, IsToldIn, IsAskingHarm}
 use Rattle.cas_board_steps.proofs.Exchanges.Probes.{frame_waits, turn_held, turn_may_tell, turn_told, has_first}
 use Rattle.cas_board_steps.proofs.orders.take_probe_turn.Goals as goal

@@ -1,11 +1,11 @@
-use Rattle.std.proofs.Common.{ℕ, List, [], ◌++◌, None, arith, sym, ap, subst, ◌∙◌}
+use Rattle.std.proofs.Common.{ℕ, List, [], ◌++◌, arith, sym, ap, subst, ◌∙◌}
 use Rattle.std.specs.Prelude.{take, length}
 use Rattle.cas_model.specs.Exchanges.Step.{told_marks}
 use Rattle.cas_board.specs.Operations.{WasToldLast}
 use Rattle.cas_board_steps.specs.Exchanges.Orders.{asked_for, HasProbe, IsAskingHarm, IsProbeAnswer, IsTrueRead}
 use Rattle.cas_record.specs.declared.mark.Mark.{Mark}
 use Rattle.cas_board_steps.specs.declared.orders.Inquiry.{Inquiry}
-use Rattle.cas_board_steps.proofs.Exchanges.Probes.{stopped_answers, stopped_silent, stopped_truly, stop_agrees, none_reads}
+use Rattle.cas_board_steps.proofs.Exchanges.Probes.{stopped_answers, stopped_silent, stop_heard}
 use Rattle.cas_board.proofs.Looks.{carried, front_kept}
 use Rattle.cas_board.proofs.Sittings.{counted_none}
 use Rattle.cas_board.proofs.Operating.{told_behind, answers_any, own_grown, silent_since, silent_before, begun_in, true_among}
@@ -42,29 +42,23 @@ returns-in-Err-clause-answer g c = answers_any c.args.order.key c.in-Err.told (�
 pub returns-in-Ok-clause-silent : goal.returns-in-Ok-clause-silent
 returns-in-Ok-clause-silent g c = silent_before 0 c.args.pass.now c.ask_probe_once.new.pass c.run_probe.new.pass c.run_probe.result.told (own_grown c.args.pass.now c.ask_probe_once.new.pass [] c.requires.operator c.in-Ok.ensures.front) (c.run_probe.ensures.silent 0 c.in-Ok.ensures.harms)
 
-pub returns-in-Ok-clause-truly : goal.returns-in-Ok-clause-truly
-returns-in-Ok-clause-truly g c tells =
-    true_among (take (length c.args.pass.now.seen) c.run_probe.new.pass.seen) c.args.pass.now.seen c.run_probe.new.pass.seen c.run_probe.result.told
-    (λ x. begun_in c.args.pass.now.seen c.ask_probe_once.new.pass.seen c.run_probe.new.pass.seen c.in-Ok.ensures.front.begins c.run_probe.ensures.told.2.front.begins)
-    (c.run_probe.ensures.truly tells (length c.args.pass.now.seen) c.in-Ok.ensures.behind)
-
-pub returns-in-Err-clause-truly : goal.returns-in-Err-clause-truly
-returns-in-Err-clause-truly g c tells = stopped_truly c.args.pass.now.seen c.ask_probe_once.new.pass.seen c.in-Err.told c.in-Err.ensures.stopped
-
-pub returns-in-Ok-clause-agreed : goal.returns-in-Ok-clause-agreed
-returns-in-Ok-clause-agreed g c read = c.run_probe.ensures.agreed (c.in-Ok.ensures.inquiry ∙ read)
-
-pub returns-in-Err-clause-agreed : goal.returns-in-Err-clause-agreed
-returns-in-Err-clause-agreed g c read = stop_agrees g.D.Disk.tells g.D.Disk.tells c.ask_probe_once.new.pass.seen c.in-Err.told None c.in-Err.ensures.stopped
-
 pub returns-in-Err-clause-silent : goal.returns-in-Err-clause-silent
 returns-in-Err-clause-silent g c =
     silent_since 0 0 c.args.pass.now c.ask_probe_once.new.pass c.in-Err.told (omega (arith, own_grown c.args.pass.now c.ask_probe_once.new.pass (c.in-Err.ensures.told.marks ++ told_marks (asked_for c.args.order.inquiry c.args.order.key) c.in-Err.told) c.requires.operator c.in-Err.ensures.told.front)) (stopped_silent 0 c.in-Err.told c.in-Err.ensures.stopped)
 
-pub returns-in-Ok-clause-reads : goal.returns-in-Ok-clause-reads
-returns-in-Ok-clause-reads g c tells =
-    subst (λ (l : List Mark). IsTrueRead l c.run_probe.new.pass.seen c.run_probe.result.told c.run_probe.result.agreement) (front_kept c.args.pass.now.seen c.ask_probe_once.new.pass.seen c.run_probe.new.pass.seen c.in-Ok.ensures.front.begins c.run_probe.ensures.told.2.front.begins)
-    (c.run_probe.ensures.reads tells (length c.args.pass.now.seen) c.in-Ok.ensures.behind)
+pub returns-in-Ok-clause-truly : goal.returns-in-Ok-clause-truly
+returns-in-Ok-clause-truly g c =
+    let heard = c.run_probe.ensures.truly (length c.args.pass.now.seen) c.in-Ok.ensures.behind in
+    record {
+      probed = λ tells keeps.
+          true_among (take (length c.args.pass.now.seen) c.run_probe.new.pass.seen) c.args.pass.now.seen c.run_probe.new.pass.seen c.run_probe.result.told
+          (λ x. begun_in c.args.pass.now.seen c.ask_probe_once.new.pass.seen c.run_probe.new.pass.seen c.in-Ok.ensures.front.begins c.run_probe.ensures.told.2.front.begins)
+          (heard.probed tells keeps);
+      agreed = λ read. heard.agreed (c.in-Ok.ensures.inquiry ∙ read);
+      read = λ tells keeps.
+          subst (λ (l : List Mark). IsTrueRead l c.run_probe.new.pass.seen c.run_probe.result.told c.run_probe.result.agreement) (front_kept c.args.pass.now.seen c.ask_probe_once.new.pass.seen c.run_probe.new.pass.seen c.in-Ok.ensures.front.begins c.run_probe.ensures.told.2.front.begins)
+          (heard.read tells keeps);
+    }
 
-pub returns-in-Err-clause-reads : goal.returns-in-Err-clause-reads
-returns-in-Err-clause-reads g c tells = none_reads c.args.pass.now.seen c.ask_probe_once.new.pass.seen c.in-Err.told
+pub returns-in-Err-clause-truly : goal.returns-in-Err-clause-truly
+returns-in-Err-clause-truly g c = stop_heard c.args.order.inquiry g.D.Disk.tells g.D.Disk.tells c.args.pass.now.seen c.ask_probe_once.new.pass.seen c.in-Err.told c.in-Err.ensures.stopped

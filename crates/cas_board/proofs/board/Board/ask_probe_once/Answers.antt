@@ -3,13 +3,13 @@ use Rattle.std.specs.Prelude.{OnOk, IfErr}
 use Rattle.cas_model.specs.Exchanges.Step.{everyone}
 use Rattle.cas_world.specs.Eras.Plans.{rescanned_of}
 use Rattle.cas_board_steps.specs.Kept.{Makes}
-use Rattle.cas_board_steps.specs.Exchanges.Orders.{asked_for, HasOrder, HasHarms, HasProbe, IsToldIn, IsAskingHarm, WasAskedBehind}
+use Rattle.cas_board_steps.specs.Exchanges.Orders.{asked_for, HasHarms, HasProbe, IsOrderOf, IsToldIn, IsAskingHarm, WasAskedBehind}
 use Rattle.cas_board.proofs.Sittings.{was_held, gives_back}
 use Rattle.cas_board.proofs.Operating.{operator_part, operator_made, operator_own, operator_told, asks_or_tells, everyone_set, asked_earlier, seen_of, on_ok, if_err, still_counted}
 use Rattle.cas_board.proofs.board.Board.ask_probe_once.Goals as goal
 
-pub ask_probe-probing-requires-clause-ordered : goal.ask_probe-probing-requires-clause-ordered
-ask_probe-probing-requires-clause-ordered g c = subst (HasOrder (asked_for c.args.order.inquiry c.args.order.key)) (sym (operator_part c.args.pass.now.number c.shared.inside.world c.hold-shared.result c.args.pass.now.own c.requires.operator c.shared.view_is c.hold-shared.ensures.own)) c.requires.ordered
+pub ask_probe-probing-requires-clause-order : goal.ask_probe-probing-requires-clause-order
+ask_probe-probing-requires-clause-order g c = subst (IsOrderOf c.args.order.inquiry c.args.order.key c.args.order) (sym (operator_part c.args.pass.now.number c.shared.inside.world c.hold-shared.result c.args.pass.now.own c.requires.operator c.shared.view_is c.hold-shared.ensures.own)) c.requires.order
 
 pub give_back-requires-clause-makes : goal.give_back-requires-clause-makes
 give_back-requires-clause-makes g c =

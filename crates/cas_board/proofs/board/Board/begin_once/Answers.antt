@@ -1,6 +1,6 @@
 use Rattle.std.proofs.Common.{ℕ, arith, sym, ap, subst, ◌∙◌}
 use Rattle.std.specs.Prelude.{IfErr, IfOk}
-use Rattle.cas_board_steps.specs.Calls.Deeds.{BeginsIn, BeginsNot}
+use Rattle.cas_board_steps.specs.Calls.Changes.{BeginsIn, BeginsNot}
 use Rattle.cas_board_steps.specs.Calls.Open.{NothingIsOpen}
 use Rattle.cas_board_steps.specs.OwnParts.{own_part}
 use Rattle.cas_board_steps.proofs.Parts.{free_is_idle}

@@ -1,6 +1,6 @@
 use Rattle.std.proofs.Common.{ℕ, ap, subst, ◌∙◌}
 use Rattle.std.specs.Prelude.{IfErr, OnOk}
-use Rattle.cas_board_steps.specs.Calls.Deeds.{GoesOnIn, EndsMarked, harm_by}
+use Rattle.cas_board_steps.specs.Calls.Changes.{GoesOnIn, EndsMarked, harm_by}
 use Rattle.cas_board_steps.specs.Mine.{wanted_by}
 use Rattle.cas_board_steps.specs.OwnParts.{own_part}
 use Rattle.cas_board_steps.proofs.Fronts.{wanted_seen}

@@ -1,8 +1,8 @@
 use Rattle.std.proofs.Common.{ℕ, List, refl, sym, ap, subst, ◌∙◌}
 use Rattle.std.specs.Prelude.{OnOk, IfErr, take}
 use Rattle.cas_record.specs.declared.mark.Mark.{Mark}
-use Rattle.cas_board_steps.specs.Calls.Deeds.{harm_by}
-use Rattle.cas_board_steps.specs.Exchanges.Orders.{asked_for, HasHarms, HasProbe, IsAgreedSo, MarksHarms, OperatesIn, IsToldIn, IsAskingHarm, IsProbeAnswer, IsSilentAtMost, IsTrueProbe, IsTrueRead, WasAskedBehind}
+use Rattle.cas_board_steps.specs.Calls.Changes.{harm_by}
+use Rattle.cas_board_steps.specs.Exchanges.Orders.{asked_for, HasHarms, HasProbe, IsHeardTrue, MarksHarms, OperatesIn, IsToldIn, IsAskingHarm, IsProbeAnswer, IsSilentAtMost, WasAskedBehind}
 use Rattle.cas_board_steps.specs.OwnParts.{own_part}
 use Rattle.cas_board.proofs.Sittings.{was_held, gives_back}
 use Rattle.cas_board.proofs.Operating.{operator_part, operator_own, operator_goes_on, operator_harms, operator_told, on_ok, if_err}
@@ -46,20 +46,10 @@ returns-clause-silent g c =
     (λ heard each harms has. each harms (subst (HasHarms harms) (sym (operator_part c.args.pass.now.number c.shared.inside.world c.hold-shared.result c.args.pass.now.own c.requires.operator c.shared.view_is c.hold-shared.ensures.own)) has)) c.go_on_probing-next.ensures.silent
 
 pub returns-clause-truly : goal.returns-clause-truly
-returns-clause-truly g c tells =
-    if_err {P = λ heard. (many : ℕ) → WasAskedBehind many (own_part c.shared.inside.world 0) → IsTrueProbe (take many c.go_on_probing-next.new.world.marks) c.go_on_probing-next.new.world.marks heard.told} c.go_on_probing-next.result
-    (λ heard each many has. subst (λ (marks : List Mark). IsTrueProbe (take many marks) marks heard.told) (sym (ap (λ s. s.seen) c.give_back.ensures.pass)) (each many (subst (WasAskedBehind many) (sym (operator_part c.args.pass.now.number c.shared.inside.world c.hold-shared.result c.args.pass.now.own c.requires.operator c.shared.view_is c.hold-shared.ensures.own)) has))) (c.go_on_probing-next.ensures.truly tells tells)
+returns-clause-truly g c =
+    if_err {P = λ heard. (many : ℕ) → WasAskedBehind many (own_part c.shared.inside.world 0) → IsHeardTrue c.args.probing.inquiry g.D.Disk.tells g.D.Disk.tells (take many c.go_on_probing-next.new.world.marks) c.go_on_probing-next.new.world.marks heard} c.go_on_probing-next.result
+    (λ heard each many has. subst (λ (marks : List Mark). IsHeardTrue c.args.probing.inquiry g.D.Disk.tells g.D.Disk.tells (take many marks) marks heard) (sym (ap (λ s. s.seen) c.give_back.ensures.pass)) (each many (subst (WasAskedBehind many) (sym (operator_part c.args.pass.now.number c.shared.inside.world c.hold-shared.result c.args.pass.now.own c.requires.operator c.shared.view_is c.hold-shared.ensures.own)) has))) c.go_on_probing-next.ensures.truly
 
 pub returns-clause-behind : goal.returns-clause-behind
 returns-clause-behind g c =
     on_ok c.go_on_probing-next.result (λ each many has. subst (WasAskedBehind many) (sym (operator_own c.hold-shared.result c.go_on_probing-next.new.world c.args.pass.now c.give_back.new.pass (was_held 0 c.hold-shared.result c.go_on_probing-next.new.world c.args.pass.now c.hold-shared.new.seat c.give_back.new.pass c.hold-shared.ensures.seen c.hold-shared.ensures.own c.hold-shared.ensures.seat (sym (ap (λ s. s.number) c.hold-shared.ensures.seat ∙ c.requires.operator)) c.give_back.ensures.pass))) (each many (subst (WasAskedBehind many) (sym (operator_part c.args.pass.now.number c.shared.inside.world c.hold-shared.result c.args.pass.now.own c.requires.operator c.shared.view_is c.hold-shared.ensures.own)) has))) c.go_on_probing-next.ensures.behind
-
-pub returns-clause-agreed : goal.returns-clause-agreed
-returns-clause-agreed g c read =
-    if_err {P = λ heard. IsAgreedSo g.D.Disk.tells g.D.Disk.tells c.go_on_probing-next.new.world.marks heard.told heard.agreement} c.go_on_probing-next.result
-    (λ heard. subst (λ (marks : List Mark). IsAgreedSo g.D.Disk.tells g.D.Disk.tells marks heard.told heard.agreement) (sym (ap (λ s. s.seen) c.give_back.ensures.pass))) (c.go_on_probing-next.ensures.agreed read)
-
-pub returns-clause-reads : goal.returns-clause-reads
-returns-clause-reads g c tells =
-    if_err {P = λ heard. (many : ℕ) → WasAskedBehind many (own_part c.shared.inside.world 0) → IsTrueRead (take many c.go_on_probing-next.new.world.marks) c.go_on_probing-next.new.world.marks heard.told heard.agreement} c.go_on_probing-next.result
-    (λ heard each many has. subst (λ (marks : List Mark). IsTrueRead (take many marks) marks heard.told heard.agreement) (sym (ap (λ s. s.seen) c.give_back.ensures.pass)) (each many (subst (WasAskedBehind many) (sym (operator_part c.args.pass.now.number c.shared.inside.world c.hold-shared.result c.args.pass.now.own c.requires.operator c.shared.view_is c.hold-shared.ensures.own)) has))) (c.go_on_probing-next.ensures.reads tells tells)

@@ -1,5 +1,5 @@
 use Rattle.std.proofs.Common.{refl, subst}
-use Rattle.cas_board_steps.specs.Calls.Deeds.{StraysIn}
+use Rattle.cas_board_steps.specs.Calls.Changes.{StraysIn}
 use Rattle.cas_board.proofs.Sittings.{was_held, gives_back, pass_strays, pass_strays_wanted}
 use Rattle.cas_board.proofs.board.Board.let_in_once.Goals as goal
 

@@ -1,7 +1,7 @@
 use Rattle.std.proofs.Common.{ℕ, List, sym, ap, subst, ◌∙◌}
 use Rattle.std.specs.Prelude.{OnOk, IfOk, IfErr}
 use Rattle.cas_world.specs.Eras.Plans.{asked_of}
-use Rattle.cas_board_steps.specs.Calls.Deeds.{harm_by}
+use Rattle.cas_board_steps.specs.Calls.Changes.{harm_by}
 use Rattle.cas_board_steps.specs.Eras.Membership.{HasListing, IsListedTo, IsPlanMark}
 use Rattle.cas_board_steps.specs.Exchanges.Orders.{OperatesIn, IsToldIn}
 use Rattle.cas_board.proofs.Sittings.{was_held, gives_back}

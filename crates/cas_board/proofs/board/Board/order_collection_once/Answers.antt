@@ -1,7 +1,7 @@
 use Rattle.std.proofs.Common.{[], length, sym, ap, subst, ◌∙◌}
 use Rattle.cas_board_steps.specs.Collection.Collecting.{most_rounds}
 use Rattle.cas_world.specs.Eras.Plans.{rescanned_of}
-use Rattle.cas_board_steps.specs.Calls.Deeds.{IsRefusalBehind}
+use Rattle.cas_board_steps.specs.Calls.Changes.{IsRefusalBehind}
 use Rattle.cas_board_steps.specs.Kept.{Makes}
 use Rattle.cas_board_steps.specs.Calls.Open.{NothingIsOpen}
 use Rattle.cas_board_steps.specs.OwnParts.{own_part}

@@ -1,12 +1,12 @@
 use Rattle.std.proofs.Common.{[], length, sym, ap, subst, ◌∙◌}
 use Rattle.cas_world.specs.Eras.Plans.{rescanned_of}
-use Rattle.cas_board_steps.specs.Calls.Deeds.{IsRefusalBehind}
+use Rattle.cas_board_steps.specs.Calls.Changes.{IsRefusalBehind}
 use Rattle.cas_board_steps.specs.Kept.{Makes}
 use Rattle.cas_board_steps.specs.Calls.Open.{NothingIsOpen}
-use Rattle.cas_board_steps.specs.Exchanges.Orders.{asked_for, HasOrder}
+use Rattle.cas_board_steps.specs.Exchanges.Orders.{IsOrderOf}
 use Rattle.cas_board_steps.specs.OwnParts.{own_part}
 use Rattle.cas_board.proofs.Sittings.{was_held, gives_back}
-use Rattle.cas_board.proofs.Operating.{operator_part, operator_made, operator_own, on_ok, if_err, still_counted}
+use Rattle.cas_board.proofs.Operating.{operator_part, operator_made, operator_own, if_ok, if_err, still_counted}
 use Rattle.cas_board.proofs.board.Board.order_probe_once.Goals as goal
 
 pub order_probe-ordered-requires-clause-free : goal.order_probe-ordered-requires-clause-free
@@ -20,8 +20,10 @@ give_back-requires-clause-makes g c =
 pub returns-clause-front : goal.returns-clause-front
 returns-clause-front g c = operator_made c.hold-shared.result c.order_probe-ordered.new.world c.args.pass.now c.give_back.new.pass (was_held 0 c.hold-shared.result c.order_probe-ordered.new.world c.args.pass.now c.hold-shared.new.seat c.give_back.new.pass c.hold-shared.ensures.seen c.hold-shared.ensures.own c.hold-shared.ensures.seat (sym (ap (λ s. s.number) c.hold-shared.ensures.seat ∙ c.requires.operator)) c.give_back.ensures.pass) [] (subst (λ v. Makes 0 v c.order_probe-ordered.new.world []) c.shared.view_is c.order_probe-ordered.ensures.makes)
 
-pub returns-clause-ordered : goal.returns-clause-ordered
-returns-clause-ordered g c = on_ok c.order_probe-ordered.result (subst (HasOrder (asked_for c.args.inquiry c.args.key.now)) (sym (operator_own c.hold-shared.result c.order_probe-ordered.new.world c.args.pass.now c.give_back.new.pass (was_held 0 c.hold-shared.result c.order_probe-ordered.new.world c.args.pass.now c.hold-shared.new.seat c.give_back.new.pass c.hold-shared.ensures.seen c.hold-shared.ensures.own c.hold-shared.ensures.seat (sym (ap (λ s. s.number) c.hold-shared.ensures.seat ∙ c.requires.operator)) c.give_back.ensures.pass)))) c.order_probe-ordered.ensures.ordered
+pub returns-clause-order : goal.returns-clause-order
+returns-clause-order g c =
+    if_ok {P = λ order. IsOrderOf c.args.inquiry c.args.key.now order (own_part c.order_probe-ordered.new.world 0)} c.order_probe-ordered.result
+    (λ order. subst (IsOrderOf c.args.inquiry c.args.key.now order) (sym (operator_own c.hold-shared.result c.order_probe-ordered.new.world c.args.pass.now c.give_back.new.pass (was_held 0 c.hold-shared.result c.order_probe-ordered.new.world c.args.pass.now c.hold-shared.new.seat c.give_back.new.pass c.hold-shared.ensures.seen c.hold-shared.ensures.own c.hold-shared.ensures.seat (sym (ap (λ s. s.number) c.hold-shared.ensures.seat ∙ c.requires.operator)) c.give_back.ensures.pass)))) c.order_probe-ordered.ensures.order
 
 pub returns-clause-refused : goal.returns-clause-refused
 returns-clause-refused g c =

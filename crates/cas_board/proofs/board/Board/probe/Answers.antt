@@ -5,8 +5,9 @@ use Rattle.cas_record.specs.declared.operator.Asked.TheVariants as asked
 use Rattle.cas_model.proofs.Places.{contains_front}
 use Rattle.cas_ballot.specs.Members.{IsMemberSet}
 use Rattle.cas_board.specs.Operations.{WasToldLast, is_not_begun}
-use Rattle.cas_board_steps.specs.Exchanges.Orders.{asked_for, exchange_for, HasOrder, IsAskingHarm, IsProbeAnswer}
+use Rattle.cas_board_steps.specs.Exchanges.Orders.{asked_for, IsAskingHarm, IsProbeAnswer}
 use Rattle.cas_board_steps.specs.declared.orders.Inquiry.{Inquiry}
+use Rattle.cas_board_steps.proofs.Exchanges.Probes.{own_order, order_inquiry, order_key}
 use Rattle.cas_board.proofs.Looks.{carried}
 use Rattle.cas_board.proofs.Sittings.{counted_none}
 use Rattle.cas_board.proofs.Operating.{told_behind, operates_told, refused_answers, own_grown, silent_before, true_among}
@@ -15,11 +16,8 @@ use Rattle.cas_board.proofs.board.Board.probe.Goals as goal
 pub ask_and_probe-told-requires-clause-operator : goal.ask_and_probe-told-requires-clause-operator
 ask_and_probe-told-requires-clause-operator g c = ap (λ s. s.number) c.order_probe_once.ensures.pass ∙ c.requires.operator
 
-pub ask_and_probe-told-requires-clause-question : goal.ask_and_probe-told-requires-clause-question
-ask_and_probe-told-requires-clause-question g c = carried (λ (i : Inquiry) (k : List ℕ). c.in-Ok.order.question ≡ exchange_for i k) (sym c.in-Ok.ensures.inquiry) (sym c.in-Ok.ensures.key) c.in-Ok.ensures.question
-
-pub ask_and_probe-told-requires-clause-ordered : goal.ask_and_probe-told-requires-clause-ordered
-ask_and_probe-told-requires-clause-ordered g c = carried (λ (i : Inquiry) (k : List ℕ). HasOrder (asked_for i k) c.order_probe_once.new.pass.own) (sym c.in-Ok.ensures.inquiry) (sym c.in-Ok.ensures.key) c.in-Ok.ensures.ordered
+pub ask_and_probe-told-requires-clause-order : goal.ask_and_probe-told-requires-clause-order
+ask_and_probe-told-requires-clause-order g c = own_order c.in-Ok.ensures.order
 
 pub returns-in-Ok-clause-free : goal.returns-in-Ok-clause-free
 returns-in-Ok-clause-free g c = c.ask_and_probe-told.ensures.told.2.is_free
@@ -28,10 +26,10 @@ pub returns-in-Ok-clause-operates : goal.returns-in-Ok-clause-operates
 returns-in-Ok-clause-operates g c =
     operates_told (asked.Probe c.args.key.now) IsAskingHarm c.ask_and_probe-told.ensures.told.0 _ _ c.args.pass.now c.ask_and_probe-told.new.pass c.ask_and_probe-told.result.told c.ask_and_probe-told.ensures.told.1
     (told_behind (asked.Probe c.args.key.now) IsAskingHarm c.ask_and_probe-told.ensures.told.0 c.args.pass.now c.order_probe_once.new.pass c.ask_and_probe-told.new.pass c.ask_and_probe-told.result.told (ap (λ s. s.number) c.order_probe_once.ensures.pass) c.in-Ok.ensures.front c.order_probe_once.ensures.counted
-    (carried (λ (i : Inquiry) (k : List ℕ). WasToldLast (asked_for i k) IsAskingHarm c.ask_and_probe-told.ensures.told.0 c.order_probe_once.new.pass c.ask_and_probe-told.new.pass c.ask_and_probe-told.result.told) c.in-Ok.ensures.inquiry c.in-Ok.ensures.key c.ask_and_probe-told.ensures.told.2))
+    (carried (λ (i : Inquiry) (k : List ℕ). WasToldLast (asked_for i k) IsAskingHarm c.ask_and_probe-told.ensures.told.0 c.order_probe_once.new.pass c.ask_and_probe-told.new.pass c.ask_and_probe-told.result.told) (order_inquiry c.in-Ok.ensures.order) (order_key c.in-Ok.ensures.order) c.ask_and_probe-told.ensures.told.2))
 
 pub returns-in-Ok-clause-answer : goal.returns-in-Ok-clause-answer
-returns-in-Ok-clause-answer g c = subst (λ (k : List ℕ). (members : List ℕ) × IsMemberSet members × IsProbeAnswer k members c.ask_and_probe-told.result.told) c.in-Ok.ensures.key c.ask_and_probe-told.ensures.answer
+returns-in-Ok-clause-answer g c = subst (λ (k : List ℕ). (members : List ℕ) × IsMemberSet members × IsProbeAnswer k members c.ask_and_probe-told.result.told) (order_key c.in-Ok.ensures.order) c.ask_and_probe-told.ensures.answer
 
 pub returns-in-Err-clause-free : goal.returns-in-Err-clause-free
 returns-in-Err-clause-free g c = c.in-Err.ensures.refused.1
@@ -45,7 +43,7 @@ returns-in-Err-clause-answer g c = refused_answers c.args.key.now _ c.in-Err.ref
 pub returns-in-Ok-clause-truly : goal.returns-in-Ok-clause-truly
 returns-in-Ok-clause-truly g c tells =
     true_among c.order_probe_once.new.pass.seen c.args.pass.now.seen c.ask_and_probe-told.new.pass.seen c.ask_and_probe-told.result.told
-    (λ x there. subst (λ (l : List Mark). Contains l x) c.in-Ok.ensures.front.begins.whole (contains_front c.args.pass.now.seen c.in-Ok.ensures.front.begins.behind there)) (c.ask_and_probe-told.ensures.truly tells)
+    (λ x there. subst (λ (l : List Mark). Contains l x) c.in-Ok.ensures.front.begins.whole (contains_front c.args.pass.now.seen c.in-Ok.ensures.front.begins.behind there)) (c.ask_and_probe-told.ensures.truly.probed tells tells)
 
 pub returns-in-Ok-clause-silent : goal.returns-in-Ok-clause-silent
 returns-in-Ok-clause-silent g c = silent_before 0 c.args.pass.now c.order_probe_once.new.pass c.ask_and_probe-told.new.pass c.ask_and_probe-told.result.told (own_grown c.args.pass.now c.order_probe_once.new.pass [] c.requires.operator c.in-Ok.ensures.front) c.ask_and_probe-told.ensures.silent

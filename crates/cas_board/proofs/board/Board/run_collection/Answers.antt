@@ -1,9 +1,9 @@
 use Rattle.std.proofs.Common.{ℕ, List, refl, sym, ap, subst, ◌∙◌}
 use Rattle.cas_record.specs.declared.operator.Asked.TheVariants as asked
 use Rattle.cas_board.specs.Operations.{HasOperated, WasToldLast}
-use Rattle.cas_board_steps.specs.Collection.Collecting.{HasCourse, IsBurialMark, IsCollectAnswer, IsCollectingMark, most_rounds}
-use Rattle.cas_board_steps.specs.Calls.Deeds.{harm_by}
-use Rattle.cas_board_steps.proofs.Calls.Tries.{burial_within}
+use Rattle.cas_board_steps.specs.Collection.Collecting.{HasCourse, IsTombstoneMark, IsCollectAnswer, IsCollectingMark, most_rounds}
+use Rattle.cas_board_steps.specs.Calls.Changes.{harm_by}
+use Rattle.cas_board_steps.proofs.Calls.Tries.{tombstone_within}
 use Rattle.cas_board.proofs.Passes.{still_pass}
 use Rattle.cas_board.proofs.Operating.{order_runs, order_pass, order_number, order_ran, order_goes_on, order_ends, run_less}
 use Rattle.cas_board.proofs.Collections.{course_asked}
@@ -11,7 +11,7 @@ use Rattle.cas_board.proofs.board.Board.run_collection.Goals as goal
 
 pub loop-init : goal.loop-init
 loop-init g c =
-    record { run = order_runs (IsBurialMark c.args.first.key) (g.F.Fate.harm_count c.args.fate.now) c.args.pass.now; key = refl; tries = refl; keeps = c.requires.keeps; course = c.requires.at }
+    record { run = order_runs (IsTombstoneMark c.args.first.key) (g.F.Fate.harm_count c.args.fate.now) c.args.pass.now; key = refl; tries = refl; keeps = c.requires.keeps; course = c.requires.at }
 
 pub verdict_for-verdict-requires : goal.verdict_for-verdict-requires
 verdict_for-verdict-requires g c =
@@ -19,11 +19,11 @@ verdict_for-verdict-requires g c =
 
 pub go_on_collecting_once-requires-clause-pass : goal.go_on_collecting_once-requires-clause-pass
 go_on_collecting_once-requires-clause-pass g c =
-    order_pass (IsBurialMark c.args.first.key) _ _ c.args.pass.now c.loop.pass c.verdict_for-verdict.new.pass c.loop.invariant.run c.verdict_for-verdict.ensures.pass c.args.self.now c.requires.pass
+    order_pass (IsTombstoneMark c.args.first.key) _ _ c.args.pass.now c.loop.pass c.verdict_for-verdict.new.pass c.loop.invariant.run c.verdict_for-verdict.ensures.pass c.args.self.now c.requires.pass
 
 pub go_on_collecting_once-requires-clause-operator : goal.go_on_collecting_once-requires-clause-operator
 go_on_collecting_once-requires-clause-operator g c =
-    order_number (IsBurialMark c.args.first.key) _ _ c.args.pass.now c.loop.pass c.verdict_for-verdict.new.pass c.loop.invariant.run c.verdict_for-verdict.ensures.pass ∙ c.requires.operator
+    order_number (IsTombstoneMark c.args.first.key) _ _ c.args.pass.now c.loop.pass c.verdict_for-verdict.new.pass c.loop.invariant.run c.verdict_for-verdict.ensures.pass ∙ c.requires.operator
 
 pub go_on_collecting_once-requires-clause-at : goal.go_on_collecting_once-requires-clause-at
 go_on_collecting_once-requires-clause-at g c =
@@ -33,12 +33,12 @@ go_on_collecting_once-requires-clause-at g c =
 
 pub returns-in-Err-clause-pass : goal.returns-in-Err-clause-pass
 returns-in-Err-clause-pass g c =
-    order_ran (IsBurialMark c.args.first.key) _ _ c.args.pass.now c.loop.pass c.verdict_for-verdict.new.pass c.loop.invariant.run c.verdict_for-verdict.ensures.pass (harm_by c.verdict_for-verdict.result) _ c.go_on_collecting_once.new.pass c.verdict_for-verdict.ensures.front c.verdict_for-verdict.ensures.counted c.go_on_collecting_once.ensures.pass
+    order_ran (IsTombstoneMark c.args.first.key) _ _ c.args.pass.now c.loop.pass c.verdict_for-verdict.new.pass c.loop.invariant.run c.verdict_for-verdict.ensures.pass (harm_by c.verdict_for-verdict.result) _ c.go_on_collecting_once.new.pass c.verdict_for-verdict.ensures.front c.verdict_for-verdict.ensures.counted c.go_on_collecting_once.ensures.pass
 
 pub returns-in-Err-clause-told : goal.returns-in-Err-clause-told
 returns-in-Err-clause-told g c =
     order_ends (IsCollectingMark c.args.first.key (most_rounds c.args.first.tries)) _ _ c.args.pass.now c.loop.pass c.verdict_for-verdict.new.pass
-    (run_less (IsBurialMark c.args.first.key) (IsCollectingMark c.args.first.key (most_rounds c.args.first.tries)) (burial_within c.args.first.key (most_rounds c.args.first.tries)) (λ enters. absurd (enters 0 0)) _ _ c.args.pass.now c.loop.pass c.loop.invariant.run) c.verdict_for-verdict.ensures.pass (harm_by c.verdict_for-verdict.result) _ c.go_on_collecting_once.new.pass c.verdict_for-verdict.ensures.front c.verdict_for-verdict.ensures.counted c.go_on_collecting_once.ensures.pass (asked.Collect c.args.first.key) c.in-Err.told
+    (run_less (IsTombstoneMark c.args.first.key) (IsCollectingMark c.args.first.key (most_rounds c.args.first.tries)) (tombstone_within c.args.first.key (most_rounds c.args.first.tries)) (λ enters. absurd (enters 0 0)) _ _ c.args.pass.now c.loop.pass c.loop.invariant.run) c.verdict_for-verdict.ensures.pass (harm_by c.verdict_for-verdict.result) _ c.go_on_collecting_once.new.pass c.verdict_for-verdict.ensures.front c.verdict_for-verdict.ensures.counted c.go_on_collecting_once.ensures.pass (asked.Collect c.args.first.key) c.in-Err.told
     (subst (λ (n : ℕ). WasToldLast (asked.Collect c.args.first.key) (IsCollectingMark c.args.first.key (most_rounds n)) (harm_by c.verdict_for-verdict.result) c.verdict_for-verdict.new.pass c.go_on_collecting_once.new.pass c.in-Err.told) c.loop.invariant.tries
     (subst (λ (k : List ℕ). WasToldLast (asked.Collect k) (IsCollectingMark k (most_rounds c.loop.collecting.tries)) (harm_by c.verdict_for-verdict.result) c.verdict_for-verdict.new.pass c.go_on_collecting_once.new.pass c.in-Err.told) c.loop.invariant.key c.in-Err.ensures.told))
 
@@ -49,7 +49,7 @@ returns-in-Err-clause-answer g c =
 pub loop-preserved : goal.loop-preserved
 loop-preserved g c =
     record {
-      run = order_goes_on (IsBurialMark c.args.first.key) _ _ c.args.pass.now c.loop.pass c.verdict_for-verdict.new.pass c.loop.invariant.run c.verdict_for-verdict.ensures.pass (harm_by c.verdict_for-verdict.result) _ c.go_on_collecting_once.new.pass c.verdict_for-verdict.ensures.front c.verdict_for-verdict.ensures.counted c.go_on_collecting_once.ensures.pass (subst (λ (k : List ℕ). HasOperated (IsBurialMark k) (harm_by c.verdict_for-verdict.result) c.verdict_for-verdict.new.pass c.go_on_collecting_once.new.pass) c.loop.invariant.key c.in-Ok.ensures.goes_on);
+      run = order_goes_on (IsTombstoneMark c.args.first.key) _ _ c.args.pass.now c.loop.pass c.verdict_for-verdict.new.pass c.loop.invariant.run c.verdict_for-verdict.ensures.pass (harm_by c.verdict_for-verdict.result) _ c.go_on_collecting_once.new.pass c.verdict_for-verdict.ensures.front c.verdict_for-verdict.ensures.counted c.go_on_collecting_once.ensures.pass (subst (λ (k : List ℕ). HasOperated (IsTombstoneMark k) (harm_by c.verdict_for-verdict.result) c.verdict_for-verdict.new.pass c.go_on_collecting_once.new.pass) c.loop.invariant.key c.in-Ok.ensures.goes_on);
       key = c.in-Ok.ensures.key ∙ c.loop.invariant.key;
       tries = c.in-Ok.ensures.tries ∙ c.loop.invariant.tries;
       keeps = c.in-Ok.ensures.keeps;

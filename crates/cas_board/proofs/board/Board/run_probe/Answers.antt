@@ -1,7 +1,8 @@
 use Rattle.std.proofs.Common.{ℕ, List, refl, sym, ap, subst, ◌∙◌}
+use Rattle.std.specs.Prelude.{take}
 use Rattle.cas_board.specs.Operations.{WasToldLast}
-use Rattle.cas_board_steps.specs.Calls.Deeds.{harm_by}
-use Rattle.cas_board_steps.specs.Exchanges.Orders.{asked_for, HasProbe, IsAskingHarm, IsProbeAnswer, WasAskedBehind}
+use Rattle.cas_board_steps.specs.Calls.Changes.{harm_by}
+use Rattle.cas_board_steps.specs.Exchanges.Orders.{asked_for, HasProbe, IsAskingHarm, IsHeardTrue, IsProbeAnswer, WasAskedBehind}
 use Rattle.cas_board_steps.specs.declared.orders.Inquiry.{Inquiry}
 use Rattle.cas_board.proofs.Looks.{carried}
 use Rattle.cas_board.proofs.Passes.{still_pass}
@@ -41,15 +42,10 @@ returns-in-Err-clause-silent g c harms has =
     (order_number IsAskingHarm _ _ c.args.pass.now c.loop.pass c.verdict_for-verdict.new.pass c.loop.invariant.run c.verdict_for-verdict.ensures.pass ∙ c.requires.operator) c.verdict_for-verdict.ensures.front c.in-Err.ensures.silent c.in-Err.ensures.told
 
 pub returns-in-Err-clause-truly : goal.returns-in-Err-clause-truly
-returns-in-Err-clause-truly g c tells many has =
-    c.in-Err.ensures.truly tells many (subst (WasAskedBehind many) (sym (order_own IsAskingHarm _ _ c.args.pass.now c.loop.pass c.verdict_for-verdict.new.pass c.loop.invariant.run c.verdict_for-verdict.ensures.pass)) (c.loop.invariant.behind many has))
-
-pub returns-in-Err-clause-reads : goal.returns-in-Err-clause-reads
-returns-in-Err-clause-reads g c tells many has =
-    c.in-Err.ensures.reads tells many (subst (WasAskedBehind many) (sym (order_own IsAskingHarm _ _ c.args.pass.now c.loop.pass c.verdict_for-verdict.new.pass c.loop.invariant.run c.verdict_for-verdict.ensures.pass)) (c.loop.invariant.behind many has))
-
-pub returns-in-Err-clause-agreed : goal.returns-in-Err-clause-agreed
-returns-in-Err-clause-agreed g c read = c.in-Err.ensures.agreed (c.loop.invariant.inquiry ∙ read)
+returns-in-Err-clause-truly g c many has =
+    subst (λ (i : Inquiry). IsHeardTrue i g.D.Disk.tells g.D.Disk.tells (take many c.go_on_probing_once.new.pass.seen) c.go_on_probing_once.new.pass.seen c.in-Err.heard) c.loop.invariant.inquiry
+    (c.in-Err.ensures.truly many (subst (WasAskedBehind many) (sym (order_own IsAskingHarm _ _ c.args.pass.now c.loop.pass c.verdict_for-verdict.new.pass c.loop.invariant.run c.verdict_for-verdict.ensures.pass)) (c.loop.invariant.behind many has))
+    )
 
 pub loop-preserved : goal.loop-preserved
 loop-preserved g c = record { run = order_goes_on IsAskingHarm _ _ c.args.pass.now c.loop.pass c.verdict_for-verdict.new.pass c.loop.invariant.run c.verdict_for-verdict.ensures.pass (harm_by c.verdict_for-verdict.result) _ c.go_on_probing_once.new.pass c.verdict_for-verdict.ensures.front c.verdict_for-verdict.ensures.counted c.go_on_probing_once.ensures.pass c.in-Ok.ensures.goes_on; asks = λ members has. carried (λ (i : Inquiry) (k : List ℕ). HasProbe i k members c.go_on_probing_once.new.pass.own) (sym c.in-Ok.ensures.inquiry) (sym c.in-Ok.ensures.key) (c.in-Ok.ensures.still members (subst (HasProbe c.loop.probing.inquiry c.loop.probing.key members) (sym (order_own IsAskingHarm _ _ c.args.pass.now c.loop.pass c.verdict_for-verdict.new.pass c.loop.invariant.run c.verdict_for-verdict.ensures.pass)) (c.loop.invariant.asks members has))); behind = λ many has. c.in-Ok.ensures.behind many (subst (WasAskedBehind many) (sym (order_own IsAskingHarm _ _ c.args.pass.now c.loop.pass c.verdict_for-verdict.new.pass c.loop.invariant.run c.verdict_for-verdict.ensures.pass)) (c.loop.invariant.behind many has)); harms = marked_harms c.args.pass.now c.loop.pass c.verdict_for-verdict.new.pass c.go_on_probing_once.new.pass c.loop.invariant.harms (order_own IsAskingHarm _ _ c.args.pass.now c.loop.pass c.verdict_for-verdict.new.pass c.loop.invariant.run c.verdict_for-verdict.ensures.pass) (ap (λ s. s.number) c.loop.invariant.run.pass ∙ c.requires.operator) c.verdict_for-verdict.ensures.front c.in-Ok.ensures.harms; inquiry = c.in-Ok.ensures.inquiry ∙ c.loop.invariant.inquiry; key = c.in-Ok.ensures.key ∙ c.loop.invariant.key }

@@ -1,11 +1,11 @@
 use Rattle.std.proofs.Common.{◌≡◌, false, sym, subst, arith}
 use Rattle.std.specs.Prelude.{⊤}
 use Rattle.cas_board_steps.specs.Calls.Conflicts.{is_conflict}
-use Rattle.cas_board_steps.specs.Calls.Deeds.{EndsMarked}
+use Rattle.cas_board_steps.specs.Calls.Changes.{EndsMarked}
 use Rattle.cas_board_steps.proofs.Calls.Holds.{again_ok, again_told, again_ends, again_no_conflict}
 use Rattle.cas_board_steps.proofs.Parts.{open_quiet}
 use Rattle.cas_board_steps.proofs.Calls.Stages.{may_again, unmet_there, running_tells, round_running}
-use Rattle.cas_board_steps.proofs.deeds.begin_again.Goals as goal
+use Rattle.cas_board_steps.proofs.changes.begin_again.Goals as goal
 
 pub begin-requires-clause-unasked : goal.begin-requires-clause-unasked
 begin-requires-clause-unasked g c is_first = (open_quiet c.args.world.now c.args.caller c.args.call c.requires.called is_first).exchange

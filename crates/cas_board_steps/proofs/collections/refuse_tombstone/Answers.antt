@@ -3,7 +3,7 @@ use Rattle.cas_world.specs.Collection.Collect.{leaves_no_call}
 use Rattle.cas_world.specs.Eras.Plans.{MayTell, was_told}
 use Rattle.cas_board_steps.specs.Collection.Collecting.{tells}
 use Rattle.cas_board_steps.proofs.Collection.RoundStages.{refused_was_told, refused_was_begun, unstopped, tells_stopped, stops_stopped}
-use Rattle.cas_board_steps.proofs.collections.refuse_burial.Goals as goal
+use Rattle.cas_board_steps.proofs.collections.refuse_tombstone.Goals as goal
 
 pub stop-requires-clause-told : goal.stop-requires-clause-told
 stop-requires-clause-told g c = (refused_was_begun c.args.world.now c.args.call c.args.refusal c.in-Stopped.told c.in-Stopped.is c.requires.refused (sym c.leaves_no_call.ensures ∙ c.if-leaves_no_call.false)).was

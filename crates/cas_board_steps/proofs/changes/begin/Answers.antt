@@ -1,10 +1,10 @@
 use Rattle.std.proofs.Common.{sym, subst, ◌∙◌, arith}
 use Rattle.std.specs.Prelude.{⊤}
-use Rattle.cas_board_steps.specs.Calls.Deeds.{BeginsNot}
+use Rattle.cas_board_steps.specs.Calls.Changes.{BeginsNot}
 use Rattle.cas_board_steps.proofs.Calls.Holds.{begin_may, begin_ok, begin_refused, begin_told, begin_passes}
 use Rattle.cas_board_steps.proofs.Parts.{idle_quiet}
 use Rattle.cas_board_steps.proofs.Calls.Stages.{stage_unmet, round_running}
-use Rattle.cas_board_steps.proofs.deeds.begin.Goals as goal
+use Rattle.cas_board_steps.proofs.changes.begin.Goals as goal
 
 pub begin-requires-clause-unasked : goal.begin-requires-clause-unasked
 begin-requires-clause-unasked g c is_first = (idle_quiet c.args.world.now c.args.caller c.requires.idle is_first).exchange

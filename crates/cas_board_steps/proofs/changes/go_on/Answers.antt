@@ -1,12 +1,12 @@
 use Rattle.std.proofs.Common.{Bool, not, sym, ap, subst, ◌∙◌}
 use Rattle.cas_world.specs.World.{IsInPhase}
 use Rattle.cas_board_steps.specs.Calls.Conflicts.{is_conflict}
-use Rattle.cas_board_steps.specs.Calls.Deeds.{EndsMarked, harm_by}
+use Rattle.cas_board_steps.specs.Calls.Changes.{EndsMarked, harm_by}
 use Rattle.cas_board_steps.proofs.Calls.Holds.{closed_ends, count_ends, no_conflict_counted, on_ok, if_err}
 use Rattle.cas_board_steps.proofs.Parts.{open_quiet}
 use Rattle.cas_board_steps.proofs.Calls.Stages.{closed_was_told, closed_unmet, closed_no_conflict, is_idle, is_through, shown_there, none_waits, some_waits, in_phase}
 use Rattle.cas_flow.specs.Flow.{queue_at}
-use Rattle.cas_board_steps.proofs.deeds.go_on.Goals as goal
+use Rattle.cas_board_steps.proofs.changes.go_on.Goals as goal
 
 pub end-requires-clause-told : goal.end-requires-clause-told
 end-requires-clause-told g c = closed_was_told c.args.world.now c.args.caller c.args.call c.in-Some.told c.closed.result c.requires.called c.closed.ensures c.in-Some.is

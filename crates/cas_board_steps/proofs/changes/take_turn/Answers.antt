@@ -1,10 +1,10 @@
 use Rattle.std.proofs.Common.{sym, ap, subst, arith}
 use Rattle.cas_board_steps.specs.Calls.Conflicts.{is_conflict}
-use Rattle.cas_board_steps.specs.Calls.Deeds.{EndsMarked, harm_by}
+use Rattle.cas_board_steps.specs.Calls.Changes.{EndsMarked, harm_by}
 use Rattle.cas_board_steps.proofs.Calls.Holds.{turn_ok, turn_told, turn_ends, greatest_refused}
 use Rattle.cas_board_steps.proofs.Parts.{open_quiet}
 use Rattle.cas_board_steps.proofs.Calls.Stages.{as_turn, as_refusal, waits_there, turn_running, unmet_there, running_tells}
-use Rattle.cas_board_steps.proofs.deeds.take_turn.Goals as goal
+use Rattle.cas_board_steps.proofs.changes.take_turn.Goals as goal
 
 pub turn-requires-clause-waits : goal.turn-requires-clause-waits
 turn-requires-clause-waits g c = waits_there c.args.world.now c.args.caller (λ is_first. (open_quiet c.args.world.now c.args.caller c.args.call c.requires.called is_first).exchange) c.requires.waits

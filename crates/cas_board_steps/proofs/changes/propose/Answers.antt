@@ -1,9 +1,9 @@
 use Rattle.std.proofs.Common.{sym, subst, ◌∙◌, arith}
-use Rattle.cas_board_steps.specs.Calls.Deeds.{EndsMarked}
+use Rattle.cas_board_steps.specs.Calls.Changes.{EndsMarked}
 use Rattle.cas_board_steps.proofs.Calls.Holds.{propose_ok, propose_told, propose_is_met, propose_ends, greatest_proposed}
 use Rattle.cas_board_steps.proofs.Parts.{open_quiet}
 use Rattle.cas_board_steps.proofs.Calls.Stages.{unmet_there, running_tells, proposed_running, met_tells}
-use Rattle.cas_board_steps.proofs.deeds.propose.Goals as goal
+use Rattle.cas_board_steps.proofs.changes.propose.Goals as goal
 
 pub stage_of-requires : goal.stage_of-requires
 stage_of-requires g c = let same = greatest_proposed _ c.args.caller c.args.world.now c.propose.new.self c.propose.ensures.step in omega (arith, same, c.requires.known)

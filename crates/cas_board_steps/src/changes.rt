@@ -8,7 +8,7 @@ ghost use Rattle.cas_world.specs.Calls.Beginning.{is_refusal};
 ghost use Rattle.cas_world.specs.Readers.{closed_in};
 ghost use Rattle.cas_world.specs.World.{IsInPhase};
 ghost use Rattle.cas_board_steps.specs.Calls.Conflicts.{is_conflict};
-ghost use Rattle.cas_board_steps.specs.Calls.Deeds.{BeginsIn, BeginsNot, EndsMarked, GoesOnIn, StraysIn, harm_by};
+ghost use Rattle.cas_board_steps.specs.Calls.Changes.{BeginsIn, BeginsNot, EndsMarked, GoesOnIn, StraysIn, harm_by};
 ghost use Rattle.cas_board_steps.specs.Kept.{IsKept};
 ghost use Rattle.cas_board_steps.specs.Mine.{wanted_by, wants};
 ghost use Rattle.cas_board_steps.specs.OwnParts.{own_part};

@@ -3,7 +3,7 @@ use Rattle.std.specs.Prelude.{Err}
 use Rattle.cas_board_steps.specs.Collection.Collecting.{CollectsIn}
 use Rattle.cas_board_steps.proofs.Collection.RoundCalls.{may_again, again_may, again_held, again_within, again_stops, again_told, again_calling}
 use Rattle.cas_board_steps.proofs.Calls.Tries.{told_within}
-use Rattle.cas_board_steps.proofs.collections.bury_again.Goals as goal
+use Rattle.cas_board_steps.proofs.collections.set_tombstone_again.Goals as goal
 
 pub begin_collect-requires-clause-asked : goal.begin_collect-requires-clause-asked
 begin_collect-requires-clause-asked g c = may_again c.args.world.now c.args.key.now c.args.call _ c.requires.at
