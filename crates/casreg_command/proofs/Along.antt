@@ -1,15 +1,17 @@
--- Along a script over a store that just opened was done what nothing stood against.
+-- Along a script over a store that just opened was done what nothing stood against, and what reads were answered is so.
 use Rattle.std.proofs.Common.{◌≡◌, ℕ, List, Option, subst}
+use Rattle.cas_model.proofs.Openings.Opens.{opening_remembered}
 use Rattle.cas_model.proofs.Openings.Safe.{opens_are_safe}
+use Rattle.cas_model.specs.History.{IsRemembered}
 use Rattle.cas_model.specs.Safe.{IsSafe}
 use Rattle.cas_model.specs.View.{Meaning, View}
 use Rattle.cas_disk_shelf.specs.declared.shelf.DiskShelf.{DiskShelf}
 use Rattle.cas_store.specs.Rack.{RackMeaning, IsAllEmpty}
 use Rattle.cas_store.specs.declared.rack.Rack.{Rack}
 use Rattle.casreg_script.specs.Script.{opening_state}
-use Rattle.casreg_progress.proofs.Runs.{runs_are_done}
+use Rattle.casreg_progress.proofs.Runs.{runs_are_done, runs_read_so}
 use Rattle.cas_world.specs.Openings.Opening.{members_to}
-use Rattle.casreg_command.specs.Causes.{WentIn, CameOut, AreDoneAlong, IsNewOver, Ran, RanOver, WroteScript}
+use Rattle.casreg_command.specs.Causes.{WentIn, CameOut, AreDoneAlong, AreReadSoAlong, IsNewOver, Ran, RanOver, WroteScript}
 use Rattle.casreg_command.specs.Words.{acceptors_of, proposers_of}
 use Rattle.casreg_command.specs.declared.words.Request.{Request}
 use Rattle.casreg_command.specs.declared.status.Status.{Status}
@@ -29,17 +31,32 @@ safe_done meant tells tries P input old new world back status.TooManyLines safe 
 safe_done meant tells tries P input old new world back status.NoMemory safe by = runs_are_done meant tries (opening_state world) by.last by.wrote.lines by.wrote.answers safe by.wrote.run
 safe_done meant tells tries P input old new world back (status.Endless line) safe by = runs_are_done meant tries (opening_state world) by.last by.wrote.lines by.wrote.answers safe by.wrote.run
 
+reads_so : {D : Type 0} (meant : Meaning (DiskShelf D) D) (tells : Type 0) (shelves : meant.shelves.tells) (disks : meant.disks.tells) (tries : ℕ) (P : List (List ℕ) → Type 0) (input old new : Option (List ℕ)) (world : View (DiskShelf D) D) (back : Rack D) (result : Status)
+    → IsRemembered meant world → (by : Ran meant tells tries P input old new world result back) → AreReadSoAlong result by
+reads_so meant tells shelves disks tries P input old new world back status.Ok is by = runs_read_so meant shelves disks tries (opening_state world) by.last by.wrote.lines by.wrote.answers is by.wrote.run
+reads_so meant tells shelves disks tries P input old new world back status.Usage is by = by.wrote
+reads_so meant tells shelves disks tries P input old new world back status.ReadFault is by = runs_read_so meant shelves disks tries (opening_state world) by.last by.wrote.lines by.wrote.answers is by.wrote.run
+reads_so meant tells shelves disks tries P input old new world back status.WriteFault is by = runs_read_so meant shelves disks tries (opening_state world) by.last by.wrote.lines by.wrote.answers is by.wrote.run
+reads_so meant tells shelves disks tries P input old new world back (status.NotEmpty disk) is by = by.wrote
+reads_so meant tells shelves disks tries P input old new world back (status.DiskFault disk) is by = by.wrote
+reads_so meant tells shelves disks tries P input old new world back status.TooManyLines is by = runs_read_so meant shelves disks tries (opening_state world) by.last by.wrote.lines by.wrote.answers is by.wrote.run
+reads_so meant tells shelves disks tries P input old new world back status.NoMemory is by = runs_read_so meant shelves disks tries (opening_state world) by.last by.wrote.lines by.wrote.answers is by.wrote.run
+reads_so meant tells shelves disks tries P input old new world back (status.Endless line) is by = runs_read_so meant shelves disks tries (opening_state world) by.last by.wrote.lines by.wrote.answers is by.wrote.run
+
 -- a run over a new world
 pub ran_over : {D : Type 0} {meant : Meaning (DiskShelf D) D} {m : RackMeaning D} {given : WentIn D} {out : CameOut D} (options : Options) (rack : Rack D) (world : View (DiskShelf D) D)
-    → IsAllEmpty m given.rack rack → IsNewOver meant options.acceptors options.proposers rack world
+    → (m.tells → meant.shelves.tells × meant.disks.tells) → IsAllEmpty m given.rack rack → IsNewOver meant options.acceptors options.proposers rack world
     → RanOver meant m.tells options out.HadEnded given.input given.written out.written world out.status out.rack → WroteScript meant m options given out
-ran_over {meant = meant} {m} {given} {out} options rack world empty over by = record {
+ran_over {meant = meant} {m} {given} {out} options rack world tell empty over by = record {
   rack = rack;
   empty = empty;
   world = world;
   over = over;
   ran = by;
   done = safe_done meant m.tells options.tries out.HadEnded given.input given.written by.between world out.rack by.before (opens_are_safe meant (members_to options.acceptors) world over.opening over.places) by.ran;
+  read = λ tells.
+      reads_so meant m.tells (tell tells).0 (tell tells).1 options.tries out.HadEnded given.input given.written by.between world out.rack by.before
+      (opening_remembered meant (tell tells).0 (tell tells).1 (members_to options.acceptors) world over.opening) by.ran;
 }
 
 -- ---- the world that was asked for

@@ -149,7 +149,9 @@ by_request : {D : Type 0} (meant : Meaning (DiskShelf D) D) (m : RackMeaning D) 
     → AreDisksToBlame m given.rack out.rack out.status
 by_request meant m (request.Script options) given out by = behind_blamed m given.rack out.rack by.ran.behind (ran_blamed meant m options.tries out.HadEnded given.input given.written by.ran.between _ by.ran.ran.last given.rack out.rack by.ran.before by.ran.ran.wrote)
 by_request meant m (request.Race options) given out by = behind_blamed m given.rack out.rack by.raced.behind (subst (λ (s : Status). AreDisksToBlame m given.rack out.rack s) (sym by.raced.raced.is) (race_blamed m given.rack out.rack by.raced.raced.ended))
-by_request meant m (request.Load load) given out by = load_blamed meant m load given.written out.written by.world by.loaded.last given.rack out.rack out.status by.loaded.wrote
+by_request meant m (request.Load options) given out by =
+    behind_blamed m given.rack out.rack by.loaded.behind
+    (load_blamed meant m options.load given.written by.loaded.between by.world by.loaded.loaded.last given.rack out.rack by.loaded.before by.loaded.loaded.wrote)
 by_request meant m request.Audit given out by = audit_blamed m given.rack out.rack given.input given.written out.written out.status by.wrote
 
 pub blamed : {D : Type 0} (meant : Meaning (DiskShelf D) D) (m : RackMeaning D) (asked : Request) (given : WentIn D) (out : CameOut D) → Wrote meant m asked given out

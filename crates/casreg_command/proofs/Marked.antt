@@ -83,15 +83,20 @@ before_ending Whole behind is = before_is status.Ok (λ e. absurd (cc e)) (λ e.
 before_ending TooMany behind is = before_is status.TooManyLines (λ e. absurd (cc e)) (λ e. absurd (cc e)) behind is
 before_ending (TooLong line) behind is = before_is (status.Endless line) (λ e. absurd (cc e)) (λ e. absurd (cc e)) behind is
 
+-- what holds of how it had ended, and of these two, holds of how it ends
+pub behind_holds : {asked : Bool} {marks : List Mark} {before : Status} {old new : Option (List ℕ)} {result : Status} (P : Status → Type 0)
+    → P status.WriteFault → P status.NoMemory → EndsBehindMarks asked marks before old new result → P before → P result
+behind_holds {before = before} {result = result} P on_fault on_memory behind held = go (behind_is behind)
+  where
+    go : (result ≡ before) ⊎ ((why : MarksFault) × (result ≡ status_of_marks why)) → P result
+    go (inl same) = subst P (sym same) held
+    go (inr (fault.WriteFault, why)) = subst P (sym why) on_fault
+    go (inr (fault.NoMemory, why)) = subst P (sym why) on_memory
+
 -- it names a disk where it had
 pub behind_blamed : {D : Type 0} (m : RackMeaning D) (rack back : Rack D) {asked : Bool} {marks : List Mark} {before : Status} {old new : Option (List ℕ)} {result : Status}
     → EndsBehindMarks asked marks before old new result → AreDisksToBlame m rack back before → AreDisksToBlame m rack back result
-behind_blamed m rack back {before = before} {result = result} behind blamed = go (behind_is behind)
-  where
-    go : (result ≡ before) ⊎ ((why : MarksFault) × (result ≡ status_of_marks why)) → AreDisksToBlame m rack back result
-    go (inl same) = subst (λ (s : Status). AreDisksToBlame m rack back s) (sym same) blamed
-    go (inr (fault.WriteFault, why)) = subst (λ (s : Status). AreDisksToBlame m rack back s) (sym why) tt
-    go (inr (fault.NoMemory, why)) = subst (λ (s : Status). AreDisksToBlame m rack back s) (sym why) tt
+behind_blamed m rack back behind blamed = behind_holds (λ (s : Status). AreDisksToBlame m rack back s) tt tt behind blamed
 
 -- ---- counts of faults
 pub low_or_high : (a b : ℕ) → (a < b) ⊎ (b ≤ a)
@@ -128,5 +133,5 @@ write_fault_behind a b c low high (cut_off why on all wrote is) first later wron
 pub is_audit : (asked : Request) → (UsesDisks asked → ⊥) → asked ≡ request.Audit
 is_audit (request.Script options) not = absurd (not tt)
 is_audit (request.Race options) not = absurd (not tt)
-is_audit (request.Load load) not = absurd (not tt)
+is_audit (request.Load options) not = absurd (not tt)
 is_audit request.Audit not = refl

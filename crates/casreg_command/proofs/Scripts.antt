@@ -164,14 +164,17 @@ load_proposers = unwrap_or (slice_get load_rules 1) no_rule
 abbrev load_tries : Rule
 load_tries = unwrap_or (slice_get load_rules 2) no_rule
 
+abbrev load_marks : Rule
+load_marks = unwrap_or (slice_get load_rules 3) no_rule
+
 abbrev load_seed : Rule
-load_seed = unwrap_or (slice_get load_rules 3) no_rule
+load_seed = unwrap_or (slice_get load_rules 4) no_rule
 
 abbrev load_lines : Rule
-load_lines = unwrap_or (slice_get load_rules 4) no_rule
+load_lines = unwrap_or (slice_get load_rules 5) no_rule
 
 abbrev load_help : Rule
-load_help = unwrap_or (slice_get load_rules 5) no_rule
+load_help = unwrap_or (slice_get load_rules 6) no_rule
 
 is_load_acceptors : IsOption load_rules load_acceptors
 unfolding clap_on_literals
@@ -185,6 +188,10 @@ is_load_tries : IsOption load_rules load_tries
 unfolding clap_on_literals
 is_load_tries = record { own = refl; action = refl; least = refl; most = refl; reading = refl }
 
+is_load_marks : IsOption load_rules load_marks
+unfolding clap_on_literals
+is_load_marks = record { own = refl; action = refl; least = refl; most = refl; reading = refl }
+
 is_load_seed : IsOption load_rules load_seed
 unfolding clap_on_literals
 is_load_seed = record { own = refl; action = refl; least = refl; most = refl; reading = refl }
@@ -195,7 +202,9 @@ is_load_lines = record { own = refl; action = refl; least = refl; most = refl; r
 
 load_known : (test : Rule → Bool) (a : Rule) → find test load_rules ≡ Some a → IsKnown load_rules a
 unfolding clap_on_literals
-load_known test a is = found_each (IsKnown load_rules) test load_rules a (inl is_load_acceptors, (inl is_load_proposers, (inl is_load_tries, (inl is_load_seed, (inl is_load_lines, (inr refl, tt)))))) is
+load_known test a is =
+    found_each (IsKnown load_rules) test load_rules a
+    (inl is_load_acceptors, (inl is_load_proposers, (inl is_load_tries, (inl is_load_marks, (inl is_load_seed, (inl is_load_lines, (inr refl, tt))))))) is
 
 no_load_places : (place : ℕ) → arg_by_index load_rules place ≡ None
 unfolding clap_on_literals
@@ -212,55 +221,77 @@ module _ (rows : List Row) (each : Each (Passes load_rules) rows) where
   with_three = with_default with_two load_tries
 
   abbrev with_four : List Row
-  with_four = with_default with_three load_seed
+  with_four = with_default with_three load_marks
 
   abbrev with_five : List Row
-  with_five = with_default with_four load_lines
+  with_five = with_default with_four load_seed
 
-  loads_pass : Each (Passes load_rules) with_five
+  abbrev with_six : List Row
+  with_six = with_default with_five load_lines
+
+  loads_pass : Each (Passes load_rules) with_six
   unfolding clap_on_literals
   loads_pass =
-      default_each load_rules load_lines is_load_lines (codes "1000") refl refl with_four (default_each load_rules load_seed is_load_seed (codes "1") refl refl with_three (default_each load_rules load_tries is_load_tries (codes "1") refl refl with_two
-      (default_each load_rules load_proposers is_load_proposers (codes "1") refl refl with_one (default_each load_rules load_acceptors is_load_acceptors (codes "3") refl refl rows each))))
+      default_each load_rules load_lines is_load_lines (codes "1000") refl refl with_five
+      (default_each load_rules load_seed is_load_seed (codes "1") refl refl with_four
+      (default_each load_rules load_marks is_load_marks (codes "no") refl refl with_three
+      (default_each load_rules load_tries is_load_tries (codes "1") refl refl with_two
+      (default_each load_rules load_proposers is_load_proposers (codes "1") refl refl with_one
+      (default_each load_rules load_acceptors is_load_acceptors (codes "3") refl refl rows each)))))
 
   -- what is there behind the tries stays
-  stays_there : (wanted : Text) → has_row wanted with_three ≡ true → has_row wanted with_five ≡ true
+  stays_there : (wanted : Text) → has_row wanted with_three ≡ true → has_row wanted with_six ≡ true
   unfolding clap_on_literals
-  stays_there wanted has = default_stays load_rules load_lines (codes "1000") refl wanted with_four (default_stays load_rules load_seed (codes "1") refl wanted with_three has)
+  stays_there wanted has =
+      default_stays load_rules load_lines (codes "1000") refl wanted with_five (default_stays load_rules load_seed (codes "1") refl wanted with_four
+      (default_stays load_rules load_marks (codes "no") refl wanted with_three has))
 
-  load_has_acceptors : has_row load_acceptors.id with_five ≡ true
+  load_has_acceptors : has_row load_acceptors.id with_six ≡ true
   unfolding clap_on_literals
-  load_has_acceptors = stays_there load_acceptors.id (default_stays load_rules load_tries (codes "1") refl load_acceptors.id with_two (default_stays load_rules load_proposers (codes "1") refl load_acceptors.id with_one (default_there load_rules load_acceptors (codes "3") refl rows)))
+  load_has_acceptors =
+      stays_there load_acceptors.id
+      (default_stays load_rules load_tries (codes "1") refl load_acceptors.id with_two
+      (default_stays load_rules load_proposers (codes "1") refl load_acceptors.id with_one (default_there load_rules load_acceptors (codes "3") refl rows)))
 
-  load_has_proposers : has_row load_proposers.id with_five ≡ true
+  load_has_proposers : has_row load_proposers.id with_six ≡ true
   unfolding clap_on_literals
-  load_has_proposers = stays_there load_proposers.id (default_stays load_rules load_tries (codes "1") refl load_proposers.id with_two (default_there load_rules load_proposers (codes "1") refl with_one))
+  load_has_proposers =
+      stays_there load_proposers.id
+      (default_stays load_rules load_tries (codes "1") refl load_proposers.id with_two (default_there load_rules load_proposers (codes "1") refl with_one))
 
-  load_has_tries : has_row load_tries.id with_five ≡ true
+  load_has_tries : has_row load_tries.id with_six ≡ true
   unfolding clap_on_literals
   load_has_tries = stays_there load_tries.id (default_there load_rules load_tries (codes "1") refl with_two)
 
-  load_has_seed : has_row load_seed.id with_five ≡ true
+  load_has_marks : has_row load_marks.id with_six ≡ true
   unfolding clap_on_literals
-  load_has_seed = default_stays load_rules load_lines (codes "1000") refl load_seed.id with_four (default_there load_rules load_seed (codes "1") refl with_three)
+  load_has_marks =
+      default_stays load_rules load_lines (codes "1000") refl load_marks.id with_five
+      (default_stays load_rules load_seed (codes "1") refl load_marks.id with_four (default_there load_rules load_marks (codes "no") refl with_three))
 
-  load_has_lines : has_row load_lines.id with_five ≡ true
+  load_has_seed : has_row load_seed.id with_six ≡ true
   unfolding clap_on_literals
-  load_has_lines = default_there load_rules load_lines (codes "1000") refl with_four
+  load_has_seed = default_stays load_rules load_lines (codes "1000") refl load_seed.id with_five (default_there load_rules load_seed (codes "1") refl with_four)
 
-  load_numbers : HasOptions with_five × HasDrawing with_five
+  load_has_lines : has_row load_lines.id with_six ≡ true
   unfolding clap_on_literals
-  load_numbers =
-      let a = read_passes load_rules load_acceptors with_five is_load_acceptors load_has_acceptors loads_pass in
-      let p = read_passes load_rules load_proposers with_five is_load_proposers load_has_proposers loads_pass in
-      let t = read_passes load_rules load_tries with_five is_load_tries load_has_tries loads_pass in
-      let s = read_passes load_rules load_seed with_five is_load_seed load_has_seed loads_pass in
-      let l = read_passes load_rules load_lines with_five is_load_lines load_has_lines loads_pass in (
+  load_has_lines = default_there load_rules load_lines (codes "1000") refl with_five
+
+  load_options : HasOptions with_six × HasMarks with_six × HasDrawing with_six
+  unfolding clap_on_literals
+  load_options =
+      let a = read_passes load_rules load_acceptors with_six is_load_acceptors load_has_acceptors loads_pass in
+      let p = read_passes load_rules load_proposers with_six is_load_proposers load_has_proposers loads_pass in
+      let t = read_passes load_rules load_tries with_six is_load_tries load_has_tries loads_pass in
+      let m = reads_first load_rules load_marks with_six is_load_marks load_has_marks loads_pass in
+      let s = read_passes load_rules load_seed with_six is_load_seed load_has_seed loads_pass in
+      let l = read_passes load_rules load_lines with_six is_load_lines load_has_lines loads_pass in (
         (
           (a.0, a.1, accepts-Accepts false (Unsigned 1 9) a.0 a.2),
           (p.0, p.1, accepts-Accepts false (Unsigned 1 16) p.0 p.2),
           (t.0, t.1, accepts-Accepts false (Unsigned 1 64) t.0 t.2),
         ),
+        ap is_some m.1,
         ((s.0, s.1, accepts-Accepts false (Unsigned 0 18446744073709551615) s.0 s.2), (l.0, l.1, accepts-Accepts false (Unsigned 0 100000) l.0 l.2)),
       )
 
@@ -272,9 +303,10 @@ load_leaf words none =
     let settles = neither (settle_fault load_rules loading.args_override_self end) _ parts.1 in
     let rows = walk_each load_rules load_known loading refl no_load_places [] words (walk_from nothing_held) parts.0 tt in
     let each = settled_each load_rules load_known loading.args_override_self end settles.0 rows in
-    let last : with_default (with_five (settled load_rules end).rows each) load_help ≡ with_five (settled load_rules end).rows each = default_none load_help (with_five (settled load_rules end).rows each) refl in
-    let both = subst (λ (l : List Row). HasOptions l × HasDrawing l) (sym last) (load_numbers (settled load_rules end).rows each) in
-    inr (inl (refl, both.0, both.1))
+    let filled = with_six (settled load_rules end).rows each in
+    let last : with_default filled load_help ≡ filled = default_none load_help filled refl in
+    let has = subst (λ (l : List Row). HasOptions l × HasMarks l × HasDrawing l) (sym last) (load_options (settled load_rules end).rows each) in
+    inr (inl (refl, has.0, has.1, has.2))
 
 -- ---- an audit, which has none
 abbrev auditing : Shape

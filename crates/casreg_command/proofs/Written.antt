@@ -28,14 +28,16 @@ use Rattle.cas_store.specs.declared.rack.RackFault.{RackFault}
 use Rattle.cas_store.specs.declared.rack.Rack.{Rack}
 use Rattle.casreg_script.specs.Stage.{Stage}
 use Rattle.casreg_script.specs.declared.load.Load.{Load}
-use Rattle.casreg_command.specs.Causes.{AnswersTo, AreFirstLines, WroteIn, EndsIn, IsOfDisk, IsRackOf, Ran, RanLeaving, Loaded, WroteSummary, UsesDisks, WentIn, CameOut, NothingRan, WroteBy, Wrote, not_opened, no_board, status_of, LoadEnds, whole, sink_failed, no_text, broke_off}
+use Rattle.casreg_command.specs.Causes.{AnswersTo, AreFirstLines, WroteIn, EndsIn, IsOfDisk, IsRackOf, Ran, RanLeaving, LoadedLeaving, LoadedOver, WroteSummary, UsesDisks, WentIn, CameOut, NothingRan, WroteBy, Wrote, not_opened, no_board, status_of, LoadEnds, whole, sink_failed, no_text, broke_off}
 use Rattle.cas_model.specs.View.{Meaning}
 use Rattle.casreg_script.specs.Script.{State, opening_state, AnswersLine, RanOrNot, not_run, ran, one_more, text_of, transcript_of}
 use Rattle.casreg_command.specs.Status.{status_of_fault, status_of_rack, status_of_opening}
 use Rattle.casreg_command.specs.Words.{AreWords, acceptors_of, proposers_of}
+use Rattle.casreg_command.specs.declared.words.LoadOptions.{LoadOptions}
 use Rattle.casreg_command.specs.declared.words.Options.{Options}
 use Rattle.casreg_command.specs.declared.words.Request.{Request}
 use Rattle.casreg_command.specs.declared.words.Request.TheVariants as request
+use Rattle.casreg_command.proofs.Marked.{behind_holds}
 use Rattle.casreg_command.proofs.Runs.{IsMidway, IsMidwayIn, IsNextLine, appends_both, transcript_more, midway-too_many, midway-endless}
 
 -- what holds of the error holds of the result that has it
@@ -232,6 +234,11 @@ summed_ends result (sink_failed summary sums wrote) = tt
 summed_ends result (no_text summary sums same) = tt
 summed_ends result (broke_off breaks same) = tt
 
+-- and those with which a load ends behind its record
+pub loaded_ends : {D : Type 0} {meant : Meaning (DiskShelf D) D} {tells : Type 0} {options : LoadOptions} {old new : Option (List ℕ)}
+    {world : View (DiskShelf D) D} {result : Status} {back : Rack D} → LoadedOver meant tells options old new world result back → LoadEnds result
+loaded_ends by = behind_holds LoadEnds tt tt by.behind (summed_ends by.before by.loaded.wrote)
+
 -- a run that ends well ends by the end of its input
 pub ends_whole : (input : Option (List ℕ)) → IfSome input (λ bytes. ending_of bytes ≡ Whole) → (ending : Ending) → status.Ok ≡ status_of ending
     → IfSome input (λ bytes. ending_of bytes ≡ ending)
@@ -271,17 +278,22 @@ leaving_from {D} meant tells tries made P input old new world closed stage marks
 }
 
 -- the same of a load
-pub loaded_from : {D : Type 0} (meant : Meaning (DiskShelf D) D) (tells : Type 0) (load : Load) (old new : Option (List ℕ)) (world closed : View (DiskShelf D) D) (marks : List Mark) (result : Status) (back : Rack D) → WroteSummary meant load old new world closed result → marks ≡ closed.marks → (tells → IsLegal (reverse marks))
+pub loaded_from : {D : Type 0} (meant : Meaning (DiskShelf D) D) (tells : Type 0) (load : Load) (old new : Option (List ℕ)) (world closed : View (DiskShelf D) D)
+    (marks : List Mark) (result : Status) (back : Rack D)
+    → WroteSummary meant load old new world closed result → marks ≡ closed.marks → (tells → IsLegal (reverse marks))
     → (tells → AreKept meant.disks.may_leave (reverse marks) back.acceptors.items) → (tells → AreHeld meant.disks.may_leave closed back.acceptors.items)
     → back.acceptors.items ≡ acceptor_disks closed.acceptors
-    → take (closed.last_proposer + 1) back.vaults.items ≡ disks_of closed.desks → Loaded meant tells load old new world result back
+    → take (closed.last_proposer + 1) back.vaults.items ≡ disks_of closed.desks → LoadedLeaving meant tells load old new world marks result back
 loaded_from meant tells load old new world closed marks result back wrote marks_are legal kept held acceptors vaults = record {
-  last = closed;
-  wrote = wrote;
-  legal = λ tell. subst (λ (l : List Mark). IsLegal (reverse l)) marks_are (legal tell);
-  kept = λ tell. subst (λ (l : List Mark). AreKept meant.disks.may_leave (reverse l) back.acceptors.items) marks_are (kept tell);
-  held = held;
-  rack = record { acceptors = acceptors; vaults = vaults };
+  loaded = record {
+    last = closed;
+    wrote = wrote;
+    legal = λ tell. subst (λ (l : List Mark). IsLegal (reverse l)) marks_are (legal tell);
+    kept = λ tell. subst (λ (l : List Mark). AreKept meant.disks.may_leave (reverse l) back.acceptors.items) marks_are (kept tell);
+    held = held;
+    rack = record { acceptors = acceptors; vaults = vaults };
+  };
+  marks_are = marks_are;
 }
 
 -- ---- nothing was run

@@ -25,9 +25,10 @@ use Rattle.cas_model.specs.View.{Meaning, View, IsAt}
 use Rattle.cas_board_world.specs.Blame.{AreDeserved}
 use Rattle.casreg_script.specs.Script.{State, LineAnswer, ScriptRun, IsInState, opening_state, transcript_of}
 use Rattle.casreg_script.specs.Stage.{Stage}
-use Rattle.casreg_progress.specs.Runs.{AreDoneWhereReady}
+use Rattle.casreg_progress.specs.Runs.{AreDoneWhereReady, AreSoWhereRead}
 use Rattle.casreg_command.specs.declared.status.Status.{Status}
 use Rattle.casreg_command.specs.declared.status.Status.TheVariants as status
+use Rattle.casreg_command.specs.declared.words.LoadOptions.{LoadOptions}
 use Rattle.casreg_command.specs.declared.words.Options.{Options}
 use Rattle.casreg_command.specs.Status.{status_of_rack, status_of_opening, status_of_race}
 use Rattle.cas_lines.specs.Sink.{AppendsFront}
@@ -63,7 +64,7 @@ LoadEnds (status.Endless line) = ⊥
 abbrev pub ReadsLines : Request → Type 0
 ReadsLines (request.Script options) = ⊤
 ReadsLines (request.Race options) = ⊤
-ReadsLines (request.Load load) = ⊥
+ReadsLines (request.Load options) = ⊥
 ReadsLines request.Audit = ⊤
 
 -- a status that names a disk
@@ -106,7 +107,7 @@ pub record Causes {D : Type 0} (words : List (List ℕ)) (given : WentIn D) (out
   pub completes : (asked : Request) → ReadsLines asked → AreWords words asked → (Rose given.source_faults out.source_faults → ⊥) → (Rose given.sink_faults out.sink_faults → ⊥)
       → IfSome given.input (λ bytes. (out.status ≡ status_of (ending_of bytes)) ⊎ (out.status ≡ status.NoMemory) ⊎ IsOfDisk out.status)
   -- and so does 0 of a load, which reads nothing
-  pub load_completes : (load : Load) → AreWords words (request.Load load) → (Rose given.sink_faults out.sink_faults → ⊥) → (out.status ≡ status.Ok) ⊎ (out.status ≡ status.NoMemory) ⊎ IsOfDisk out.status
+  pub load_completes : (options : LoadOptions) → AreWords words (request.Load options) → (Rose given.sink_faults out.sink_faults → ⊥) → (out.status ≡ status.Ok) ⊎ (out.status ≡ status.NoMemory) ⊎ IsOfDisk out.status
 
 -- ---- disks
 -- the disk of that number: those of acceptors are numbered from 0 on, and those of vaults from 64 on
@@ -235,6 +236,18 @@ pub record Loaded {D : Type 0} (meant : Meaning (DiskShelf D) D) (tells : Type 0
   pub held : tells → AreHeld meant.disks.may_leave last back.acceptors.items
   pub rack : IsRackOf last back
 
+-- the same of a load whose record has these marks
+pub record LoadedLeaving {D : Type 0} (meant : Meaning (DiskShelf D) D) (tells : Type 0) (load : Load) (old new : Option (List ℕ)) (world : View (DiskShelf D) D) (marks : List Mark) (result : Status) (back : Rack D) : Type 0 where
+  pub loaded : Loaded meant tells load old new world result back
+  pub marks_are : marks ≡ loaded.last.marks
+
+-- what a load wrote with its record behind its summary: how it had ended before, and what was written by then
+pub record LoadedOver {D : Type 0} (meant : Meaning (DiskShelf D) D) (tells : Type 0) (options : LoadOptions) (old new : Option (List ℕ)) (world : View (DiskShelf D) D) (result : Status) (back : Rack D) : Type 0 where
+  pub before : Status
+  pub between : Option (List ℕ)
+  pub loaded : Loaded meant tells options.load old between world before back
+  pub behind : EndsBehindMarks options.marks loaded.last.marks before between new result
+
 -- ---- a race
 -- what a race did whose record was legal, where disks tell what they keep, and tells what is so of the operator's calls, and what it wrote;
 -- what is acknowledged in that stands on the disks that come back, and whom a mark of it blames has a disk there that failed
@@ -269,12 +282,25 @@ AreDoneAlong {meant = meant} status.TooManyLines by = AreDoneWhereReady meant by
 AreDoneAlong {meant = meant} status.NoMemory by = AreDoneWhereReady meant by.wrote.run
 AreDoneAlong {meant = meant} (status.Endless line) by = AreDoneWhereReady meant by.wrote.run
 
+-- Along it, what each read was answered is so.
+abbrev pub AreReadSoAlong : {D : Type 0} {meant : Meaning (DiskShelf D) D} {tells : Type 0} {tries : ℕ} {HadEnded : List (List ℕ) → Type 0} {input old new : Option (List ℕ)} {world : View (DiskShelf D) D} {back : Rack D} (result : Status)
+    → Ran meant tells tries HadEnded input old new world result back → Type 0
+AreReadSoAlong {meant = meant} status.Ok by = AreSoWhereRead meant by.wrote.run
+AreReadSoAlong status.Usage by = ⊥
+AreReadSoAlong {meant = meant} status.ReadFault by = AreSoWhereRead meant by.wrote.run
+AreReadSoAlong {meant = meant} status.WriteFault by = AreSoWhereRead meant by.wrote.run
+AreReadSoAlong (status.NotEmpty disk) by = ⊥
+AreReadSoAlong (status.DiskFault disk) by = ⊥
+AreReadSoAlong {meant = meant} status.TooManyLines by = AreSoWhereRead meant by.wrote.run
+AreReadSoAlong {meant = meant} status.NoMemory by = AreSoWhereRead meant by.wrote.run
+AreReadSoAlong {meant = meant} (status.Endless line) by = AreSoWhereRead meant by.wrote.run
+
 -- ---- all of it
 -- a command over acceptors and proposers
 abbrev pub UsesDisks : Request → Type 0
 UsesDisks (request.Script options) = ⊤
 UsesDisks (request.Race options) = ⊤
-UsesDisks (request.Load load) = ⊤
+UsesDisks (request.Load options) = ⊤
 UsesDisks request.Audit = ⊥
 
 -- why a command whose words are right runs nothing: there was no memory, a disk is not known to be empty, the store did not open, or there was
@@ -291,8 +317,8 @@ pub record WroteNothing {D : Type 0} (m : RackMeaning D) (asked : Request) (give
   pub why : NothingRan m asked given out
   pub unwritten : out.written ≡ given.written
 
--- What a script wrote: all disks were empty, a new world opened over them, the script ran from that world to one whose record is legal, and
--- along it was done what nothing stood against.
+-- What a script wrote: all disks were empty, a new world opened over them, and the script ran from that world to one whose record is legal.
+-- Along it was done what nothing stood against, and reads were answered what is so.
 pub record WroteScript {D : Type 0} (meant : Meaning (DiskShelf D) D) (m : RackMeaning D) (options : Options) (given : WentIn D) (out : CameOut D) : Type 0 where
   pub rack : Rack D
   pub empty : IsAllEmpty m given.rack rack
@@ -300,14 +326,15 @@ pub record WroteScript {D : Type 0} (meant : Meaning (DiskShelf D) D) (m : RackM
   pub over : IsNewOver meant options.acceptors options.proposers rack world
   pub ran : RanOver meant m.tells options out.HadEnded given.input given.written out.written world out.status out.rack
   pub done : AreDoneAlong ran.before ran.ran
+  pub read : m.tells → AreReadSoAlong ran.before ran.ran
 
 -- what a load wrote, from a new world over empty disks to one whose record is legal
-pub record WroteLoad {D : Type 0} (meant : Meaning (DiskShelf D) D) (m : RackMeaning D) (load : Load) (given : WentIn D) (out : CameOut D) : Type 0 where
+pub record WroteLoad {D : Type 0} (meant : Meaning (DiskShelf D) D) (m : RackMeaning D) (options : LoadOptions) (given : WentIn D) (out : CameOut D) : Type 0 where
   pub rack : Rack D
   pub empty : IsAllEmpty m given.rack rack
   pub world : View (DiskShelf D) D
-  pub over : IsNewOver meant load.acceptors load.proposers rack world
-  pub loaded : Loaded meant m.tells load given.written out.written world out.status out.rack
+  pub over : IsNewOver meant options.load.acceptors options.load.proposers rack world
+  pub loaded : LoadedOver meant m.tells options given.written out.written world out.status out.rack
 
 -- what a race wrote over empty disks
 pub record WroteRaceOver {D : Type 0} (m : RackMeaning D) (options : Options) (given : WentIn D) (out : CameOut D) : Type 0 where
@@ -324,7 +351,7 @@ pub record WroteAudit {D : Type 0} (given : WentIn D) (out : CameOut D) : Type 0
 abbrev pub WroteBy : {D : Type 0} → Meaning (DiskShelf D) D → RackMeaning D → Request → WentIn D → CameOut D → Type 0
 WroteBy meant m (request.Script options) given out = WroteScript meant m options given out
 WroteBy meant m (request.Race options) given out = WroteRaceOver m options given out
-WroteBy meant m (request.Load load) given out = WroteLoad meant m load given out
+WroteBy meant m (request.Load options) given out = WroteLoad meant m options given out
 WroteBy meant m request.Audit given out = WroteAudit given out
 
 abbrev pub Wrote : {D : Type 0} → Meaning (DiskShelf D) D → RackMeaning D → Request → WentIn D → CameOut D → Type 0

@@ -12,6 +12,7 @@ use Rattle.clap.specs.declared.builder.value_parser.ValueParser.{ValueParser}
 use Rattle.clap.specs.declared.builder.value_parser.ValueParser.TheVariants.{Unsigned, String}
 use Rattle.casreg_script.specs.Load.{IsLoad}
 use Rattle.casreg_script.specs.declared.load.Load.{Load}
+use Rattle.casreg_command.specs.declared.words.LoadOptions.{LoadOptions}
 use Rattle.casreg_command.specs.declared.words.Options.{Options}
 use Rattle.casreg_command.specs.declared.words.Request.{Request}
 use Rattle.casreg_command.specs.declared.words.Request.TheVariants as request
@@ -26,22 +27,19 @@ option_of name parser fallback = record (new_rule name) {
   parser = Some parser;
 }
 
--- a command of this name over 1 to 9 acceptors, with 1 to 16 proposers of clients, whose callers try up to 64 times
+-- a command of this name over 1 to 9 acceptors, with 1 to 16 proposers of clients, whose callers try up to 64 times, and whose record may
+-- be written
 abbrev pub over_cluster : Text → App
-over_cluster name = with_rule (with_rule (with_rule (new_app name) (option_of (codes "acceptors") (Unsigned 1 9) (codes "3")))
-    (option_of (codes "proposers") (Unsigned 1 16) (codes "1"))) (option_of (codes "tries") (Unsigned 1 64) (codes "1"))
-
--- one of these whose record may be written
-abbrev pub with_marks : Text → App
-with_marks name = with_rule (over_cluster name) (option_of (codes "marks") String (codes "no"))
+over_cluster name = with_rule (with_rule (with_rule (with_rule (new_app name) (option_of (codes "acceptors") (Unsigned 1 9) (codes "3")))
+    (option_of (codes "proposers") (Unsigned 1 16) (codes "1"))) (option_of (codes "tries") (Unsigned 1 64) (codes "1"))) (option_of (codes "marks") String (codes "no"))
 
 -- a script
 abbrev pub script : App
-script = with_marks (codes "script")
+script = over_cluster (codes "script")
 
 -- a race
 abbrev pub race : App
-race = with_marks (codes "race")
+race = over_cluster (codes "race")
 
 -- a load by a seed, of up to 100,000 lines
 abbrev pub load : App
@@ -99,14 +97,14 @@ HasOptions rows = IsNumberIn 1 9 (one_of (codes "acceptors") rows) × IsNumberIn
 abbrev pub HasDrawing : List Row → Type 0
 HasDrawing rows = IsNumberIn 0 18446744073709551615 (one_of (codes "seed") rows) × IsNumberIn 0 100000 (one_of (codes "lines") rows)
 
--- `--marks` of a script or a race has some text
+-- `--marks` of such a command has some text
 abbrev pub HasMarks : List Row → Type 0
 HasMarks rows = is_some (first_of (codes "marks") rows) ≡ true
 
 -- a subcommand of this name has these options
 abbrev pub HasAll : Text → List Row → Type 0
 HasAll name rows = (((name ≡ codes "script") ⊎ (name ≡ codes "race")) × HasOptions rows × HasMarks rows)
-    ⊎ ((name ≡ codes "load") × HasOptions rows × HasDrawing rows) ⊎ (name ≡ codes "audit")
+    ⊎ ((name ≡ codes "load") × HasOptions rows × HasMarks rows × HasDrawing rows) ⊎ (name ≡ codes "audit")
 
 -- a script, a race, a load or an audit was met, with all of its options
 abbrev pub HasCommand : Option (Text × List Row) → Type 0
@@ -128,19 +126,20 @@ pub record HasNumbers (given : Option (Text × List Row)) (options : Options) : 
   pub tries : number_of (codes "tries") given ≡ Some options.tries
   pub marks : option_and_then (λ found. first_of (codes "marks") found.1) given ≡ Some (marks_word options.marks)
 
--- the numbers that the options of a load have
-pub record HasLoad (given : Option (Text × List Row)) (load : Load) : Type 0 where
-  pub acceptors : number_of (codes "acceptors") given ≡ Some load.acceptors
-  pub proposers : number_of (codes "proposers") given ≡ Some load.proposers
-  pub tries : number_of (codes "tries") given ≡ Some load.tries
-  pub seed : number_of (codes "seed") given ≡ Some load.seed
-  pub lines : number_of (codes "lines") given ≡ Some load.lines
+-- the numbers that the options of a load have, and what `--marks` says
+pub record HasLoad (given : Option (Text × List Row)) (options : LoadOptions) : Type 0 where
+  pub acceptors : number_of (codes "acceptors") given ≡ Some options.load.acceptors
+  pub proposers : number_of (codes "proposers") given ≡ Some options.load.proposers
+  pub tries : number_of (codes "tries") given ≡ Some options.load.tries
+  pub seed : number_of (codes "seed") given ≡ Some options.load.seed
+  pub lines : number_of (codes "lines") given ≡ Some options.load.lines
+  pub marks : option_and_then (λ found. first_of (codes "marks") found.1) given ≡ Some (marks_word options.marks)
 
 -- the subcommand that was met asks for that
 abbrev pub AsksFor : Option (Text × List Row) → Request → Type 0
 AsksFor given (request.Script options) = IsNamed (codes "script") given × HasNumbers given options
 AsksFor given (request.Race options) = IsNamed (codes "race") given × HasNumbers given options
-AsksFor given (request.Load load) = IsNamed (codes "load") given × HasLoad given load
+AsksFor given (request.Load options) = IsNamed (codes "load") given × HasLoad given options
 AsksFor given request.Audit = IsNamed (codes "audit") given
 
 -- The words are those of a command that asks for this: clap finds nothing wrong, the options have these numbers, and `--marks` says yes or no.
@@ -165,18 +164,18 @@ pub record IsLoadInRange (load : Load) : Type 0 where
 abbrev pub IsInRange : Request → Type 0
 IsInRange (request.Script options) = AreOptionsInRange options
 IsInRange (request.Race options) = AreOptionsInRange options
-IsInRange (request.Load load) = IsLoadInRange load
+IsInRange (request.Load options) = IsLoadInRange options.load
 IsInRange request.Audit = ⊤
 
 -- how large a cluster is asked for; none of an audit
 abbrev pub acceptors_of : Request → ℕ
 acceptors_of (request.Script options) = options.acceptors
 acceptors_of (request.Race options) = options.acceptors
-acceptors_of (request.Load load) = load.acceptors
+acceptors_of (request.Load options) = options.load.acceptors
 acceptors_of request.Audit = 0
 
 abbrev pub proposers_of : Request → ℕ
 proposers_of (request.Script options) = options.proposers
 proposers_of (request.Race options) = options.proposers
-proposers_of (request.Load load) = load.proposers
+proposers_of (request.Load options) = options.load.proposers
 proposers_of request.Audit = 0

@@ -11,8 +11,8 @@ ghost use Rattle.cas_store.specs.Rack.{rack_meaning};
 ghost use Rattle.casreg_script.specs.Script.{State, IsInState};
 ghost use Rattle.casreg_script.specs.Stage.{AllIdle};
 ghost use Rattle.casreg_command.specs.Causes.{EndsIn, LoadEnds, RanCommand, RanLeaving, RanOver, ReadsLines, UsesDisks, Wrote, status_of};
-ghost use Rattle.casreg_script.specs.declared.load.Load.{Load as ALoad};
 ghost use Rattle.casreg_command.specs.Words.{AreWords, AreOptionsInRange, IsInRange, acceptors_of, proposers_of};
+ghost use Rattle.casreg_command.specs.declared.words.LoadOptions.{LoadOptions as ALoadOptions};
 ghost use Rattle.casreg_command.specs.declared.words.Options.{Options as ScriptOptions};
 ghost use Rattle.casreg_command.specs.declared.words.Request.{Request as ARequest};
 
@@ -21,7 +21,7 @@ use crate::load::load_store;
 use crate::marks::end_with_marks;
 use crate::race::race_board;
 use crate::status::Status;
-use crate::words::{Options, Request, read_words};
+use crate::words::{LoadOptions, Options, Request, read_words};
 use cas_board::Board;
 use cas_disk::Disk;
 use cas_disk_shelf::DiskShelf;
@@ -47,14 +47,14 @@ use std::thread::Threads;
 /// - A load reads nothing. It runs lines that it draws, and writes the summary of their answers.
 /// - An audit reads a record, and writes one line that says whether it is legal. It leaves all disks alone.
 ///
-/// With `--marks yes` a script or a race writes its record behind all else, a line a mark, unless a write or memory failed before. The rack
-/// has 64 disks of acceptors and 17 of vaults. It comes back with the same disks in their places, and so do the 17 fates.
+/// With `--marks yes` a script, a race or a load writes its record behind all else, a line a mark, unless a write or memory failed before.
+/// The rack has 64 disks of acceptors and 17 of vaults. It comes back with the same disks in their places, and so do the 17 fates.
 ///
 /// The words are read by clap: `audit`, or `script`, `race` or `load` with these options.
 ///
 /// - `--acceptors`: 1 to 9, or 3 if it is not given; `--proposers`: 1 to 16, or 1; `--tries`: 1 to 64, or 1.
-/// - Of `load`, `--seed`: any `u64`, or 1; `--lines`: up to 100,000, or 1,000.
-/// - Of the others, `--marks`: `yes` or `no`, or `no`.
+/// - `--marks`: `yes` or `no`, or `no`.
+/// - `--seed` of `load`: any `u64`, or 1; `--lines` of it: up to 100,000, or 1,000.
 ///
 /// Then all disks are asked for their lengths in the order of their numbers, and each must be empty. Then the members' and the proposers'
 /// disks are started in that order. A line of a script asks for a change or for an event, or is a remark, which has no answer. Any other
@@ -77,14 +77,16 @@ pub fn cluster<R: Threads + Wait + Sync, S: Source, K: Sink, D: Disk + Send + Dr
     // What was written, command by command. A script and a load ran in a new world over the rack's disks, whose members are up. What is
     // said of records and of disks that come back holds if disks tell what they keep.
     // - Script: the transcript of a script run over the lines of the input. The record of that run is legal. Along it each change line that
-    //   nothing stood against was answered done, or that there was no memory, if the members and its proposer were up after it. The rack
-    //   that comes back holds the disks of its last world. If the source failed, the lines are all that had ended by then, and no others.
+    //   nothing stood against was answered done, or that there was no memory, if the members and its proposer were up after it. What each
+    //   read was answered is so. The rack that comes back holds the disks of its last world. If the source failed, the lines are all that
+    //   had ended by then, and no others.
     // - Load: the summary of the answers of the load run over the lines that its seed draws. The record of that run is legal. The rack that
     //   comes back holds the disks of its last world.
     // - Race: the text of a legal record. In it each caller's own marks are those of what its lines ask for, in their order, with the
     //   answers that are written. They tell of no more losses than its fate counted harms. No clause names its world.
     // - Audit: the line that says what is found in the lines of the input. No disk was touched.
-    // With `--marks yes` the text of the record stands behind that of a script or a race whose answers were all written.
+    // With `--marks yes` the text of the record stands behind that of a script or a race whose answers were all written, and of a load
+    // whose summary was.
     ensures ran { RanCommand (meaning ⟦<DiskShelf<D> as Shelf>⟧ D.Disk) (rack_meaning D.Disk)
         (map string_bytes words.now) (record {
           input = S.remaining source.old;
@@ -106,8 +108,8 @@ pub fn cluster<R: Threads + Wait + Sync, S: Source, K: Sink, D: Disk + Send + Dr
     ensures read { (asked : ARequest)
         → ReadsLines asked → AreWords (map string_bytes words.now) asked
         → result.0 ≡ Status.Ok → IsAtEnd (S.remaining source.new) }
-    ensures unread { (load : ALoad)
-        → AreWords (map string_bytes words.now) (Request.Load load) → source.new ≡ source.old }
+    ensures unread { (options : ALoadOptions)
+        → AreWords (map string_bytes words.now) (Request.Load options) → source.new ≡ source.old }
     ensures unraced { ((options : ScriptOptions) → AreWords (map string_bytes words.now)
         (Request.Race options) → ⊥) → fates.new ≡ fates.old }
     ensures untouched { result.0 ≡ Status.Usage
@@ -165,8 +167,8 @@ fn run<R: Threads + Wait + Sync, S: Source, K: Sink, D: Disk + Send + Drop, F: F
     ensures read { ReadsLines request → result.0 ≡ Status.Ok → IsAtEnd (S.remaining source.new) }
     ensures unraced { ((options : ScriptOptions) → request ≡ Request.Race options → ⊥)
         → fates.new ≡ fates.old }
-    ensures loads { (load : ALoad)
-        → request ≡ Request.Load load → (source.new ≡ source.old) × LoadEnds result.0 }
+    ensures loads { (options : ALoadOptions)
+        → request ≡ Request.Load options → (source.new ≡ source.old) × LoadEnds result.0 }
     ensures all_acceptors { vec_len result.1.acceptors ≡ 64 }
     ensures all_vaults { vec_len result.1.vaults ≡ 17 }
     ensures all_fates { vec_len fates.new ≡ 17 }
@@ -189,8 +191,8 @@ fn run<R: Threads + Wait + Sync, S: Source, K: Sink, D: Disk + Send + Drop, F: F
             }
             Err((fault, rack)) => (Status::from(fault), rack),
         },
-        Request::Load(load) => match Store::open(alloc, config, rack) {
-            Ok(store) => load_store(alloc, load, sink, store),
+        Request::Load(options) => match Store::open(alloc, config, rack) {
+            Ok(store) => load_store(alloc, options, sink, store),
             Err((fault, rack)) => (Status::from(fault), rack),
         },
         Request::Audit => unreachable!(),
@@ -228,9 +230,12 @@ fn config_of(request: Request) -> Config
             },
         )
         | Request::Load(
-            Load {
-                acceptors,
-                proposers,
+            LoadOptions {
+                load: Load {
+                    acceptors,
+                    proposers,
+                    ..
+                },
                 ..
             },
         ) => Config {

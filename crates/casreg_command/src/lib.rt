@@ -15,4 +15,4 @@ mod words;
 
 pub use fates::seeded_fates;
 pub use status::Status;
-pub use words::{Options, Request, read_words};
+pub use words::{LoadOptions, Options, Request, read_words};

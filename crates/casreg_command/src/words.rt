@@ -5,7 +5,7 @@ ghost use Rattle.clap.specs.Matches.{found_of};
 ghost use Rattle.clap.specs.Simple.{app_of, subcommand_rows_of};
 ghost use Rattle.clap.specs.Walk.{first_of, one_of, rows_of, rule_of};
 ghost use Rattle.clap.specs.declared.builder.command.Command.TheViews.{out-Command};
-ghost use Rattle.casreg_command.specs.Words.{option_of, over_cluster, with_marks, script, race, load, audit, running, casreg, command_line, faults_of, number_in, marks_word};
+ghost use Rattle.casreg_command.specs.Words.{option_of, over_cluster, script, race, load, audit, running, casreg, command_line, faults_of, number_in, marks_word};
 ghost use Rattle.casreg_command.specs.Words.{IsNumberIn, HasOptions, HasMarks, SaysNeither, HasDrawing, HasCommand, AsksFor, AreWords, AreOptionsInRange, IsLoadInRange, IsInRange};
 ghost use Rattle.casreg_command.specs.declared.words.Request.{Request as ARequest};
 
@@ -28,6 +28,15 @@ pub struct Options {
     pub marks: bool,
 }
 
+/// Which load is run, and what is written behind it.
+#[derive(Clone, Copy, Debug, PartialEq, Eq)]
+pub struct LoadOptions {
+    /// The load: of up to 100,000 lines, whose changes are tried up to 64 times.
+    pub load: Load,
+    /// Whether the record is written behind the summary.
+    pub marks: bool,
+}
+
 /// What the words ask for.
 #[derive(Clone, Copy, Debug, PartialEq, Eq)]
 pub enum Request {
@@ -36,15 +45,15 @@ pub enum Request {
     /// `race`: to run the lines of the input, each caller's in a thread of its own.
     Race(Options),
     /// `load`: to run lines that are drawn.
-    Load(Load),
+    Load(LoadOptions),
     /// `audit`: to audit the record that the input spells.
     Audit,
 }
 
-/// What the words ask for: the command `script`, `race`, `load` or `audit`. Of the first three the options `--acceptors` (1 to 9, or 3 where it is not given),
-/// `--proposers` (1 to 16, or 1) and `--tries` (1 to 64, or 1), and of `load` `--seed` (any `u64`, or 1) and `--lines` (up to 100,000,
-/// or 1,000), and of the other two `--marks` (`yes` or `no`, or `no`), may stand once each, in any order. `None` comes exactly where the words are none of a command; a request for help is none.
-/// Only memory can fail.
+/// What the words ask for: the command `script`, `race`, `load` or `audit`. Each option may stand once, in any order. The first three have
+/// `--acceptors` (1 to 9, or 3 if it is not given), `--proposers` (1 to 16, or 1), `--tries` (1 to 64, or 1) and `--marks` (`yes` or `no`,
+/// or `no`). `load` has `--seed` (any `u64`, or 1) and `--lines` (up to 100,000, or 1,000), too. `None` comes exactly if the words are none
+/// of a command; a request for help is none. Only memory can fail.
 pub fn read_words(alloc: Global, words: &[String]) -> Result<Option<Request>, AllocError>
     ensures words { IfOk result (λ request. MatchOption request
         ((other : ARequest) → AreWords (map string_bytes words.now) other → ⊥)
@@ -75,7 +84,7 @@ fn request_of(matches: &ArgMatches<'_>) -> Option<Request>
     if name == "audit" {
         Some(Request::Audit)
     } else if name == "load" {
-        Some(Request::Load(load_of(given)))
+        Some(Request::Load(load_of(given)?))
     } else if name == "race" {
         Some(Request::Race(options_of(given)?))
     } else {
@@ -124,29 +133,39 @@ fn marks_of(given: &ArgMatches<'_>) -> Option<bool>
     }
 }
 
-/// The options of `load`.
-fn load_of(given: &ArgMatches<'_>) -> Load
+/// The options of `load`: nothing if `--marks` says neither yes nor no.
+fn load_of(given: &ArgMatches<'_>) -> Option<LoadOptions>
     requires options { HasOptions (rows_of (found_of given.now)) }
+    requires marks { HasMarks (rows_of (found_of given.now)) }
     requires drawing { HasDrawing (rows_of (found_of given.now)) }
-    ensures acceptors { option_map number_in
-        (one_of (codes "acceptors") (rows_of (found_of given.now))) ≡ Some result.acceptors }
-    ensures proposers { option_map number_in
-        (one_of (codes "proposers") (rows_of (found_of given.now))) ≡ Some result.proposers }
-    ensures tries { option_map number_in (one_of (codes "tries") (rows_of (found_of given.now)))
-        ≡ Some result.tries }
-    ensures seed { option_map number_in (one_of (codes "seed") (rows_of (found_of given.now)))
-        ≡ Some result.seed }
-    ensures lines { option_map number_in (one_of (codes "lines") (rows_of (found_of given.now)))
-        ≡ Some result.lines }
-    ensures range { IsLoadInRange result }
+    ensures acceptors { IfSome result (λ options. option_map number_in
+        (one_of (codes "acceptors") (rows_of (found_of given.now)))
+        ≡ Some options.load.acceptors) }
+    ensures proposers { IfSome result (λ options. option_map number_in
+        (one_of (codes "proposers") (rows_of (found_of given.now)))
+        ≡ Some options.load.proposers) }
+    ensures tries { IfSome result (λ options. option_map number_in
+        (one_of (codes "tries") (rows_of (found_of given.now))) ≡ Some options.load.tries) }
+    ensures seed { IfSome result (λ options. option_map number_in
+        (one_of (codes "seed") (rows_of (found_of given.now))) ≡ Some options.load.seed) }
+    ensures lines { IfSome result (λ options. option_map number_in
+        (one_of (codes "lines") (rows_of (found_of given.now))) ≡ Some options.load.lines) }
+    ensures marks { MatchOption result (SaysNeither (rows_of (found_of given.now)))
+        (λ options. first_of (codes "marks") (rows_of (found_of given.now))
+        ≡ Some (marks_word options.marks)) }
+    ensures range { IfSome result (λ options. IsLoadInRange options.load) }
 {
-    Load {
-        acceptors: number_of(given, "acceptors", 9),
-        proposers: number_of(given, "proposers", 16),
-        tries: number_of(given, "tries", 64),
-        seed: seed_of(given),
-        lines: lines_of(given),
-    }
+    let marks = marks_of(given)?;
+    Some(LoadOptions {
+        load: Load {
+            acceptors: number_of(given, "acceptors", 9),
+            proposers: number_of(given, "proposers", 16),
+            tries: number_of(given, "tries", 64),
+            seed: seed_of(given),
+            lines: lines_of(given),
+        },
+        marks,
+    })
 }
 
 /// The seed that a load has.
@@ -215,7 +234,7 @@ fn script<'a>(alloc: Global) -> Result<Command<'a>, AllocError>
     ensures app { IfOk result (λ command. app_of command ≡ script) }
     ensures local { IfOk result (λ command. (out-Command command).has_globals ≡ false) }
 {
-    with_marks(alloc, "script")
+    over_cluster(alloc, "script")
 }
 
 /// The subcommand `race`.
@@ -223,7 +242,7 @@ fn race<'a>(alloc: Global) -> Result<Command<'a>, AllocError>
     ensures app { IfOk result (λ command. app_of command ≡ race) }
     ensures local { IfOk result (λ command. (out-Command command).has_globals ≡ false) }
 {
-    with_marks(alloc, "race")
+    over_cluster(alloc, "race")
 }
 
 /// The subcommand `load`.
@@ -250,15 +269,6 @@ fn audit<'a>(alloc: Global) -> Command<'a>
 }
 
 /// A subcommand of this name, with the options of a cluster and `--marks`.
-fn with_marks<'a>(alloc: Global, name: &'a str) -> Result<Command<'a>, AllocError>
-    ensures app { IfOk result (λ command. app_of command ≡ with_marks name.now) }
-    ensures local { IfOk result (λ command. (out-Command command).has_globals ≡ false) }
-{
-    let marks = option_of(alloc, "marks", ValueParser::String, "no");
-    over_cluster(alloc, name)?.arg(marks)
-}
-
-/// A subcommand of this name, with the options of a cluster.
 fn over_cluster<'a>(alloc: Global, name: &'a str) -> Result<Command<'a>, AllocError>
     ensures app { IfOk result (λ command. app_of command ≡ over_cluster name.now) }
     ensures local { IfOk result (λ command. (out-Command command).has_globals ≡ false) }
@@ -266,10 +276,12 @@ fn over_cluster<'a>(alloc: Global, name: &'a str) -> Result<Command<'a>, AllocEr
     let acceptors = option_of(alloc, "acceptors", value_parser!(u64).range(1..=9), "3");
     let proposers = option_of(alloc, "proposers", value_parser!(u64).range(1..=16), "1");
     let tries = option_of(alloc, "tries", value_parser!(u64).range(1..=64), "1");
+    let marks = option_of(alloc, "marks", ValueParser::String, "no");
     Command::new(alloc, name)
         .arg(acceptors)?
         .arg(proposers)?
-        .arg(tries)
+        .arg(tries)?
+        .arg(marks)
 }
 
 /// An option whose value is read so, and which has this value where it is not given.

@@ -175,7 +175,7 @@ fn races<R: AllocGlobal + Abort + Threads + Wait + Sync>(
 }
 
 /// Inputs, and what a race over each writes.
-const ROWS: [(&str, &str); 8] = [
+const ROWS: [(&str, &str); 10] = [
     ("", ""),
     ("# nothing\n\n", ""),
     (
@@ -201,6 +201,14 @@ const ROWS: [(&str, &str); 8] = [
     (
         "op collect a\nop probe a\n",
         "op: collected a at 1.0 removed 3 kept 0\nop: probe a 1=none 2=none 3=none\nhistory a 1\n0.1 always keep -> empty\n",
+    ),
+    (
+        "op read a\nop resize 3 2\nop read a\nop join 4\nop resize 2 1\nop rea a\n",
+        "bad 6 unknown word\nop: read a empty at 0.0\nop: resized 3 2 era 1 rescanned 0\nop: read a empty at 0.0\nop: not majority\nop: bad size\n",
+    ),
+    (
+        "op collect a\nop read a\n",
+        "op: collected a at 1.0 removed 3 kept 0\nop: read a empty at 0.0\nhistory a 1\n0.1 always keep -> empty\n",
     ),
 ];
 

@@ -19,6 +19,32 @@ ended 1.1 1 done v0 num 5 at 1.1 clause 0
 /// How long the answer is.
 const ANSWER: usize = 24;
 
+/// A load of two lines, of two callers, whose record is written.
+const LOAD: &str = "load --lines 2 --seed 7 --proposers 2 --marks yes";
+
+/// The summary of that, and its record, in which two frames are lost or late.
+const LOADED: &str = "load lines 2 done 2 conflict 0 unsettled 0 other 0
+record 15
+begun 2.1 k30 always keep
+proposed 2.1 k30 1.2 read 0.0 era 0 by 1,2,3
+voted 1 k30 1.2
+voted 2 k30 1.2
+voted 3 k30 1.2
+harmed 2.1 fate
+acked k30 1.2 era 0 by 1,2
+ended 2.1 1 done empty at 1.2 clause 0
+begun 1.1 k28 always add 1
+proposed 1.1 k28 1.1 read 0.0 era 0 by 1,2,3
+harmed 1.1 fate
+voted 2 k28 1.1
+voted 3 k28 1.1
+acked k28 1.1 era 0 by 2,3
+ended 1.1 1 done v0 num 1 at 1.1 clause 0
+";
+
+/// How long the summary is.
+const SUMMARY: usize = 51;
+
 #[test]
 fn the_record_stands_behind_all_else(rt: HostRuntime) -> Result<(), Fail> {
     for (words, input, written) in [
@@ -34,6 +60,17 @@ fn the_record_stands_behind_all_else(rt: HostRuntime) -> Result<(), Fail> {
             "race --marks yes",
             "show 1 a\n",
             "bad 1 unknown word\nrecord 0\n",
+        ),
+        (LOAD, "1 add a 5\n", LOADED),
+        (
+            "load --lines 2 --seed 7 --proposers 2 --marks no",
+            "",
+            &LOADED[..SUMMARY],
+        ),
+        (
+            "load --lines 0 --marks yes",
+            "",
+            "load lines 0 done 0 conflict 0 unsettled 0 other 0\nrecord 0\n",
         ),
     ] {
         let run = run(&rt, words, input.as_bytes(), FINE)?;
@@ -62,11 +99,20 @@ fn the_record_is_written_also_where_the_input_fails(rt: HostRuntime) -> Result<(
 /// The sink fails at its second call, which is the first of the record, and at its first.
 #[test]
 fn the_record_is_cut_off_where_the_sink_fails(rt: HostRuntime) -> Result<(), Fail> {
-    for (sink_fails, count) in [(2, ANSWER), (1, 0)] {
+    for (words, sink_fails, written) in [
+        ("script --marks yes", 2, &MARKED[..ANSWER]),
+        ("script --marks yes", 1, ""),
+        (LOAD, 2, &LOADED[..SUMMARY]),
+        (LOAD, 1, ""),
+    ] {
         let outside = Outside { sink_fails, ..FINE };
-        let run = run(&rt, "script --marks yes", b"1 add a 5\n", outside)?;
-        assert_eq!(rt; run.status, Status::WriteFault);
-        assert_eq!(rt; run.written.as_slice(), &MARKED.as_bytes()[..count]);
+        let run = run(&rt, words, b"1 add a 5\n", outside)?;
+        assert_eq!(rt; run.status, Status::WriteFault, "{words} at {sink_fails}");
+        assert_eq!(rt;
+            run.written.as_slice(),
+            written.as_bytes(),
+            "{words} at {sink_fails}"
+        );
     }
     Ok(())
 }
@@ -75,6 +121,7 @@ fn the_record_is_cut_off_where_the_sink_fails(rt: HostRuntime) -> Result<(), Fai
 fn a_record_is_audited(rt: HostRuntime) -> Result<(), Fail> {
     for (input, written) in [
         (&MARKED[ANSWER..], "legal\n"),
+        (&LOADED[SUMMARY..], "legal\n"),
         (MARKED, "bad 1 unknown word\n"),
         ("record 0\n", "legal\n"),
         ("", "bad 1 no word\n"),

@@ -1,6 +1,6 @@
 //! The words of the command line.
 
-use casreg_command::{Options, Request, read_words};
+use casreg_command::{LoadOptions, Options, Request, read_words};
 use casreg_script::Load;
 use std::test::Fail;
 
@@ -26,13 +26,26 @@ fn races(acceptors: u8, proposers: u8, tries: u8, marks: bool) -> Option<Request
 
 /// A load with these options is asked for.
 fn loads(acceptors: u8, proposers: u8, tries: u8, seed: u64, lines: u32) -> Option<Request> {
-    Some(Request::Load(Load {
+    loads_with_marks(acceptors, proposers, tries, seed, lines, false)
+}
+
+/// A load with these options is asked for, and its record or not.
+fn loads_with_marks(
+    acceptors: u8,
+    proposers: u8,
+    tries: u8,
+    seed: u64,
+    lines: u32,
+    marks: bool,
+) -> Option<Request> {
+    let load = Load {
         acceptors,
         proposers,
         tries,
         seed,
         lines,
-    }))
+    };
+    Some(Request::Load(LoadOptions { load, marks }))
 }
 
 #[test]
@@ -82,7 +95,16 @@ fn knows_the_words(rt: HostRuntime) -> Result<(), Fail> {
         ("script --marks Yes", None),
         ("script --marks", None),
         ("script --marks yes --marks yes", None),
-        ("load --marks yes", None),
+        ("load --marks yes", loads_with_marks(3, 1, 1, 1, 1000, true)),
+        (
+            "load --marks=yes --seed 2 --tries 3 --lines 4 --proposers 5",
+            loads_with_marks(3, 5, 3, 2, 4, true),
+        ),
+        ("load --lines 2 --marks no", loads(3, 1, 1, 1, 2)),
+        ("load --marks maybe", None),
+        ("load --marks", None),
+        ("load --marks no --marks yes", None),
+        ("audit --marks yes", None),
         ("audit", Some(Request::Audit)),
         ("audit --", Some(Request::Audit)),
         ("audit --tries 1", None),

@@ -33,7 +33,8 @@ returns-in-Ok-Some-clause-ran g c = record {
     ends = λ asked reads words. c.run.ensures.ends (reads_too g c asked reads words);
     completes = λ asked reads words no_read no_write.
         completes_of _ _ _ _ c.run.ensures.usage c.run.ensures.read_fault c.run.ensures.write_fault (c.run.ensures.ends (reads_too g c asked reads words)) no_read no_write;
-    load_completes = λ load words no_write. load_completes_of c.run.result.0 (c.run.ensures.loads load (only_one g c (request.Load load) words)).1 (λ is. no_write (c.run.ensures.write_fault is));
+    load_completes = λ options words no_write.
+        load_completes_of c.run.result.0 (c.run.ensures.loads options (only_one g c (request.Load options) words)).1 (λ is. no_write (c.run.ensures.write_fault is));
   };
   disks = blamed (stored g.D.Disk) (rack_meaning g.D.Disk) c.in-Ok-Some.request _ _ c.run.ensures.wrote;
 }
@@ -52,7 +53,7 @@ returns-in-Ok-None-clause-ran g c =
         write_fault = λ is. absurd (cc is);
         ends = λ asked reads words. absurd (none asked words);
         completes = λ asked reads words. absurd (none asked words);
-        load_completes = λ load words. absurd (none (request.Load load) words);
+        load_completes = λ options words. absurd (none (request.Load options) words);
       };
       disks = tt;
     }
@@ -69,7 +70,7 @@ returns-in-Err-clause-ran g c = record {
     write_fault = λ is. absurd (cc is);
     ends = λ asked reads words ending is. absurd (no_end ending is);
     completes = λ asked reads words no_read no_write. no_memory_completes _;
-    load_completes = λ load words no_write. inr (inl refl);
+    load_completes = λ options words no_write. inr (inl refl);
   };
   disks = tt;
 }
@@ -81,4 +82,4 @@ pub returns-in-Ok-Some-clause-unraced : goal.returns-in-Ok-Some-clause-unraced
 returns-in-Ok-Some-clause-unraced g c none = c.run.ensures.unraced (λ options is. none options (subst (AreWords (map string_bytes c.args.words.now)) is (are_words g c)))
 
 pub returns-in-Ok-Some-clause-unread : goal.returns-in-Ok-Some-clause-unread
-returns-in-Ok-Some-clause-unread g c load words = (c.run.ensures.loads load (only_one g c (request.Load load) words)).0
+returns-in-Ok-Some-clause-unread g c options words = (c.run.ensures.loads options (only_one g c (request.Load options) words)).0

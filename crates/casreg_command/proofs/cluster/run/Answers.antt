@@ -6,7 +6,7 @@ use Rattle.casreg_command.specs.Causes.{not_empty}
 use Rattle.casreg_command.specs.declared.words.Request.TheVariants as request
 use Rattle.casreg_command.proofs.Along.{ran_over, new_of}
 use Rattle.cas_store.proofs.Keeping.{stored}
-use Rattle.casreg_command.proofs.Written.{wrote_nothing, closed_still, no_race, wrote_by, summed_ends}
+use Rattle.casreg_command.proofs.Written.{wrote_nothing, closed_still, no_race, wrote_by, loaded_ends}
 use Rattle.casreg_script.proofs.Opened.{new_idle, new_quiet}
 use Rattle.casreg_command.proofs.Marked.{is_audit}
 use Rattle.casreg_command.proofs.cluster.run.Goals as goal
@@ -40,23 +40,23 @@ pub load_store-requires-clause-quiet : goal.load_store-requires-clause-quiet
 load_store-requires-clause-quiet g c = new_quiet _ _ c.in-Ok-open-2.store.world c.in-Ok-open-2.ensures.opening
 
 pub returns-in-Ok-clause-wrote : goal.returns-in-Ok-clause-wrote
-returns-in-Ok-clause-wrote g c = wrote_by (stored g.D.Disk) (rack_meaning g.D.Disk) c.args.request (request.Script c.in-Script.options) _ _ c.in-Script.is (ran_over c.in-Script.options c.expect_empty.new.self c.in-Ok.store.world c.in_default.ensures.ok
+returns-in-Ok-clause-wrote g c = wrote_by (stored g.D.Disk) (rack_meaning g.D.Disk) c.args.request (request.Script c.in-Script.options) _ _ c.in-Script.is (ran_over c.in-Script.options c.expect_empty.new.self c.in-Ok.store.world (λ tells. (tells, tells)) c.in_default.ensures.ok
     (new_of c.config_of-config.result.acceptors c.config_of-config.result.proposers c.args.request (request.Script c.in-Script.options) c.config_of-config.ensures.acceptors c.config_of-config.ensures.proposers c.in-Script.is
     (record { opening = c.in-Ok.ensures.opening; places = c.in-Ok.ensures.places; last_proposer = c.in-Ok.ensures.last_proposer; shelves = c.in-Ok.ensures.acceptors; vaults = c.in-Ok.ensures.vaults; up = c.in-Ok.ensures.up }))
     c.run_script.ensures.ran)
 
 pub returns-in-Ok-open-2-clause-wrote : goal.returns-in-Ok-open-2-clause-wrote
-returns-in-Ok-open-2-clause-wrote g c = wrote_by (stored g.D.Disk) (rack_meaning g.D.Disk) c.args.request (request.Load c.in-Load.load) _ _ c.in-Load.is (record {
+returns-in-Ok-open-2-clause-wrote g c = wrote_by (stored g.D.Disk) (rack_meaning g.D.Disk) c.args.request (request.Load c.in-Load.options) _ _ c.in-Load.is (record {
   rack = c.expect_empty.new.self;
   empty = c.in_default.ensures.ok;
   world = c.in-Ok-open-2.store.world;
-  over = new_of c.config_of-config.result.acceptors c.config_of-config.result.proposers c.args.request (request.Load c.in-Load.load) c.config_of-config.ensures.acceptors c.config_of-config.ensures.proposers c.in-Load.is
+  over = new_of c.config_of-config.result.acceptors c.config_of-config.result.proposers c.args.request (request.Load c.in-Load.options) c.config_of-config.ensures.acceptors c.config_of-config.ensures.proposers c.in-Load.is
       (record { opening = c.in-Ok-open-2.ensures.opening; places = c.in-Ok-open-2.ensures.places; last_proposer = c.in-Ok-open-2.ensures.last_proposer; shelves = c.in-Ok-open-2.ensures.acceptors; vaults = c.in-Ok-open-2.ensures.vaults; up = c.in-Ok-open-2.ensures.up });
   loaded = c.load_store.ensures.loaded;
 })
 
 pub returns-in-Ok-open-2-clause-loads : goal.returns-in-Ok-open-2-clause-loads
-returns-in-Ok-open-2-clause-loads g c load is = (refl, summed_ends c.load_store.result.0 c.load_store.ensures.loaded.wrote)
+returns-in-Ok-open-2-clause-loads g c options is = (refl, loaded_ends c.load_store.ensures.loaded)
 
 pub returns-in-Err-open-3-clause-wrote : goal.returns-in-Err-open-3-clause-wrote
 returns-in-Err-open-3-clause-wrote g c =

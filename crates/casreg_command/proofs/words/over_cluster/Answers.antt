@@ -15,16 +15,19 @@ returns-clause-app c =
     c.option_of-proposers.ensures.rule ∙ ap (λ (p : ValueParser). option_of (codes "proposers") p (codes "1")) ((rw c.value_parser-2.ensures at c.range-2.ensures) ∙ ap₂ narrowed c.new-2.ensures.start c.new-2.ensures.end) in
     let tries : rule_of c.option_of-tries.result ≡ option_of (codes "tries") (Unsigned 1 64) (codes "1") =
     c.option_of-tries.ensures.rule ∙ ap (λ (p : ValueParser). option_of (codes "tries") p (codes "1")) ((rw c.value_parser-3.ensures at c.range-3.ensures) ∙ ap₂ narrowed c.new-3.ensures.start c.new-3.ensures.end) in
-    if_ok c.arg-3.result _ _
-    (λ r adds. adds.shape c.option_of-tries.ensures.local ∙ ap₂ with_rule
+    if_ok c.arg-4.result _ _
+    (λ r adds. adds.shape c.option_of-marks.ensures.local ∙ ap₂ with_rule
+    (c.in_ok-arg-3.ensures.shape c.option_of-tries.ensures.local ∙ ap₂ with_rule
     (c.in_ok-arg-2.ensures.shape c.option_of-proposers.ensures.local ∙ ap₂ with_rule
-    (c.in_ok-arg.ensures.shape c.option_of-acceptors.ensures.local ∙ ap₂ with_rule c.new-4.ensures.app acceptors) proposers) tries)
-    c.arg-3.ensures
+    (c.in_ok-arg.ensures.shape c.option_of-acceptors.ensures.local ∙ ap₂ with_rule c.new-4.ensures.app acceptors) proposers) tries) c.option_of-marks.ensures.rule)
+    c.arg-4.ensures
 
 pub returns-clause-local : goal.returns-clause-local
 returns-clause-local c =
-    if_ok c.arg-3.result _ _
+    if_ok c.arg-4.result _ _
     (λ r adds. adds.globals ∙ ap₂ (λ (a b : Bool). a || b)
+    (c.in_ok-arg-3.ensures.globals ∙ ap₂ (λ (a b : Bool). a || b)
     (c.in_ok-arg-2.ensures.globals ∙ ap₂ (λ (a b : Bool). a || b)
-    (c.in_ok-arg.ensures.globals ∙ ap₂ (λ (a b : Bool). a || b) c.new-4.ensures.local c.option_of-acceptors.ensures.local) c.option_of-proposers.ensures.local) c.option_of-tries.ensures.local)
-    c.arg-3.ensures
+    (c.in_ok-arg.ensures.globals ∙ ap₂ (λ (a b : Bool). a || b) c.new-4.ensures.local c.option_of-acceptors.ensures.local)
+    c.option_of-proposers.ensures.local) c.option_of-tries.ensures.local) c.option_of-marks.ensures.local)
+    c.arg-4.ensures

@@ -12,8 +12,8 @@ use Rattle.clap.specs.Simple.{App, is_simple, matches_of, subcommand_of, subcomm
 use Rattle.clap.specs.Walk.{Row, Text, rows_of}
 use Rattle.clap.specs.declared.parser.matches.ArgMatches.{ArgMatches}
 use Rattle.clap.proofs.OnLiterals.{clap_on_literals}
+use Rattle.casreg_command.specs.declared.words.LoadOptions.{LoadOptions}
 use Rattle.casreg_command.specs.declared.words.Options.{Options}
-use Rattle.casreg_script.specs.declared.load.Load.{Load}
 use Rattle.casreg_command.specs.declared.words.Request.{Request}
 use Rattle.casreg_command.specs.declared.words.Request.TheVariants as request
 use Rattle.std.specs.Prelude.{IfSome, MatchOption}
@@ -93,13 +93,18 @@ same_options given a b x y =
     ∙ ap (λ (n : ℕ). record { acceptors = b.acceptors; proposers = b.proposers; tries = n; marks = a.marks }) (same_number _ _ _ x.tries y.tries)
     ∙ ap (λ (m : Bool). record { acceptors = b.acceptors; proposers = b.proposers; tries = b.tries; marks = m }) (says_same _ _ _ x.marks y.marks)
 
-same_load : (given : Option (Text × List Row)) (a b : Load) → HasLoad given a → HasLoad given b → a ≡ b
+-- these options of a load
+abbrev loading : ℕ → ℕ → ℕ → ℕ → ℕ → Bool → LoadOptions
+loading acceptors proposers tries seed lines marks = record { load = record { acceptors = acceptors; proposers = proposers; tries = tries; seed = seed; lines = lines }; marks = marks }
+
+same_load : (given : Option (Text × List Row)) (a b : LoadOptions) → HasLoad given a → HasLoad given b → a ≡ b
 same_load given a b x y =
-    ap (λ (n : ℕ). record { acceptors = n; proposers = a.proposers; tries = a.tries; seed = a.seed; lines = a.lines }) (same_number _ _ _ x.acceptors y.acceptors)
-    ∙ ap (λ (n : ℕ). record { acceptors = b.acceptors; proposers = n; tries = a.tries; seed = a.seed; lines = a.lines }) (same_number _ _ _ x.proposers y.proposers)
-    ∙ ap (λ (n : ℕ). record { acceptors = b.acceptors; proposers = b.proposers; tries = n; seed = a.seed; lines = a.lines }) (same_number _ _ _ x.tries y.tries)
-    ∙ ap (λ (n : ℕ). record { acceptors = b.acceptors; proposers = b.proposers; tries = b.tries; seed = n; lines = a.lines }) (same_number _ _ _ x.seed y.seed)
-    ∙ ap (λ (n : ℕ). record { acceptors = b.acceptors; proposers = b.proposers; tries = b.tries; seed = b.seed; lines = n }) (same_number _ _ _ x.lines y.lines)
+    ap (λ (n : ℕ). loading n a.load.proposers a.load.tries a.load.seed a.load.lines a.marks) (same_number _ _ _ x.acceptors y.acceptors)
+    ∙ ap (λ (n : ℕ). loading b.load.acceptors n a.load.tries a.load.seed a.load.lines a.marks) (same_number _ _ _ x.proposers y.proposers)
+    ∙ ap (λ (n : ℕ). loading b.load.acceptors b.load.proposers n a.load.seed a.load.lines a.marks) (same_number _ _ _ x.tries y.tries)
+    ∙ ap (λ (n : ℕ). loading b.load.acceptors b.load.proposers b.load.tries n a.load.lines a.marks) (same_number _ _ _ x.seed y.seed)
+    ∙ ap (λ (n : ℕ). loading b.load.acceptors b.load.proposers b.load.tries b.load.seed n a.marks) (same_number _ _ _ x.lines y.lines)
+    ∙ ap (λ (m : Bool). loading b.load.acceptors b.load.proposers b.load.tries b.load.seed b.load.lines m) (says_same _ _ _ x.marks y.marks)
 
 -- a subcommand has one name
 one_name : (given : Option (Text × List Row)) (name other : Text) (A : Type 0) → (name ≡ other → ⊥) → IsNamed name given → IsNamed other given → A
@@ -127,7 +132,7 @@ load_or_audit same = let first : 108 ≡ 97 = ap (λ (l : Text). get_or l 0 0) s
 same_request : (given : Option (Text × List Row)) (a b : Request) → AsksFor given a → AsksFor given b → a ≡ b
 same_request given (request.Script a) (request.Script b) x y = ap (λ (o : Options). request.Script o) (same_options given a b x.1 y.1)
 same_request given (request.Race a) (request.Race b) x y = ap (λ (o : Options). request.Race o) (same_options given a b x.1 y.1)
-same_request given (request.Load a) (request.Load b) x y = ap (λ (l : Load). request.Load l) (same_load given a b x.1 y.1)
+same_request given (request.Load a) (request.Load b) x y = ap (λ (o : LoadOptions). request.Load o) (same_load given a b x.1 y.1)
 same_request given (request.Script a) (request.Race b) x y = one_name given _ _ _ script_or_race x.0 y.0
 same_request given (request.Race a) (request.Script b) x y = one_name given _ _ _ script_or_race y.0 x.0
 same_request given (request.Script a) (request.Load b) x y = one_name given _ _ _ script_or_load x.0 y.0
