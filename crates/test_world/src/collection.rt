@@ -14,10 +14,11 @@ ghost use Rattle.cas_world.specs.Collection.Collect.{leaves_no_call};
 ghost use Rattle.cas_world.specs.Exchanges.Exchange.{MayAskThis, WasToldOrder};
 ghost use Rattle.cas_world.specs.Eras.Plans.{HasCollectedAll};
 ghost use Rattle.cas_world.specs.Readers.{next_number};
-ghost use Rattle.casreg_script.specs.Collection.Collecting.{HasStopped, IsBuried, IsDue, IsInRound, IsRunning};
+ghost use Rattle.casreg_script.specs.Collection.Collecting.{HasStopped, IsTombstoneSet, IsDue, IsInRound, IsRunning};
 ghost use Rattle.casreg_script.specs.Exchanges.Exchanges.{CameOf, IsAsking, KeepsOrder};
 ghost use Rattle.casreg_script.specs.Exchanges.Orders.{IsOrdered, IsFree};
 ghost use Rattle.casreg_script.specs.Calls.Playing.{AskedCall as Wanted, IsOver, IsPlaying};
+ghost use Rattle.test_world.specs.Tasks.{IsOfRemoval};
 ghost use Rattle.test_world.specs.Play.{Goes, Leads};
 
 use cas_ballot::AcceptorId;
@@ -47,7 +48,7 @@ pub fn begin_collection<S: Shelf, V: Disk>(
     ensures goes { Goes world.old world.new }
 {
     match world.order(asked) {
-        Ok(()) => match bury(world, links, key, program) {
+        Ok(()) => match set_tombstone(world, links, key, program) {
             Ok(()) => Ok(()),
             Err(told) => Err(world.tell(told)),
         },
@@ -56,7 +57,7 @@ pub fn begin_collection<S: Shelf, V: Disk>(
 }
 
 /// Runs the call of the collection, and gathers what its round came to. An `Err` is what the operator's call was told.
-fn bury<S: Shelf, V: Disk>(
+fn set_tombstone<S: Shelf, V: Disk>(
     world: &mut World<S, V>,
     links: &mut Links,
     key: &Key,
@@ -85,7 +86,7 @@ fn run_call<S: Shelf, V: Disk>(
     requires ordered { IsOrdered world.old (ToCollect key.now) }
     requires free { IsFree world.old }
     requires program { program.now ≡ keep_always }
-    ensures buried { OnOk result (IsBuried world.new key.now) }
+    ensures tombstone_set { OnOk result (IsTombstoneSet world.new key.now) }
     ensures told { IfErr result (WasToldOrder world.new) }
     ensures goes { Goes world.old world.new }
 {
@@ -114,7 +115,7 @@ fn begin_call<S: Shelf, V: Disk>(
     requires program { program.now ≡ keep_always }
     ensures stopped { IfOk result (λ told. IfSome told
         (HasStopped world.new (record { number = call; key = key.now; program = keep_always }))) }
-    ensures buried { IfOk result (λ told. IfNone told (IsBuried world.new key.now)) }
+    ensures tombstone_set { IfOk result (λ told. IfNone told (IsTombstoneSet world.new key.now)) }
     ensures told { IfErr result (WasToldOrder world.new) }
     ensures none { OnErr result (HasNoCall world.new 0) }
     ensures leads { Leads world.old world.new }
@@ -159,8 +160,8 @@ fn round<S: Shelf, V: Disk>(world: &mut World<S, V>, links: &mut Links) -> Optio
     requires running { (asked : Wanted) × IsRunning world.old asked }
     ensures stopped { (asked : Wanted)
         → IsRunning world.old asked → IfSome result (HasStopped world.new asked) }
-    ensures buried { (asked : Wanted)
-        → IsRunning world.old asked → IfNone result (IsBuried world.new asked.key) }
+    ensures tombstone_set { (asked : Wanted)
+        → IsRunning world.old asked → IfNone result (IsTombstoneSet world.new asked.key) }
     ensures leads { Leads world.old world.new }
 {
     if world.has_proposed(0) {
@@ -178,8 +179,8 @@ fn prepare<S: Shelf, V: Disk>(world: &mut World<S, V>, links: &mut Links) -> Res
     requires open { (asked : Wanted) × IsInRound world.old asked false }
     ensures plays { (asked : Wanted) → IsInRound world.old asked false
         → result ≡ Ok Reading.Empty → IsInRound world.new asked true }
-    ensures buried { (asked : Wanted) (version : ℕ) → IsInRound world.old asked false
-        → result ≡ Ok (Reading.Held version) → IsBuried world.new asked.key }
+    ensures tombstone_set { (asked : Wanted) (version : ℕ) → IsInRound world.old asked false
+        → result ≡ Ok (Reading.Held version) → IsTombstoneSet world.new asked.key }
     ensures stopped { (asked : Wanted)
         → IsInRound world.old asked false → IfErr result (HasStopped world.new asked) }
     ensures leads { Leads world.old world.new }
@@ -284,13 +285,14 @@ fn collected<S: Shelf, V: Disk>(world: &World<S, V>, key: Key) -> OpAnswer
     }
 }
 
-/// Asks all members, and gathers what they told. An `Err` is what the operator's call was told.
+/// Asks all members for a step of a removal, and gathers what they told. An `Err` is what the operator's call was told.
 fn exchange<S: Shelf, V: Disk>(
     world: &mut World<S, V>,
     links: &mut Links,
     what: Exchange,
 ) -> Result<Gathered, OpAnswer>
     requires may { MayAskThis world.old what }
+    requires removal { IsOfRemoval what }
     ensures gathered { IfOk result (λ gathered. CameOf what world.old gathered world.new) }
     ensures told { IfErr result (WasToldOrder world.new) }
     ensures goes { Goes world.old world.new }

@@ -3,8 +3,8 @@
 
 use crate::rows::{Row, Stop, play};
 use crate::steps::Step::{
-    Add, BeginAdd, Bury, Clear, Closed, Count, Get, Net, Propose, Remove, Renew, Restart, Stray,
-    Turn, Turns,
+    Add, BeginAdd, Clear, Closed, Count, Get, Net, Propose, Remove, Renew, Restart, SetTombstone,
+    Stray, Turn, Turns,
 };
 use cas_disk::Image;
 use cas_fate::{Leg, Verdict};
@@ -17,8 +17,8 @@ const RENEWED: [Row; 3] = [
         steps: &[
             BeginAdd(1, "a", 1),
             Turns(1),
-            Bury("a"),
-            Bury("a"),
+            SetTombstone("a"),
+            SetTombstone("a"),
             Renew,
             Renew,
             Propose(1),
@@ -35,8 +35,8 @@ const RENEWED: [Row; 3] = [
             BeginAdd(1, "a", 1),
             Turns(1),
             Propose(1),
-            Bury("a"),
-            Bury("a"),
+            SetTombstone("a"),
+            SetTombstone("a"),
             Renew,
             Renew,
             Count(1),
@@ -59,9 +59,9 @@ const RENEWED: [Row; 3] = [
             Propose(1),
             Turn(1),
             Net(Leg::Prepare, Some(1), Verdict::Lose),
-            Bury("a"),
-            Bury("a"),
-            Bury("a"),
+            SetTombstone("a"),
+            SetTombstone("a"),
+            SetTombstone("a"),
             Renew,
             Renew,
             Count(1),
@@ -85,15 +85,15 @@ fn renews_a_proposer_whose_round_is_open(rt: HostRuntime) -> Result<(), Fail> {
 
 /// Accepts that the network made late, and that stray in after the floor.
 const TOO_LATE: [Row; 3] = [
-    // Of a change that was done, below the tombstone.
+    // The change was done below the tombstone.
     Row {
         steps: &[
             Net(Leg::Accept, Some(3), Verdict::Late),
             Add(1, "a", 5),
             Net(Leg::Accept, Some(3), Verdict::Deliver),
             Clear(1, "a"),
-            Bury("a"),
-            Bury("a"),
+            SetTombstone("a"),
+            SetTombstone("a"),
             Renew,
             Renew,
             Renew,
@@ -103,13 +103,13 @@ const TOO_LATE: [Row; 3] = [
         lines: "show 3 a\n2 get a\n",
         want: "ok\n1: done v0 num 5 at 1.1\nok\n1: done empty at 2.1\nop: conflict 3.1\nok\nrenewed 0 to 1\nrenewed 1 to 1\nrenewed 2 to 1\nop: collected a at 4.0 removed 3 kept 0\nok\n3 a: none\n2: done empty at 5.2\n",
     },
-    // Of a tombstone that one member did not acknowledge, below the one that all did.
+    // One member did not acknowledge the first tombstone, which is below the one that all did.
     Row {
         steps: &[
             Net(Leg::Accept, Some(3), Verdict::Late),
-            Bury("a"),
+            SetTombstone("a"),
             Net(Leg::Accept, Some(3), Verdict::Deliver),
-            Bury("a"),
+            SetTombstone("a"),
             Renew,
             Renew,
             Renew,
@@ -119,10 +119,10 @@ const TOO_LATE: [Row; 3] = [
         lines: "show 3 a\n1 get a\n",
         want: "ok\nop: absent 3\nok\nok\nrenewed 0 to 1\nrenewed 1 to 1\nrenewed 2 to 1\nop: collected a at 2.0 removed 3 kept 0\nok\n3 a: none\n1: done empty at 3.1\n",
     },
-    // Of a change that began after the tombstone, above it. The members keep their slots for what they promised, and nothing is accepted.
+    // The change began after the tombstone, and is above it. The members keep their slots for what they promised, and nothing is accepted.
     Row {
         steps: &[
-            Bury("a"),
+            SetTombstone("a"),
             BeginAdd(1, "a", 5),
             Turns(1),
             Net(Leg::Accept, None, Verdict::Late),
@@ -157,12 +157,12 @@ fn takes_no_accept_that_is_older_than_the_floor(rt: HostRuntime) -> Result<(), F
 fn renews_again_where_a_vault_stopped(rt: HostRuntime) -> Result<(), Fail> {
     let steps = [
         Get(1, "a"),
-        Bury("a"),
-        Bury("a"),
+        SetTombstone("a"),
+        SetTombstone("a"),
         Renew,
         Renew,
         Restart(1),
-        Bury("a"),
+        SetTombstone("a"),
         Renew,
         Renew,
         Renew,

@@ -317,7 +317,7 @@ impl<S: Shelf, V: Disk> Player<S, V> {
 
     /// A call of the operator opens the collection of the key, whose tombstone is proposed and acknowledged in one round. What becomes of
     /// each frame the links say. One that stops is ended. `None` comes also where no memory was found.
-    pub fn bury(
+    pub fn set_tombstone(
         &mut self,
         alloc: Global,
         links: &mut Links,

@@ -48,7 +48,7 @@ pub enum Step {
     /// The next proposer enters the era that the change leads to.
     Enter,
     /// The operator's call opens a collection, whose tombstone is proposed and acknowledged.
-    Bury(&'static str),
+    SetTombstone(&'static str),
     /// The next proposer is renewed for the collection.
     Renew,
     /// The other steps of the collection are made, and the operator's call ends.
@@ -105,7 +105,7 @@ impl<S: Shelf, V: Disk> Play<S, V> {
             Step::BeginAdd(caller, key, number) => self.begin(caller, key, Act::Add(number)),
             Step::BeginGet(caller, key) => self.begin(caller, key, Act::Keep),
             Step::Join(id) => self.join(id),
-            Step::Bury(key) => self.bury(key),
+            Step::SetTombstone(key) => self.set_tombstone(key),
             other => Ok(self.call(other)?),
         }
     }
@@ -261,9 +261,9 @@ impl<S: Shelf, V: Disk> Play<S, V> {
         }
     }
 
-    fn bury(&mut self, key: &'static str) -> Result<(), Fail> {
+    fn set_tombstone(&mut self, key: &'static str) -> Result<(), Fail> {
         let key = Key::read(self.alloc, key.as_bytes())?;
-        match self.player.bury(self.alloc, &mut self.links, key) {
+        match self.player.set_tombstone(self.alloc, &mut self.links, key) {
             Some(Ok(())) => self.write("ok")?,
             Some(Err(told)) => self.write_told(&told)?,
             None => self.write("not now")?,

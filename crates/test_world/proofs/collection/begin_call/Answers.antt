@@ -20,8 +20,8 @@ returns-in-Ok-clause-leads g c = then_leads c.args.world.now c.begin_collect.new
 pub returns-in-Ok-clause-stopped : goal.returns-in-Ok-clause-stopped
 returns-in-Ok-clause-stopped g c = c.round.ensures.stopped _ (is_running (meaning g.S.Shelf g.V.Disk) c.args.world.now c.begin_collect.new.self c.args.key.now c.begin_collect.ensures.step c.args.call c.requires.free.quiet (inl c.requires.free.idle) c.in-Ok.ensures.ok)
 
-pub returns-in-Ok-clause-buried : goal.returns-in-Ok-clause-buried
-returns-in-Ok-clause-buried g c = c.round.ensures.buried _ (is_running (meaning g.S.Shelf g.V.Disk) c.args.world.now c.begin_collect.new.self c.args.key.now c.begin_collect.ensures.step c.args.call c.requires.free.quiet (inl c.requires.free.idle) c.in-Ok.ensures.ok)
+pub returns-in-Ok-clause-tombstone_set : goal.returns-in-Ok-clause-tombstone_set
+returns-in-Ok-clause-tombstone_set g c = c.round.ensures.tombstone_set _ (is_running (meaning g.S.Shelf g.V.Disk) c.args.world.now c.begin_collect.new.self c.args.key.now c.begin_collect.ensures.step c.args.call c.requires.free.quiet (inl c.requires.free.idle) c.in-Ok.ensures.ok)
 
 pub returns-then-leaves_no_call-clause-told : goal.returns-then-leaves_no_call-clause-told
 returns-then-leaves_no_call-clause-told g c = (refused_call c.args.world.now c.begin_collect.new.self c.args.call c.args.key.now c.in-Err.refusal c.requires.free.idle (sym c.leaves_no_call.ensures ∙ c.if-leaves_no_call.true) c.in-Err.ensures.err).1

@@ -1,10 +1,13 @@
 use Rattle.std.proofs.Common.{sym, ◌∙◌}
 use Rattle.std.proofs.lemmas.Result.{IfOk-weaker}
-use Rattle.cas_model.specs.View.{meaning}
+use Rattle.cas_model.specs.View.{View, meaning}
 use Rattle.cas_world.specs.Exchanges.Exchange.{HasGathered, asking_of}
 use Rattle.casreg_script.specs.Exchanges.Exchanges.{CameOf, IsAsking, KeepsOrder, answers_of}
 use Rattle.casreg_script.proofs.Outcomes.{on_ok}
-use Rattle.casreg_script.proofs.Exchanges.Asking.{HasAskedThis, has_asked_this, is_asking, may_gather, gathered_so, came_of, asking_keeps, answers_keep, keeps_idle}
+use Rattle.cas_world.specs.declared.exchange.Exchange.{Exchange}
+use Rattle.cas_world.specs.declared.exchange.Exchange.TheVariants as what
+use Rattle.test_world.specs.Tasks.{IsOfRemoval}
+use Rattle.casreg_script.proofs.Exchanges.Asking.{HasAskedThis, ReadsFor, has_asked_this, is_asking, may_gather, gathered_so, came_of, asking_keeps, answers_keep, keeps_idle}
 use Rattle.test_world.proofs.Leading.{step_goes, then_goes}
 use Rattle.test_world.proofs.collection.exchange.Given.{Over}
 use Rattle.test_world.proofs.collection.exchange.Goals as goal
@@ -38,10 +41,18 @@ still_asking g c = on_ok _ (sym c.is_err.ensures.value ∙ c.if-is_err.false) (c
 still_ordered : (g : Over) (c : goal.After-gather g) → KeepsOrder c.ask_all.new.self c.ask_turns.new.world
 still_ordered g c = on_ok _ (sym c.is_err.ensures.value ∙ c.if-is_err.false) c.ask_turns.ensures.order
 
+-- nothing is read then
+reads_none : {S V : Type 0} (old turned : View S V) (asks : Exchange) → IsOfRemoval asks → ReadsFor old asks turned
+reads_none old turned what.Ages is = tt
+reads_none old turned what.Remove is = tt
+reads_none old turned what.List is = absurd is
+reads_none old turned (what.Probe key) is = absurd is
+reads_none old turned (what.Read key) is = absurd is
+
 pub returns-clause-gathered : goal.returns-clause-gathered
 returns-clause-gathered g c =
     IfOk-weaker c.gather.result (λ found. HasGathered c.ask_turns.new.world found c.gather.new.self) (λ found. CameOf c.args.what c.args.world.now found c.gather.new.self)
-    (λ found has. came_of c.args.world.now c.ask_all.new.self c.ask_turns.new.world c.gather.new.self c.args.what found c.requires.may (asked_so g c) (still_ordered g c) (still_asking g c) has)
+    (λ found has. came_of c.args.world.now c.ask_all.new.self c.ask_turns.new.world c.gather.new.self c.args.what found c.requires.may (asked_so g c) (still_ordered g c) (still_asking g c) (reads_none c.args.world.now c.ask_turns.new.world c.args.what c.requires.removal) has)
     c.gather.ensures.ok
 
 pub returns-clause-goes : goal.returns-clause-goes

@@ -1,6 +1,6 @@
 use Rattle.std.proofs.Common.{false, refl, sym, ◌∙◌}
 use Rattle.cas_model.specs.View.{meaning}
-use Rattle.casreg_script.proofs.Collection.Rounds.{collecting_call, held_buried, empty_plays, cut_stops, in_round_still, reading_stops, seeks_on}
+use Rattle.casreg_script.proofs.Collection.Rounds.{collecting_call, held_tombstone_set, empty_plays, cut_stops, in_round_still, reading_stops, seeks_on}
 use Rattle.casreg_script.proofs.Outcomes.{on_err, on_ok}
 use Rattle.casreg_script.proofs.Calls.Playing.{in_phase_of}
 use Rattle.test_world.proofs.Leading.{reading_leads, then_leads}
@@ -29,10 +29,10 @@ returns-clause-plays g c asked was empty =
     let plays = on_ok _ (sym c.is_err.ensures.value ∙ c.if-is_err.false) (c.turns.ensures.plays asked false was.plays) in
     empty_plays _ c.turns.new.world c.propose_tombstone.new.self asked (in_round_still c.args.world.now c.turns.new.world asked false was c.turns.ensures.council plays) by.1 by.0
 
-pub returns-clause-buried : goal.returns-clause-buried
-returns-clause-buried g c asked version was held =
+pub returns-clause-tombstone_set : goal.returns-clause-tombstone_set
+returns-clause-tombstone_set g c asked version was held =
     let plays = on_ok _ (sym c.is_err.ensures.value ∙ c.if-is_err.false) (c.turns.ensures.plays asked false was.plays) in
-    held_buried _ c.turns.new.world c.propose_tombstone.new.self asked false (in_round_still c.args.world.now c.turns.new.world asked false was c.turns.ensures.council plays) (c.propose_tombstone.ensures.held version held)
+    held_tombstone_set _ c.turns.new.world c.propose_tombstone.new.self asked false (in_round_still c.args.world.now c.turns.new.world asked false was c.turns.ensures.council plays) (c.propose_tombstone.ensures.held version held)
 
 pub returns-clause-stopped : goal.returns-clause-stopped
 returns-clause-stopped g c asked was =

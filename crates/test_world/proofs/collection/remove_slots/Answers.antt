@@ -5,7 +5,7 @@ use Rattle.test_world.proofs.Leading.{floor_goes, led_ages, led_floor, led_remov
 use Rattle.test_world.proofs.collection.remove_slots.Goals as goal
 
 pub exchange-requires : goal.exchange-requires
-exchange-requires g c = record { may = may_ask_due c.args.world.now c.requires.due.0 due.Ages c.requires.due.1 }
+exchange-requires g c = record { may = may_ask_due c.args.world.now c.requires.due.0 due.Ages c.requires.due.1; removal = tt }
 
 pub floor-requires : goal.floor-requires
 floor-requires g c =
@@ -14,7 +14,7 @@ floor-requires g c =
 pub exchange-requires-2 : goal.exchange-requires-2
 exchange-requires-2 g c =
     let ages = led_ages c.args.world.now c.exchange.new.world c.requires.due.0 c.in_ok-exchange.field-0 c.requires.due.1 c.in_ok-exchange.ensures.gathered c.exchange.ensures.goes in
-    record { may = may_ask_due c.floor.new.self c.requires.due.0 due.Remove (led_floor c.exchange.new.world c.floor.new.self c.requires.due.0 ages c.floor.ensures.step c.floor.ensures.goes_on) }
+    record { may = may_ask_due c.floor.new.self c.requires.due.0 due.Remove (led_floor c.exchange.new.world c.floor.new.self c.requires.due.0 ages c.floor.ensures.step c.floor.ensures.goes_on); removal = tt }
 
 pub returns-in_err-exchange-2-clause-goes : goal.returns-in_err-exchange-2-clause-goes
 returns-in_err-exchange-2-clause-goes g c =

@@ -52,9 +52,9 @@ returns-in-Ok-Empty-clause-stopped g c asked was =
 pub returns-in-Ok-Empty-clause-leads : goal.returns-in-Ok-Empty-clause-leads
 returns-in-Ok-Empty-clause-leads g c = then_leads c.args.world.now c.prepare.new.world c.accept-in-Ok-Empty.new.world c.prepare.ensures.leads c.accept-in-Ok-Empty.ensures.leads
 
-pub returns-in-Ok-Held-clause-buried : goal.returns-in-Ok-Held-clause-buried
-returns-in-Ok-Held-clause-buried g c asked was =
-    c.prepare.ensures.buried asked _
+pub returns-in-Ok-Held-clause-tombstone_set : goal.returns-in-Ok-Held-clause-tombstone_set
+returns-in-Ok-Held-clause-tombstone_set g c asked was =
+    c.prepare.ensures.tombstone_set asked _
     (is_in_round c.args.world.now asked false was
     (subst (λ (b : Bool). IsPlaying c.args.world.now 0 asked b) c.if-has_proposed.false (round_plays c.args.world.now 0 asked c.has_proposed.result was.begun c.has_proposed.ensures.proposed c.has_proposed.ensures.phase)))
     (c.in-Ok-Held.is ∙ ap (λ (r : Reading). Ok r) c.in-Ok-Held.field-0-is)

@@ -1,7 +1,7 @@
 use Rattle.std.proofs.Common.{Bool, Some, sym, ap, subst, ◌∙◌, arith}
 use Rattle.test_world.specs.Play.{IsPlay, renews}
 use Rattle.test_world.proofs.Plays.{at_rest, collects, none_of, rests}
-use Rattle.test_world.proofs.player.Player.bury.Goals as goal
+use Rattle.test_world.proofs.player.Player.set_tombstone.Goals as goal
 
 pub begin_collection-requires-clause-rest : goal.begin_collection-requires-clause-rest
 begin_collection-requires-clause-rest g c = at_rest c.self.inside.world c.self.inside.proposers c.self.inside.calls c.self.inside.task c.self.invariant (sym c.is_some.ensures ∙ c.if-is_some.false)
