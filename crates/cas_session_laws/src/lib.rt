@@ -10,7 +10,7 @@ pub fn requests_are_found()
     ensures { RequestsAreFound }
 {}
 
-/// Of the requests that a caller numbered, each acts at most once, whatever was asked again, lost or crashed in between.
+/// Each request that a caller numbered acts at most once, whatever was asked again, lost or crashed in between.
 pub fn each_request_acts_once()
     ensures { EachActsOnce }
 {}
