@@ -48,8 +48,8 @@ pub trait Disk {
     /// The moment, as a number that does not fall.
     ghost moment: { Self → ℕ };
 
-    /// What a crash at some moment from that one on might have left, during a call or between two. Of a moment before the last
-    /// `forget_past` nothing is known: it may be everything.
+    /// What a crash at some moment from that one on might have left, during a call or between two. Nothing is known of a moment before
+    /// the last `forget_past`: it may be everything.
     ghost left_since: { Self → ℕ → List ℕ → Type 0 };
 
     /// How often the disk has failed. At the greatest `u64` the count stands still.

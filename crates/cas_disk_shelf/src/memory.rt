@@ -241,7 +241,7 @@ fn load_cell<D: Disk>(
     }
 }
 
-/// Notes a cell that holds no slot. Of a narrow one nothing is noted.
+/// Notes a cell that holds no slot. A narrow cell is not noted.
 fn pass<D: Disk>(loaded: &mut Loaded, cells: &Cells<D>, cell: u32) -> Result<(), AllocError>
     requires new { is_free loaded.old.memory cell ≡ false }
     requires positive { 0 < cell }

@@ -1,5 +1,5 @@
 -- Why the invariant says what it says. Each of the parts that carry the record is given up once in a small log, and the record of that
--- log is not legal. Of each log it is shown which of its happenings break a rule: the one that gives the part up, and those that break
+-- log is not legal. For each log it is shown which of its happenings break a rule: the one that gives the part up, and those that break
 -- one only because of it, where whoever does them cannot know. Up to the one that gives the part up the log is lawful, and each
 -- happening has its reason.
 use Rattle.std.proofs.Common.{◌≡◌, ℕ, suc, zero, ◌≤◌, Bool, true, false, List, [], ◌∷◌, ◌++◌, reverse, Option, Some, None, refl, sym, ap, ◌∙◌, inl, inr, arith}
@@ -189,7 +189,7 @@ not_telling legal =
 
 -- ---- what is asked is above the floors
 -- A change is proposed and not yet taken. The next one is taken by two acceptors, it is made a floor, and the slots are removed. Then
--- the first proposer goes on and asks to accept the ballot that is now below the floor. Of the two that take it, one had removed its
+-- the first proposer goes on and asks to accept the ballot that is now below the floor. Two acceptors take it. One had removed its
 -- slot and the other had never been asked; it is acknowledged and answered Done, and does not stand.
 abbrev collected : List Happening
 collected = reverse (

@@ -102,8 +102,8 @@ pub fn steps_tell_truly<S: Shelf, V: Disk>()
     ensures { StepsTellTruly (meaning S.Shelf V.Disk) }
 {}
 
-/// Of each that an exchange asks, and that told nothing yet, a frame waits or was harmed, until proposer 0 crashes within the exchange:
-/// so it is of a cluster that has just opened, and whatever is called on it.
+/// For each acceptor that an exchange asks, and that told nothing yet, a frame waits or was harmed, until proposer 0 crashes within the
+/// exchange. This holds of a cluster that has just opened, and whatever is called on it.
 pub fn clusters_answer<S: Shelf, V: Disk>()
     ensures { ClustersAnswer (meaning S.Shelf V.Disk) }
 {}

@@ -164,7 +164,7 @@ impl AcceptRound {
     }
 }
 
-/// Of two that were told as accepted, that of the greater ballot.
+/// The one with the greater ballot, if two were told as accepted.
 fn latest(read: Option<Accepted>, told: Option<Accepted>) -> Option<Accepted>
     ensures { result ≡ latest_of read told }
 {

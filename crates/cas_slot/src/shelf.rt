@@ -144,7 +144,7 @@ pub trait Shelf {
     /// A crash of a shelf that is up leaves what it holds and nothing else.
     ghost up_is_kept: { (shelf : Self) → tells → is_up shelf → OnlyLeaves (contents shelf) (may_leave shelf) };
 
-    /// Of a shelf that is up, the ballots of each slot are within their limits.
+    /// The ballots of each slot are within their limits, if the shelf is up.
     ghost ballots_fit: { (shelf : Self) → is_up shelf → AllBallotsFit (contents shelf) };
 
     /// This moment is one of those since an earlier one.

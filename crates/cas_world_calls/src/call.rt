@@ -141,7 +141,7 @@ impl Caller {
         }
     }
 
-    /// It is told how its round ended. Of the marks that were reserved that of the call's end is left.
+    /// It is told how its round ended. The reserve keeps one mark, that of the call's end.
     pub fn end_round(&mut self, answer: &Answer)
         requires open { IsSome self.old.call }
         requires copied { is_done answer.now ≡ false }
@@ -154,7 +154,7 @@ impl Caller {
         }
     }
 
-    /// Its change is done, and it is told so. Of the marks that were reserved that of the call's end is left.
+    /// Its change is done, and it is told so. The reserve keeps one mark, that of the call's end.
     pub fn done(&mut self, told: Answer)
         requires { IsSome self.old.call }
         ensures { IfSome self.old.call
@@ -304,7 +304,7 @@ impl OpenCall {
         self.is_closed = false;
     }
 
-    /// Its round ended, and this is told. Of the marks that were reserved that of its end is left.
+    /// Its round ended, and this is told. The reserve keeps one mark, that of its end.
     pub fn end_round(&mut self, told: Answer)
         ensures { self.new ≡ over self.old told }
     {

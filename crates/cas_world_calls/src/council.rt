@@ -179,7 +179,7 @@ impl Question {
 }
 
 impl OpenExchange {
-    /// A reply arrives. Of each member the first one counts.
+    /// A reply arrives. The first one of each member counts.
     fn hear(&mut self, reply: Reply)
         ensures { exchange_view self.new
             ≡ record (exchange_view self.old) { told = hears reply (exchange_view self.old).told } }
