@@ -7,4 +7,4 @@ mod rack;
 mod store;
 
 pub use rack::{ACCEPTORS, Rack, RackFault, VAULTS};
-pub use store::{Room, Store};
+pub use store::{Room, Store, put_on_shelves, take_off_shelves};

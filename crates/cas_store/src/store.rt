@@ -93,6 +93,18 @@ impl<D: Disk> Store<D> {
         }
     }
 
+    /// This world with this list, in which the disks of its acceptors are put when the store is closed.
+    pub fn over(world: World<DiskShelf<D>, D>, list: Vec<D>) -> Store<D>
+        requires none { vec_len list ≡ 0 }
+        requires room { 64 ≤ vec_capacity list }
+        ensures { result.world ≡ world }
+    {
+        Store {
+            world,
+            room: Room { acceptors: list },
+        }
+    }
+
     /// Hands back the record and the rack, with each disk in its place. It takes no memory. The record is legal, as that of
     /// [`World::record`]; and what is acknowledged in it stands on the disks of the acceptors that confirmed it, whatever a crash of them
     /// leaves, until a floor is made at or above it. Members of an era in which a proposer works hold what is settled of each key on their
@@ -118,8 +130,8 @@ impl<D: Disk> Store<D> {
     }
 }
 
-/// Makes shelves over the disks, in their order, and leaves the list of the disks empty with its room.
-fn put_on_shelves<D: Disk>(alloc: Global, disks: &mut Vec<D>, shelves: &mut Vec<DiskShelf<D>>)
+/// Makes shelves over the disks, in their order, and leaves the list of the disks empty with its room. No disk is reached.
+pub fn put_on_shelves<D: Disk>(alloc: Global, disks: &mut Vec<D>, shelves: &mut Vec<DiskShelf<D>>)
     requires none { shelves.old.items ≡ [] }
     requires room { vec_len disks.old ≤ vec_capacity shelves.old }
     ensures shelves { map disk_of shelves.new.items ≡ disks.old.items }
@@ -132,8 +144,8 @@ fn put_on_shelves<D: Disk>(alloc: Global, disks: &mut Vec<D>, shelves: &mut Vec<
     }
 }
 
-/// Puts the disks of the shelves into their list, in their order.
-fn take_off_shelves<D: Disk>(mut shelves: Vec<DiskShelf<D>>, disks: &mut Vec<D>)
+/// Puts the disks of the shelves into their list, in their order. It takes no memory, and reaches no disk.
+pub fn take_off_shelves<D: Disk>(mut shelves: Vec<DiskShelf<D>>, disks: &mut Vec<D>)
     requires none { vec_len disks.old ≡ 0 }
     requires room { vec_len shelves ≤ vec_capacity disks.old }
     ensures disks { disks.new.items ≡ map disk_of shelves.items }
