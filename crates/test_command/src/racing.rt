@@ -141,6 +141,26 @@ fn a_proposal_is_overtaken(rt: HostRuntime) -> Result<(), Fail> {
     Ok(())
 }
 
+/// The record of that race has both proposals, and an audit finds it legal.
+#[test]
+fn the_record_of_an_overtaken_proposal_is_legal(rt: HostRuntime) -> Result<(), Fail> {
+    let (proposed, voted) = (AtomicBool::new(false), AtomicBool::new(false));
+    let mut fates = waiting_fates(rt.alloc(), &proposed, &voted, u64::MAX)?;
+    let words = "race --proposers 2 --marks yes";
+    let raced = run_with(&rt, words, TWO_ADDS, FINE, &mut fates)?;
+    assert_eq!(rt; raced.status, Status::Ok);
+    let text = str::from_utf8(&raced.written).expect(&rt, "it is a text");
+    let record = text
+        .strip_prefix(OVERTAKEN)
+        .expect(&rt, "the answers stand first");
+    assert_eq!(rt; lines_with(record, "proposed 1.1 a 1.1 "), 1);
+    assert_eq!(rt; lines_with(record, "proposed 2.1 a 1.2 "), 1);
+    let audited = run(&rt, "audit", record.as_bytes(), FINE)?;
+    assert_eq!(rt; audited.status, Status::Ok);
+    assert_eq!(rt; audited.written.as_slice(), b"legal\n".as_slice());
+    Ok(())
+}
+
 #[test]
 fn callers_who_wait_a_thousand_times_at_most_end(rt: HostRuntime) -> Result<(), Fail> {
     let (proposed, voted) = (AtomicBool::new(false), AtomicBool::new(false));
