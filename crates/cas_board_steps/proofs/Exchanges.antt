@@ -1,4 +1,3 @@
-pub mod Agreed
 pub mod Councils
 pub mod Operating
 pub mod Probes

@@ -8,10 +8,10 @@ use Rattle.cas_record.specs.declared.read_answer.ReadAnswer.TheVariants.{Stopped
 use Rattle.cas_turn.specs.Sitting.{Sitting}
 use Rattle.cas_board_steps.specs.Mine.{mine}
 use Rattle.cas_board.specs.Operations.{is_not_begun}
-use Rattle.cas_read.specs.Read.{HasRead}
+use Rattle.cas_read.specs.Read.{HasReadByLook}
 
 -- nothing happened
-pub refused_read : {V : Type 0} (tells : Type 0) (key : List ℕ) (harms : ℕ) (pass : Sitting V Mark) → HasRead tells key harms harms pass pass (Stopped (NoMemory false))
+pub refused_read : {V : Type 0} (tells : Type 0) (key : List ℕ) (harms : ℕ) (pass : Sitting V Mark) → HasReadByLook tells key harms harms pass pass (Stopped (NoMemory false))
 refused_read tells key harms pass = record {
   looked = Err (NoMemory false);
   is = refl;

@@ -30,114 +30,14 @@ use Rattle.cas_model.specs.Exchanges.ReadLaws.{IsReadSo}
 use Rattle.cas_model.specs.View.{IsAt}
 use Rattle.cas_model.proofs.Places.{some_is}
 use Rattle.cas_model.proofs.Safety.Parts.{at_low, low_at}
-use Rattle.cas_board_steps.specs.Exchanges.Orders.{IsAgreedIn, IsReadTrue, IsTrueAgreement}
+use Rattle.cas_agreement.proofs.Agreed.{told_there}
+use Rattle.cas_board_steps.specs.Exchanges.Orders.{IsAgreedIn, IsAgreedStateTrue, IsTrueAgreement}
 use Rattle.cas_board.specs.declared.probing.Look.{Look}
-use Rattle.cas_read.specs.Read.{answer_by, IsValueSo, IsEmptySo, IsAnswerSo}
-
--- ---- where one stands
-record Passing {A : Type 0} (test : A → Bool) (xs : List A) : Type 0 where
-  place : ℕ
-  one : A
-  at : IsAt xs place one
-  passes : test one ≡ true
-
-passing : {A : Type 0} (test : A → Bool) (xs : List A) → list_any test xs ≡ true → Passing test xs
-passing test [] is = absurd (cc is)
-passing test (x ∷ xs) is = elim (or_cases (test x) (list_any test xs) is) [
-  | inl now ↦ record { place = 0; one = x; at = refl; passes = now }
-  | inr behind ↦ let rest = passing test xs behind in record { place = suc rest.place; one = rest.one; at = rest.at; passes = rest.passes }
-]
-
-any_at : {A : Type 0} (test : A → Bool) (xs : List A) (place : ℕ) (x : A) → IsAt xs place x → test x ≡ true → list_any test xs ≡ true
-any_at test [] place x at passes = absurd (cc at)
-any_at {A} test (y ∷ xs) zero x at passes = or_left (test y) (list_any test xs) (subst (λ (z : A). test z ≡ true) (sym (some_is at)) passes)
-any_at test (y ∷ xs) (suc place) x at passes = or_right (test y) (list_any test xs) (any_at test xs place x at passes)
-
-not_zero : (ballot : Ballot) → ballot ≢ zero_ballot → is_ballot ballot zero_ballot ≡ false
-not_zero ballot above = elim (true_or_false (is_ballot ballot zero_ballot)) [
-  | inl same ↦ absurd (above (ballot_same same))
-  | inr other ↦ other
-]
-
--- the first that passes
-record First {A : Type 0} (test : A → Bool) (xs : List A) : Type 0 where
-  place : ℕ
-  is : position test xs ≡ Some place
-  one : A
-  at : IsAt xs place one
-  passes : test one ≡ true
-
-none_beyond : (n size place : ℕ) → ◌≡◌ {A = Option ℕ} (cond (nat_lt n size) (Some n) None) None → place < size → place < n
-none_beyond n size place e low = by_test (nat_lt n size) refl
-  where
-    by_test : (b : Bool) → nat_lt n size ≡ b → place < n
-    by_test true is = absurd (cc (e, is))
-    by_test false is = grind (arith, is, low)
-
-first : {A : Type 0} (test : A → Bool) (xs : List A) → list_any test xs ≡ true → First test xs
-first {A} test xs is = by_place (position test xs) refl
-  where
-    some : Passing test xs
-    some = passing test xs is
-
-    by_place : (o : Option ℕ) → position test xs ≡ o → First test xs
-    by_place None none = absurd (cc (some.passes, fails_before_first test xs some.place some.one (none_beyond (position_or_len test xs) (length xs) some.place none (low_at xs some.place some.at)), get_or_from_slice_get xs some.place some.one some.one some.at))
-    by_place (Some place) found =
-        let facts = position-Some test xs place some.one found in
-        let there = at_low xs place facts.0 in
-        record { place = place; is = found; one = there.0; at = there.1; passes = subst (λ (x : A). test x ≡ true) (get_or_from_slice_get xs place there.0 some.one there.1) facts.1 }
-
--- ---- what members told
--- what is told at a ballot above zero
-record Told (ballot : Ballot) (told : Option Tell) : Type 0 where
-  promise : Ballot
-  accepted : Accepted
-  is : told ≡ Some (tell.Probed promise (Some accepted))
-  same : accepted.ballot ≡ ballot
-
-told_above : (ballot : Ballot) (told : Option Tell) → ballot ≢ zero_ballot → is_ballot_told ballot (ballot_told told) ≡ true → Told ballot told
-told_above ballot (Some (tell.Probed promise (Some accepted))) above is = record { promise = promise; accepted = accepted; is = refl; same = ballot_same is }
-told_above ballot (Some (tell.Probed promise None)) above is = absurd (above (sym (ballot_same is)))
-told_above ballot None above is = absurd (cc is)
-told_above ballot (Some tell.Accepted) above is = absurd (cc is)
-told_above ballot (Some (tell.Aged least)) above is = absurd (cc is)
-told_above ballot (Some (tell.Promised accepted)) above is = absurd (cc is)
-told_above ballot (Some (tell.Met seen)) above is = absurd (cc is)
-told_above ballot (Some tell.Full) above is = absurd (cc is)
-told_above ballot (Some tell.AgesSet) above is = absurd (cc is)
-told_above ballot (Some tell.Removed) above is = absurd (cc is)
-told_above ballot (Some tell.Kept) above is = absurd (cc is)
-told_above ballot (Some (tell.Listed after keys more)) above is = absurd (cc is)
-
-someone_agrees : (era : Era) (found : List Answered) (ballot : Ballot) → Meet era era → is_agreed era found ballot ≡ true → list_any (tells_in era.number ballot) found ≡ true
-someone_agrees era found ballot meets is =
-    let by : List ℕ = acceptors_where (tells_in era.number ballot) found in
-    let shared = quorums_share era era meets by by (and_left (holds_prep era by) (holds_acc era by) is) (and_right (holds_prep era by) (holds_acc era by) is) in
-    let some = passing (λ (x : Answered). (shared.acceptor == x.acceptor) && tells_in era.number ballot x) found (members_where_tells (λ m. list_any (λ (x : Answered). (m == x.acceptor) && tells_in era.number ballot x) found) shared.acceptor shared.left) in
-    any_at (tells_in era.number ballot) found some.place some.one some.at (and_right (shared.acceptor == some.one.acceptor) (tells_in era.number ballot some.one) some.passes)
-
--- what they agree on above zero is what the one at their place told
-record ToldAt (number : ℕ) (ballot : Ballot) (found : List Answered) : Type 0 where
-  place : ℕ
-  is : place_of number ballot found ≡ Some place
-  one : Answered
-  at : IsAt found place one
-  told : Told ballot one.told
-
-told_there : (era : Era) (found : List Answered) (ballot : Ballot) → Meet era era → ballot ≢ zero_ballot → is_agreed era found ballot ≡ true → ToldAt era.number ballot found
-told_there era found ballot meets above is =
-    let it = first (tells_in era.number ballot) found (someone_agrees era found ballot meets is) in
-    record {
-      place = it.place;
-      is = if_false (is_ballot ballot zero_ballot) None (position (tells_in era.number ballot) found) (not_zero ballot above) ∙ it.is;
-      one = it.one;
-      at = it.at;
-      told = told_above ballot it.one.told above (and_left (tells_ballot ballot it.one) (is_of_era era.number (accepted_told it.one.told)) it.passes);
-    }
+use Rattle.cas_read.specs.Read.{answer_by, IsValueSoOnBoard, IsEmptySoOnBoard, IsAnswerSo}
 
 -- ---- the answer
 module _ (before all : List Mark) (key : List ℕ) (found : Probes) (era : Era) (meets : Meet era era) where
-  value_so : (ballot : Ballot) (at : Option ℕ) → is_agreed era found.probes.items ballot ≡ true → at ≡ place_of era.number ballot found.probes.items → IsReadTrue before all key found ballot at → ballot ≢ zero_ballot → IsValueSo before all key (state_kept (told_at at found.probes.items)) ballot
+  value_so : (ballot : Ballot) (at : Option ℕ) → is_agreed era found.probes.items ballot ≡ true → at ≡ place_of era.number ballot found.probes.items → IsAgreedStateTrue before all key found ballot at → ballot ≢ zero_ballot → IsValueSoOnBoard before all key (state_kept (told_at at found.probes.items)) ballot
   value_so ballot at agrees at_is true_ above =
       let it = told_there era found.probes.items ballot meets above agrees in
       let there : at ≡ Some it.place = at_is ∙ it.is in
@@ -145,9 +45,9 @@ module _ (before all : List Mark) (key : List ℕ) (found : Probes) (era : Era) 
       let so : IsReadSo (reverse before) (reverse all) key it.told.accepted = both.1 in
       let kept : state_kept (told_at at found.probes.items) ≡ it.told.accepted.state =
       ap (λ (o : Option ℕ). state_kept (told_at o found.probes.items)) there ∙ ap (λ (o : Option Answered). state_kept (option_and_then (λ (x : Answered). x.told) o)) it.at ∙ ap state_kept it.told.is in
-      subst (λ (b : Ballot). IsValueSo before all key (state_kept (told_at at found.probes.items)) b) both.0 (record { is = kept ∙ so.state; goes_on = so.goes_on; begins = so.begins })
+      subst (λ (b : Ballot). IsValueSoOnBoard before all key (state_kept (told_at at found.probes.items)) b) both.0 (record { is = kept ∙ so.state; goes_on = so.goes_on; begins = so.begins })
 
-  empty_so : (ballot : Ballot) (at : Option ℕ) → at ≡ place_of era.number ballot found.probes.items → IsReadTrue before all key found ballot at → ballot ≡ zero_ballot → IsEmptySo before all key (state_kept (told_at at found.probes.items))
+  empty_so : (ballot : Ballot) (at : Option ℕ) → at ≡ place_of era.number ballot found.probes.items → IsAgreedStateTrue before all key found ballot at → ballot ≡ zero_ballot → IsEmptySoOnBoard before all key (state_kept (told_at at found.probes.items))
   empty_so ballot at at_is true_ same = record {
     is = ap (λ (o : Option ℕ). state_kept (told_at o found.probes.items)) (at_is ∙ if_true (is_ballot ballot zero_ballot) None (position (tells_in era.number ballot) found.probes.items) (ballot_is same));
     was = true_.nothing same;

@@ -29,24 +29,24 @@ answer_by key (Err why) = Stopped why
 -- ---- that it is so
 -- The state is what the history up to the ballot leaves. This history goes on from what was settled in the front before, and begins what is
 -- settled in all.
-pub record IsValueSo (before all : List Mark) (key : List ℕ) (state : State) (ballot : Ballot) : Type 0 where
+pub record IsValueSoOnBoard (before all : List Mark) (key : List ℕ) (state : State) (ballot : Ballot) : Type 0 where
   pub is : state ≡ replay_from (opening_state key (reverse all)) (chain_of key ballot (reverse all))
   pub goes_on : IsPrefix (settled_of key (reverse before)) (chain_of key ballot (reverse all))
   pub begins : IsPrefix (chain_of key ballot (reverse all)) (settled_of key (reverse all))
 
 -- The state is empty, and so was the register at some time since the front before.
-pub record IsEmptySo (before all : List Mark) (key : List ℕ) (state : State) : Type 0 where
+pub record IsEmptySoOnBoard (before all : List Mark) (key : List ℕ) (state : State) : Type 0 where
   pub is : state ≡ Empty
   pub was : WasEmptyBehind (length before) all key
 
 -- a value at a ballot above zero is that history's, and one at zero is that of an empty register
 abbrev pub IsAnswerSo : List Mark → List Mark → ReadAnswer → Type 0
-IsAnswerSo before all (Value key state ballot) = (ballot ≢ zero_ballot → IsValueSo before all key state ballot) × (ballot ≡ zero_ballot → IsEmptySo before all key state)
+IsAnswerSo before all (Value key state ballot) = (ballot ≢ zero_ballot → IsValueSoOnBoard before all key state ballot) × (ballot ≡ zero_ballot → IsEmptySoOnBoard before all key state)
 IsAnswerSo before all other = ⊤
 
 -- ---- a read
 -- It is answered by a look, with all that is said of what the operator was told.
-pub record HasRead {V : Type 0} (tells : Type 0) (key : List ℕ) (harms harms_then : ℕ) (old new : Sitting V Mark) (answer : ReadAnswer) : Type 0 where
+pub record HasReadByLook {V : Type 0} (tells : Type 0) (key : List ℕ) (harms harms_then : ℕ) (old new : Sitting V Mark) (answer : ReadAnswer) : Type 0 where
   pub looked : Result Look Answer
   pub is : answer ≡ answer_by key looked
   pub operates : Operates (asked.Read key) IsAskingHarm harms harms_then old new (told_by_look key looked)

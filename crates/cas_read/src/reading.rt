@@ -4,7 +4,7 @@ ghost use Rattle.std.specs.Prelude.{◌≡◌, ◌⊎◌, reverse};
 ghost use Rattle.cas_record.specs.Legal.{IsLegal};
 ghost use Rattle.cas_board.specs.Passes.{IsPassOf};
 ghost use Rattle.cas_board_steps.specs.Calls.Open.{NothingIsOpen, rescanned_in};
-ghost use Rattle.cas_read.specs.Read.{HasRead, IsAnswerSo};
+ghost use Rattle.cas_read.specs.Read.{HasReadByLook, IsAnswerSo};
 
 use cas_board::{Board, Look, Pass};
 use cas_change::Key;
@@ -33,7 +33,7 @@ pub fn read<R: Wait, D: Disk, F: Fate>(
     requires free { NothingIsOpen pass.old.own }
     ensures pass { pass.new ≡ record pass.old { seen = pass.new.seen; own = pass.new.own } }
     ensures free { NothingIsOpen pass.new.own }
-    ensures reads { HasRead D.tells key.now
+    ensures reads { HasReadByLook D.tells key.now
         (F.harm_count fate.old) (F.harm_count fate.new) pass.old pass.new result }
     ensures truly { D.tells → IsAnswerSo pass.old.seen pass.new.seen result }
     ensures counted { rescanned_in pass.new.own ≡ rescanned_in pass.old.own }

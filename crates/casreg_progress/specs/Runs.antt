@@ -4,7 +4,7 @@ use Rattle.std.specs.Prelude.{⊤, ℕ, List, reverse}
 use Rattle.cas_model.specs.History.{IsRemembered}
 use Rattle.cas_model.specs.Safe.{IsSafe}
 use Rattle.cas_model.specs.View.{Meaning, era_at}
-use Rattle.casreg_script.specs.Exchanges.Reads.{IsReadSo}
+use Rattle.casreg_script.specs.Exchanges.Reads.{IsReadAnswerSo}
 use Rattle.casreg_script.specs.Script as script
 use Rattle.casreg_script.specs.Script.{State, LineAnswer, IsAnswered, ScriptRun}
 use Rattle.casreg_progress.specs.Lines.{next_ballot, IsReadyLine, AreUp, IsDoneOrNoMemory}
@@ -39,7 +39,7 @@ RunsAreDone {S} {V} m =
 
 -- What a line that asked for a read was answered is so, by the marks before the line and behind it.
 abbrev pub IsSoWhereRead : {S V : Type 0} (m : Meaning S V) {tries : ℕ} {old new : State S V} {line : List ℕ} {answer : LineAnswer} → IsAnswered m tries old line answer new → Type 0
-IsSoWhereRead m {old = old} (script.reads {answer = answer} {new = new} key is_line runs) = IsReadSo (reverse old.world.marks) (reverse new.world.marks) answer
+IsSoWhereRead m {old = old} (script.reads {answer = answer} {new = new} key is_line runs) = IsReadAnswerSo (reverse old.world.marks) (reverse new.world.marks) answer
 IsSoWhereRead m other = ⊤
 
 -- so it is with each line of a run

@@ -28,7 +28,7 @@ use Rattle.cas_board.specs.Looks.{told_by_look}
 use Rattle.cas_board.specs.Operations.{IsSilentSince, Operates}
 use Rattle.cas_board.specs.Operations as operations
 use Rattle.cas_board.specs.declared.probing.Look.{Look}
-use Rattle.cas_read.specs.Read.{answer_by, HasRead, IsAnswerSo}
+use Rattle.cas_read.specs.Read.{answer_by, HasReadByLook, IsAnswerSo}
 use Rattle.casreg_tasks.specs.declared.tasks.Task.{Task}
 use Rattle.casreg_tasks.specs.declared.tasks.Task.TheVariants as task
 use Rattle.casreg_race.specs.declared.told.Told.{Told}
@@ -170,7 +170,7 @@ module _ {V : Type 0} (tells : Type 0) (tries harms harms_then : ℕ) (old new :
   }
   order_ran order asked told is answers counts (operations.is_not_begun why refusal stopped counted front kept) = record { own = []; front = front; answered = is_operated is (runs.is_not_begun why refusal stopped) (answers [] front); counted = counted; counts = counts [] front }
 
-  module _ (key : List ℕ) (answer : ReadAnswer) (read : HasRead tells key harms harms_then old new answer) (operator : old.number ≡ 0) (truly : tells → IsAnswerSo old.seen new.seen answer) (kept : rescanned_in new.own ≡ rescanned_in old.own) where
+  module _ (key : List ℕ) (answer : ReadAnswer) (read : HasReadByLook tells key harms harms_then old new answer) (operator : old.number ≡ 0) (truly : tells → IsAnswerSo old.seen new.seen answer) (kept : rescanned_in new.own ≡ rescanned_in old.own) where
     abbrev looked : Result Look Answer
     looked = read.looked
 

@@ -11,7 +11,7 @@ use Rattle.cas_record.specs.declared.operator.Asked as operator
 use Rattle.cas_record.specs.declared.operator.OpAnswer.{OpAnswer}
 use Rattle.cas_record.specs.declared.read_answer.ReadAnswer.{ReadAnswer}
 use Rattle.casreg_script.specs.Exchanges.Probes.{IsProbe}
-use Rattle.casreg_script.specs.Exchanges.Reads.{IsRead}
+use Rattle.casreg_script.specs.Exchanges.Reads.{IsReadLine}
 use Rattle.cas_model.specs.View.{Meaning, View}
 use Rattle.cas_change.specs.declared.program.Clause.{Clause}
 use Rattle.cas_world.specs.Calls.Beginning.{HasNoCall}
@@ -136,13 +136,13 @@ probe_runs {S} {V} m world now network next halts tries seen state key answer is
 
 -- ---- a read
 pub read_runs : {S V : Type 0} (m : Meaning S V) (world now : View S V) (network next : Network) (halts : List Halt) (tries : ℕ) (seen : Stage S V) (state : State S V) (key : List ℕ) (answer : ReadAnswer) → stage_of world network halts tries ≡ seen → IsInState seen state
-    → (IsNetwork network (Ruled state.rules) → NetworkLeaves next (λ view. IsRead m (Ruled state.rules) key world answer view now)) → Runs (RunsRead m state key answer) (stage_of now next halts tries)
+    → (IsNetwork network (Ruled state.rules) → NetworkLeaves next (λ view. IsReadLine m (Ruled state.rules) key world answer view now)) → Runs (RunsRead m state key answer) (stage_of now next halts tries)
 read_runs {S} {V} m world now network next halts tries seen state key answer is at runs =
-    let now_ruled = still_ruled next state.rules (λ view. IsRead m (Ruled state.rules) key world answer view now) (λ view. read_stay m (Ruled state.rules) view key world now answer) (runs (network_is world network halts tries seen state is at)) in record {
+    let now_ruled = still_ruled next state.rules (λ view. IsReadLine m (Ruled state.rules) key world answer view now) (λ view. read_stay m (Ruled state.rules) view key world now answer) (runs (network_is world network halts tries seen state is at)) in record {
       new = record state { world = now };
       is_in = record { world = refl; network = now_ruled.is; halts = halts_are world network halts tries seen state is at };
       has = record {
-        read = subst (λ (w : View S V). IsRead m (Ruled state.rules) key w answer (Ruled state.rules) now) (world_is world network halts tries seen state is at) now_ruled.has;
+        read = subst (λ (w : View S V). IsReadLine m (Ruled state.rules) key w answer (Ruled state.rules) now) (world_is world network halts tries seen state is at) now_ruled.has;
         rules = refl;
         halts = refl;
       };

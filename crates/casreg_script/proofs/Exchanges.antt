@@ -1,5 +1,5 @@
-pub mod Agreed
 pub mod Asking
+pub mod Hearing
 pub mod Marking
 pub mod Reading
 pub mod Truth

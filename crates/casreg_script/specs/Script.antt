@@ -24,7 +24,7 @@ use Rattle.casreg_script.specs.Events.{CrashesAcceptor, RestartsAcceptor, Restar
 use Rattle.casreg_script.specs.Eras.Membership.{ChangesMembers}
 use Rattle.casreg_script.specs.Frames.Network.{IsNetwork}
 use Rattle.casreg_script.specs.Exchanges.Probes.{IsProbe}
-use Rattle.casreg_script.specs.Exchanges.Reads.{IsRead}
+use Rattle.casreg_script.specs.Exchanges.Reads.{IsReadLine}
 use Rattle.casreg_script.specs.Stage.{Stage}
 use Rattle.casreg_script.specs.declared.halt.Halt.{Halt}
 
@@ -83,7 +83,7 @@ pub record RunsProbe {S V : Type 0} (m : Meaning S V) (old : State S V) (key : L
 
 -- and one that asks for a read
 pub record RunsRead {S V : Type 0} (m : Meaning S V) (old : State S V) (key : List ℕ) (answer : ReadAnswer) (new : State S V) : Type 0 where
-  pub read : IsRead m (Ruled old.rules) key old.world answer (Ruled new.rules) new.world
+  pub read : IsReadLine m (Ruled old.rules) key old.world answer (Ruled new.rules) new.world
   pub rules : new.rules ≡ old.rules
   pub halts : new.halts ≡ old.halts
 

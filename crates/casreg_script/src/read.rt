@@ -6,7 +6,7 @@ ghost use Rattle.cas_model.specs.View.{meaning};
 ghost use Rattle.cas_world.specs.Calls.Beginning.{HasNoCall};
 ghost use Rattle.casreg_script.specs.Frames.Conditions.{NetworkView};
 ghost use Rattle.casreg_script.specs.Exchanges.Exchanges.{KeepsCalls};
-ghost use Rattle.casreg_script.specs.Exchanges.Reads.{IsRead};
+ghost use Rattle.casreg_script.specs.Exchanges.Reads.{IsReadLine};
 ghost use Rattle.casreg_script.specs.Frames.Network.{IsNetwork, Through};
 
 use crate::exchange::exchange;
@@ -29,7 +29,7 @@ pub fn read<S: Shelf, V: Disk>(
     requires quiet { IsAtRest world.old.council }
     requires network { (by : NetworkView) × IsNetwork network.old by }
     ensures read { IfOk result (λ answer. Through network.old network.new
-        (λ by next. IsRead (meaning S.Shelf V.Disk) by key.now world.old answer next world.new)) }
+        (λ by next. IsReadLine (meaning S.Shelf V.Disk) by key.now world.old answer next world.new)) }
     ensures err { OnErr result ((world.new ≡ world.old) × (network.new ≡ network.old)) }
     ensures network { (by : NetworkView)
         → IsNetwork network.old by → (next : NetworkView) × IsNetwork network.new next }

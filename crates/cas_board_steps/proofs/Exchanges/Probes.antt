@@ -50,7 +50,8 @@ use Rattle.cas_board_world.specs.Steady.{IsSteady}
 use Rattle.cas_board_world.proofs.Forwards.{gathers_steady}
 use Rattle.cas_board_steps.specs.Mine.{mine, losses}
 use Rattle.cas_board_steps.specs.Owners.{MayAdd}
-use Rattle.cas_board_steps.proofs.Exchanges.Agreed.{Rises, set_rises}
+use Rattle.cas_agreement.specs.Told.{Rises}
+use Rattle.cas_agreement.proofs.Agreed.{set_rises}
 use Rattle.cas_board_steps.proofs.Exchanges.Truth.{read_truly}
 use Rattle.cas_board_steps.proofs.Exchanges.Reads.{AreNobodys, nobodys_none, read_nobodys, told_still, current_still, era_is_marked, all_confirmers}
 use Rattle.cas_board_steps.proofs.Fronts.{mine_append}

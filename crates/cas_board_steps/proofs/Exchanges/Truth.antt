@@ -23,8 +23,9 @@ use Rattle.cas_model.specs.History.{IsRemembered}
 use Rattle.cas_model.specs.View.{Meaning, View, IsAt}
 use Rattle.cas_model.proofs.Exchanges.ReadLaws.{reads_are_so, reads_of_nothing_are_so}
 use Rattle.cas_model.proofs.Openings.Opens.{remembered_legal}
-use Rattle.cas_board_steps.specs.Exchanges.Orders.{IsReadTrue, IsTrueAgreement, IsTrueRead}
-use Rattle.cas_board_steps.proofs.Exchanges.Agreed.{Rises, agree_at, agree_on}
+use Rattle.cas_board_steps.specs.Exchanges.Orders.{IsAgreedStateTrue, IsTrueAgreement, IsTrueRead}
+use Rattle.cas_agreement.specs.Told.{Rises}
+use Rattle.cas_agreement.proofs.Agreed.{agree_at, agree_on}
 
 -- ---- fronts of a record
 part_behind : {A : Type 0} (newer older : List A) → IsOlderPart older (newer ++ older)
@@ -49,7 +50,7 @@ module _ (fewer more all : List Mark) (behind : List Mark) (first : fewer ++ beh
   pub so_earlier : (accepted : Accepted) → IsReadSo (reverse more) (reverse all) key accepted → IsReadSo (reverse fewer) (reverse all) key accepted
   so_earlier accepted so = record { state = so.state; goes_on = prefix_then _ _ _ grew so.goes_on; begins = so.begins }
 
-  read_earlier : (found : Probes) (ballot : Ballot) (at : Option ℕ) → IsReadTrue more all key found ballot at → IsReadTrue fewer all key found ballot at
+  read_earlier : (found : Probes) (ballot : Ballot) (at : Option ℕ) → IsAgreedStateTrue more all key found ballot at → IsAgreedStateTrue fewer all key found ballot at
   read_earlier found ballot at is = record {
     nothing = λ zero. let was = is.nothing zero in record { since = was.since; more = omega (arith, longer, was.more); empty = was.empty };
     state = λ place one promise accepted at_is at_one told. let so = is.state place one promise accepted at_is at_one told in (so.0, so_earlier accepted so.1);
@@ -88,7 +89,7 @@ module _ {S V : Type 0} (m : Meaning S V) (old new : View S V) (exchange : Excha
   long : exchange.since ≤ length new.marks
   long = omega (arith, low, ap (λ (l : List Mark). length l) made, length-append old.marks more)
 
-  read_now : (found : Probes) (ballot : Ballot) (at : Option ℕ) → found.probes.items ≡ exchange.told → is_agreed era exchange.told ballot ≡ true → at ≡ place_of era.number ballot exchange.told → IsReadTrue (take exchange.since new.marks) new.marks key found ballot at
+  read_now : (found : Probes) (ballot : Ballot) (at : Option ℕ) → found.probes.items ≡ exchange.told → is_agreed era exchange.told ballot ≡ true → at ≡ place_of era.number ballot exchange.told → IsAgreedStateTrue (take exchange.since new.marks) new.marks key found ballot at
   read_now found ballot at keeps agrees at_is = record {
     nothing = λ zero. record {
       since = exchange.since;

@@ -213,12 +213,12 @@ pub record WasEmptyBehind (many : ℕ) (all : List Mark) (key : List ℕ) : Type
 
 -- What they agree on is so: if it is nothing, the register was empty; else the state is that of the history up to its ballot, which goes on from
 -- what was settled before, and begins what is settled now.
-pub record IsReadTrue (before all : List Mark) (key : List ℕ) (found : Probes) (ballot : Ballot) (at : Option ℕ) : Type 0 where
+pub record IsAgreedStateTrue (before all : List Mark) (key : List ℕ) (found : Probes) (ballot : Ballot) (at : Option ℕ) : Type 0 where
   pub nothing : ballot ≡ zero_ballot → WasEmptyBehind (length before) all key
   pub state : (place : ℕ) (one : ProbeOf) (promise : Ballot) (accepted : Accepted) → at ≡ Some place → IsAt found.probes.items place one → one.told ≡ Some (tell.Probed promise (Some accepted)) → (accepted.ballot ≡ ballot) × IsReadSo (reverse before) (reverse all) key accepted
 
 abbrev pub IsTrueAgreement : List Mark → List Mark → List ℕ → Probes → Agreement → Type 0
-IsTrueAgreement before all key found (agreed.Value ballot at) = IsReadTrue before all key found ballot at
+IsTrueAgreement before all key found (agreed.Value ballot at) = IsAgreedStateTrue before all key found ballot at
 IsTrueAgreement before all key found other = ⊤
 
 -- so it is of what a read was told

@@ -18,13 +18,13 @@ use Rattle.casreg_script.specs.Exchanges.Exchanges.{AsksMembers}
 use Rattle.casreg_script.specs.Exchanges.Probes as inquiries
 use Rattle.casreg_script.specs.Exchanges.Probes.{IsInquiry}
 use Rattle.casreg_script.specs.Exchanges.Reads as answered
-use Rattle.casreg_script.specs.Exchanges.Reads.{AnswersRead, IsRead}
+use Rattle.casreg_script.specs.Exchanges.Reads.{AnswersRead, IsReadLine}
 use Rattle.casreg_script.specs.Frames.Conditions.{NetworkView}
 use Rattle.casreg_script.proofs.Exchanges.Truth.{read_so}
 
 -- what is answered is so
 pub is_read : {S V : Type 0} (m : Meaning S V) {by next : NetworkView} (key : List ℕ) (old new : View S V) (said : OpAnswer) (answer : ReadAnswer)
-    → IsInquiry m by (asked.Read key) key old said next new → AnswersRead (era_at old 0) key said answer → IsRead m by key old answer next new
+    → IsInquiry m by (asked.Read key) key old said next new → AnswersRead (era_at old 0) key said answer → IsReadLine m by key old answer next new
 is_read m key old new said answer inquiry answers = record { said = said; inquiry = inquiry; answers = answers; so = read_so m key old new said answer inquiry answers }
 
 -- by what the members agree on
@@ -32,7 +32,7 @@ pub read_told : {S V : Type 0} (m : Meaning S V) {by next : NetworkView} (key : 
     (answer_ : ReadAnswer) → StepOrder old (asked.Read key) ordered
     → AsksMembers m by (step.AskAll (Probe key)) step.Gather ordered next turned → IsAgreementOf (era_at ordered 0) found.probes.items agreement → StepTell turned (op.Probed named found) new
     → named ≡ key → op.Probed named found ≡ op.Probed back kept
-    → answer_ ≡ read_of back agreement kept.probes.items → IsRead m by key old answer_ next new
+    → answer_ ≡ read_of back agreement kept.probes.items → IsReadLine m by key old answer_ next new
 read_told {S} {V} m key old ordered turned new named back agreement found kept answer_ orders asks agrees_ tells_it is_named same is =
     let back_is : named ≡ back = cc same in
     let kept_is : found ≡ kept = cc same in
@@ -45,6 +45,6 @@ read_told {S} {V} m key old ordered turned new named back agreement found kept a
 -- or by why it stopped
 pub read_stopped : {S V : Type 0} (m : Meaning S V) {by next : NetworkView} (key : List ℕ) (old ordered turned new : View S V) (said : OpAnswer) (why : Answer) → StepOrder old (asked.Read key) ordered
     → AsksMembers m by (step.AskAll (Probe key)) step.Gather ordered next turned
-    → StepTell turned said new → said ≡ op.Stopped why → IsRead m by key old (read.Stopped why) next new
+    → StepTell turned said new → said ≡ op.Stopped why → IsReadLine m by key old (read.Stopped why) next new
 read_stopped m key old ordered turned new said why orders asks tells_it is =
     is_read m key old new (op.Stopped why) (read.Stopped why) (inquiries.told orders asks (subst (λ (a : OpAnswer). StepTell turned a new) is tells_it)) (answered.stopped why)

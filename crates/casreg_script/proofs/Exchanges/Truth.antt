@@ -45,11 +45,13 @@ use Rattle.casreg_script.specs.Exchanges.Exchanges.{AskTurned, AsksMembers, Brea
 use Rattle.casreg_script.specs.Exchanges.Probes as inquiries
 use Rattle.casreg_script.specs.Exchanges.Probes.{IsInquiry}
 use Rattle.casreg_script.specs.Exchanges.Reads as answered
-use Rattle.casreg_script.specs.Exchanges.Reads.{AnswersRead, IsEmptySo, IsReadSo, IsValueSo}
+use Rattle.casreg_script.specs.Exchanges.Reads.{AnswersRead, IsEmptySo, IsReadAnswerSo, IsValueSo}
 use Rattle.casreg_script.specs.Frames.Conditions.{NetworkView}
 use Rattle.casreg_script.specs.Frames.Strays as strays
 use Rattle.casreg_script.specs.Frames.Strays.{LetsStrayIn}
-use Rattle.casreg_script.proofs.Exchanges.Agreed.{IsToldAt, Rises, agree_at, asked_named, hears_named, names_of, rises_where, told_at_place}
+use Rattle.cas_agreement.specs.Told.{names_of, IsToldAt, Rises}
+use Rattle.cas_agreement.proofs.Agreed.{agree_at, rises_where, told_at_place}
+use Rattle.casreg_script.proofs.Exchanges.Hearing.{asked_named, hears_named}
 use Rattle.casreg_script.proofs.Exchanges.Asking.{asked_reads, asking_stops, turns_read}
 use Rattle.casreg_script.proofs.Exchanges.Marking.{AddsNoFloor, floor_before, turns_add}
 use Rattle.casreg_script.proofs.Frames.Straying.{lets_under_way}
@@ -157,7 +159,7 @@ module _ {S V : Type 0} (m : Meaning S V) (old new : View S V) (exchange : Excha
       }
 
   gathered_so : (agreement : Agreement) → IsAgreementOf era exchange.told agreement → ((floor : Ballot) → HasFloor key floor (reverse old.marks) → HasFloor key floor (marks_before old exchange))
-      → IsReadSo (marks_before old exchange) (reverse new.marks) (read_of key agreement exchange.told)
+      → IsReadAnswerSo (marks_before old exchange) (reverse new.marks) (read_of key agreement exchange.told)
   gathered_so (agreed.Value ballot at) agrees floors = ((λ above. value_so ballot at agrees.0 agrees.1 above), (λ zero. empty_so ballot at agrees.0 agrees.1 floors zero))
   gathered_so (agreed.Short got need) agrees floors = tt
   gathered_so (agreed.NotAgreed least most) agrees floors = tt
@@ -279,18 +281,18 @@ module _ {S V : Type 0} (m : Meaning S V) (shelves : m.shelves.tells) (disks : m
   it : FoundIt turned its (era_at old 0) key found done
   it = found_it turned done its (era_at old 0) key found gathers.at.is_open reads gathers tells.told
 
-  whole_so : (agreement : Agreement) → IsAgreementOf (era_at old 0) found.probes.items agreement → IsReadSo (reverse old.marks) (reverse new.marks) (read_of key agreement found.probes.items)
+  whole_so : (agreement : Agreement) → IsAgreementOf (era_at old 0) found.probes.items agreement → IsReadAnswerSo (reverse old.marks) (reverse new.marks) (read_of key agreement found.probes.items)
   whole_so agreement agrees =
-      subst (λ (l : List Mark). IsReadSo (reverse l) (reverse new.marks) (read_of key agreement found.probes.items)) before_is
-      (subst (λ (l : List Mark). IsReadSo (marks_before turned its) (reverse l) (read_of key agreement found.probes.items)) (sym tells.marks)
-      (subst (λ (l : List Answered). IsReadSo (marks_before turned its) (reverse done.marks) (read_of key agreement l)) (sym it.found_is)
+      subst (λ (l : List Mark). IsReadAnswerSo (reverse l) (reverse new.marks) (read_of key agreement found.probes.items)) before_is
+      (subst (λ (l : List Mark). IsReadAnswerSo (marks_before turned its) (reverse l) (read_of key agreement found.probes.items)) (sym tells.marks)
+      (subst (λ (l : List Answered). IsReadAnswerSo (marks_before turned its) (reverse done.marks) (read_of key agreement l)) (sym it.found_is)
       (gathered_so m turned done its key (era_at old 0) remembered it.gathered rises agreement (subst (λ (l : List Answered). IsAgreementOf (era_at old 0) l agreement) it.found_is agrees) floors)))
 
 -- a call that tells what members told gathered it
 asked_so : {S V : Type 0} (m : Meaning S V) (shelves : m.shelves.tells) (disks : m.disks.tells) {by next : NetworkView} (key : List ℕ) (old ordered done new : View S V) (found : Probes)
     (agreement : Agreement) → IsRemembered m old → StepOrder old (asked.Read key) ordered
     → AsksMembers m by (step.AskAll (Probe key)) step.Gather ordered next done → TellsProbes done key found new → IsAgreementOf (era_at old 0) found.probes.items agreement
-    → IsReadSo (reverse old.marks) (reverse new.marks) (read_of key agreement found.probes.items)
+    → IsReadAnswerSo (reverse old.marks) (reverse new.marks) (read_of key agreement found.probes.items)
 asked_so m shelves disks key old ordered done new found agreement is orders (turns.not_asked by none) tells agrees =
     absurd (asking_stops m ordered done (Probe key) (op.Probed key found) by none tells.told)
 asked_so {S} {V} m shelves disks key old ordered done new found agreement is orders (turns.no_memory by fails) tells agrees =
@@ -300,13 +302,13 @@ asked_so m shelves disks key old ordered done new found agreement is orders (tur
 
 inquiry_so : {S V : Type 0} (m : Meaning S V) (shelves : m.shelves.tells) (disks : m.disks.tells) {by next : NetworkView} (key : List ℕ) (old new : View S V) (found : Probes) (agreement : Agreement)
     → IsRemembered m old → IsInquiry m by (asked.Read key) key old (op.Probed key found) next new
-    → IsAgreementOf (era_at old 0) found.probes.items agreement → IsReadSo (reverse old.marks) (reverse new.marks) (read_of key agreement found.probes.items)
+    → IsAgreementOf (era_at old 0) found.probes.items agreement → IsReadAnswerSo (reverse old.marks) (reverse new.marks) (read_of key agreement found.probes.items)
 inquiry_so m shelves disks key old new found agreement is (inquiries.told {ordered = ordered} {asked_all = done} orders asks tells) agrees =
     asked_so m shelves disks key old ordered done new found agreement is orders asks (tells_probes done new key found tells) agrees
 
 -- what a read of a remembered cluster answers is so
 pub read_so : {S V : Type 0} (m : Meaning S V) {by next : NetworkView} (key : List ℕ) (old new : View S V) (said : OpAnswer) (answer : ReadAnswer)
     → IsInquiry m by (asked.Read key) key old said next new → AnswersRead (era_at old 0) key said answer
-    → m.shelves.tells → m.disks.tells → IsRemembered m old → IsReadSo (reverse old.marks) (reverse new.marks) answer
+    → m.shelves.tells → m.disks.tells → IsRemembered m old → IsReadAnswerSo (reverse old.marks) (reverse new.marks) answer
 read_so m key old new said answer inquiry (answered.stopped why) shelves disks is = tt
 read_so m key old new said answer inquiry (answered.agrees found agreement agrees) shelves disks is = inquiry_so m shelves disks key old new found agreement is inquiry agrees

@@ -25,7 +25,7 @@ use Rattle.casreg_script.specs.Eras.Membership.{Advances, HasAdvanced, ChangesMe
 use Rattle.casreg_script.specs.Frames.Network.{IsNetwork, NetworkLeaves, Through}
 use Rattle.casreg_script.specs.Exchanges.Probes as probes
 use Rattle.casreg_script.specs.Exchanges.Probes.{IsInquiry, IsProbe}
-use Rattle.casreg_script.specs.Exchanges.Reads.{IsRead}
+use Rattle.casreg_script.specs.Exchanges.Reads.{IsReadLine}
 use Rattle.casreg_script.specs.Frames.Strays as strays
 use Rattle.casreg_script.specs.Frames.Strays.{LetsStrayIn}
 use Rattle.casreg_script.specs.declared.halt.Halt.{Halt}
@@ -122,7 +122,7 @@ inquiry_stay m by next what key old new answer (probes.told {ordered = ordered} 
 pub probe_stay : {S V : Type 0} (m : Meaning S V) (by next : NetworkView) (key : List ℕ) (old new : View S V) (answer : OpAnswer) → IsProbe m by key old answer next new → Stay by next
 probe_stay m by next key old new answer is = inquiry_stay m by next (asked.Probe key) key old new answer is
 
-pub read_stay : {S V : Type 0} (m : Meaning S V) (by next : NetworkView) (key : List ℕ) (old new : View S V) (answer : ReadAnswer) → IsRead m by key old answer next new → Stay by next
+pub read_stay : {S V : Type 0} (m : Meaning S V) (by next : NetworkView) (key : List ℕ) (old new : View S V) (answer : ReadAnswer) → IsReadLine m by key old answer next new → Stay by next
 read_stay m by next key old new answer is = inquiry_stay m by next (asked.Read key) key old new is.said is.inquiry
 
 -- ---- collections

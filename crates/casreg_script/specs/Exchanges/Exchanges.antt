@@ -95,7 +95,7 @@ pub record HasConfirmed {S V : Type 0} (old : View S V) (gathered : Gathered) (n
   pub came : gathered ≡ came.All removed kept
 
 -- the operator's call may tell what each keeps for the key, by which all agree so in this era
-pub record HasRead {S V : Type 0} (era : Era) (key : List ℕ) (agreement : Agreement) (found : Probes) (new : View S V) : Type 0 where
+pub record HasAgreed {S V : Type 0} (era : Era) (key : List ℕ) (agreement : Agreement) (found : Probes) (new : View S V) : Type 0 where
   pub told : WasToldOrder new (op.Probed key found)
   pub agrees : IsAgreementOf era found.probes.items agreement
 
@@ -103,7 +103,7 @@ pub record HasRead {S V : Type 0} (era : Era) (key : List ℕ) (agreement : Agre
 abbrev pub CameOf : {S V : Type 0} → Exchange → View S V → Gathered → View S V → Type 0
 CameOf (what.Probe key) old (came.Probed found) new = WasToldOrder new (op.Probed key found)
 CameOf (what.Probe key) old other new = ⊥
-CameOf (what.Read key) old (came.Read agreement found) new = HasRead (era_at old 0) key agreement found new
+CameOf (what.Read key) old (came.Read agreement found) new = HasAgreed (era_at old 0) key agreement found new
 CameOf (what.Read key) old other new = ⊥
 CameOf what.List old result new = HasListed old result new
 CameOf what.Ages old result new = HasConfirmed old result new

@@ -44,15 +44,15 @@ pub record IsEmptySo (before : List Mark) (key : List ℕ) (state : State) : Typ
   pub was : replay_from (opening_state key before) (settled_of key before) ≡ Empty
 
 -- a value at a ballot above zero is that of its history, and one at zero is that of an empty register
-abbrev pub IsReadSo : List Mark → List Mark → ReadAnswer → Type 0
-IsReadSo before now (read.Value key state ballot) = (ballot ≢ zero_ballot → IsValueSo before now key state ballot) × (ballot ≡ zero_ballot → IsEmptySo before key state)
-IsReadSo before now other = ⊤
+abbrev pub IsReadAnswerSo : List Mark → List Mark → ReadAnswer → Type 0
+IsReadAnswerSo before now (read.Value key state ballot) = (ballot ≢ zero_ballot → IsValueSo before now key state ballot) × (ballot ≡ zero_ballot → IsEmptySo before key state)
+IsReadAnswerSo before now other = ⊤
 
 -- ---- the whole
 -- A read of the key as a call of the operator, with its answer, by the era in which proposer 0 works. What it tells is so of a remembered
 -- cluster, if shelves and disks tell what they keep.
-pub record IsRead {S V : Type 0} (m : Meaning S V) (by : NetworkView) (key : List ℕ) (old : View S V) (answer : ReadAnswer) (next : NetworkView) (new : View S V) : Type 0 where
+pub record IsReadLine {S V : Type 0} (m : Meaning S V) (by : NetworkView) (key : List ℕ) (old : View S V) (answer : ReadAnswer) (next : NetworkView) (new : View S V) : Type 0 where
   pub said : OpAnswer
   pub inquiry : IsInquiry m by (asked.Read key) key old said next new
   pub answers : AnswersRead (era_at old 0) key said answer
-  pub so : m.shelves.tells → m.disks.tells → IsRemembered m old → IsReadSo (reverse old.marks) (reverse new.marks) answer
+  pub so : m.shelves.tells → m.disks.tells → IsRemembered m old → IsReadAnswerSo (reverse old.marks) (reverse new.marks) answer
