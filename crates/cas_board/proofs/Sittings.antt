@@ -14,7 +14,7 @@ use Rattle.cas_turn.specs.Seen.{Begins, HasSeenOwn, OnlyOwnedBy, added_to}
 use Rattle.cas_turn.specs.Sitting.{Sitting, Turning}
 use Rattle.cas_board.specs.Passes.{IsPassOf}
 use Rattle.cas_board.specs.Changes as changes
-use Rattle.cas_board.specs.Changes.{IsCounted, HasBegun, HasNotBegun, HasGoneOn, HasEnded, Answers}
+use Rattle.cas_board.specs.Changes.{IsCounted, HasBegunInHold, HasNotBegun, HasGoneOnInHold, HasEndedInHold, AnswersChange}
 use Rattle.cas_board_steps.specs.Calls.Changes as begins
 use Rattle.cas_board_steps.specs.Calls.Changes.{BeginsIn, IsRefusalBehind, BeginsNot, GoesOnIn, EndsMarked, StraysIn}
 use Rattle.cas_board_steps.specs.Kept.{IsKept, Makes, IsHeldBy}
@@ -66,7 +66,7 @@ module _ {S V A : Type 0} (before after : View S V) (old new : Sitting A Mark) (
   last_then : (marks : List Mark) (mark : Mark) → Makes old.number before after (marks ++ mark ∷ []) → IsLast new.seen mark
   last_then marks mark makes = record { before = before.marks ++ marks; whole = append_assoc before.marks marks (mark ∷ []) ∙ sym makes.made ∙ sym seen }
 
-  pub pass_begins : (call : ℕ) (key : List ℕ) (program : List Clause) → own_part before old.number ≡ old.own → BeginsIn old.number call key program before after → HasBegun call key program old new
+  pub pass_begins : (call : ℕ) (key : List ℕ) (program : List Clause) → own_part before old.number ≡ old.own → BeginsIn old.number call key program before after → HasBegunInHold call key program old new
   pass_begins call key program own_was b = record {
     more = mine old.number b.more;
     front = front_is (Begun old.number call key program ∷ b.more) (Begun old.number call key program ∷ mine old.number b.more) b.makes (mine_own old.number (Begun old.number call key program) b.more refl);
@@ -88,7 +88,7 @@ module _ {S V A : Type 0} (before after : View S V) (old new : Sitting A Mark) (
       (last_then (begun ∷ []) ended makes) (own ∙ leaves.still free ∙ own_was) no_conflict
   pass_begins_not key program told own_was free (begins.is_refused refusal makes leaves) = changes.is_refused (subst (λ (l : List Mark). IsRefusalBehind (length l) told) (sym seen) refusal) (front_of [] makes) (own ∙ leaves.still free ∙ own_was)
 
-  pub pass_goes_on : (call most : ℕ) → own_part before old.number ≡ old.own → GoesOnIn old.number call most before after → HasGoneOn call most old new
+  pub pass_goes_on : (call most : ℕ) → own_part before old.number ≡ old.own → GoesOnIn old.number call most before after → HasGoneOnInHold call most old new
   pass_goes_on call most own_was g = record {
     marks = mine old.number g.marks;
     front = front_of g.marks g.makes;
@@ -99,7 +99,7 @@ module _ {S V A : Type 0} (before after : View S V) (old new : Sitting A Mark) (
     wanted = ap (wanted_by old.number) seen ∙ g.wanted ∙ wanted_seen old.number old.seen before.marks has;
   }
 
-  pub pass_ends : (call most : ℕ) (told : Answer) → own_part before old.number ≡ old.own → NothingIsOpen (beside_in (own_part before old.number)) → EndsMarked old.number call most before after told → HasEnded call (rounds_after (own_part before old.number)) most old new told
+  pub pass_ends : (call most : ℕ) (told : Answer) → own_part before old.number ≡ old.own → NothingIsOpen (beside_in (own_part before old.number)) → EndsMarked old.number call most before after told → HasEndedInHold call (rounds_after (own_part before old.number)) most old new told
   pass_ends call most told own_was alone e =
       let ended : Mark = Ended old.number call (rounds_after (own_part before old.number)) told in
       record {
@@ -154,7 +154,7 @@ module _ {S V : Type 0} (n : ℕ) (before after : View S V) (key : List ℕ) (pr
   begun_makes (Err told) b (begins.is_refused refusal makes leaves) = (_, makes)
 
 module _ {S V A : Type 0} (n : ℕ) (before after : View S V) (key : List ℕ) (program : List Clause) where
-  pub begun_told : (old new : Sitting A Mark) (result : Result Opened Answer) → WasHeld n before after old new → own_part before old.number ≡ old.own → IfOk result (λ begun. BeginsIn n begun.call key program before after) → IfOk result (λ begun. HasBegun begun.call key program old new)
+  pub begun_told : (old new : Sitting A Mark) (result : Result Opened Answer) → WasHeld n before after old new → own_part before old.number ≡ old.own → IfOk result (λ begun. BeginsIn n begun.call key program before after) → IfOk result (λ begun. HasBegunInHold begun.call key program old new)
   begun_told old new (Ok begun) was own_was b = pass_begins before after old new was.has was.seen was.own begun.call key program own_was (subst (λ (k : ℕ). BeginsIn k begun.call key program before after) was.number b)
   begun_told old new (Err told) was own_was b = tt
 
@@ -168,14 +168,14 @@ module _ {S V Stage : Type 0} (n call most : ℕ) (before after : View S V) wher
   gone_makes (Err told) g e = (_, e.makes)
 
 module _ {S V A Stage : Type 0} (n call most : ℕ) (before after : View S V) where
-  pub gone_told : (old new : Sitting A Mark) (result : Result Stage Answer) → WasHeld n before after old new → own_part before old.number ≡ old.own → OnOk result (GoesOnIn n call most before after) → OnOk result (HasGoneOn call most old new)
+  pub gone_told : (old new : Sitting A Mark) (result : Result Stage Answer) → WasHeld n before after old new → own_part before old.number ≡ old.own → OnOk result (GoesOnIn n call most before after) → OnOk result (HasGoneOnInHold call most old new)
   gone_told old new (Ok stage) was own_was g = pass_goes_on before after old new was.has was.seen was.own call most own_was (subst (λ (k : ℕ). GoesOnIn k call most before after) was.number g)
   gone_told old new (Err told) was own_was g = tt
 
-  pub ended_told : (old new : Sitting A Mark) (result : Result Stage Answer) → WasHeld n before after old new → own_part before old.number ≡ old.own → NothingIsOpen (beside_in old.own) → IfErr result (EndsMarked n call most before after) → IfErr result (HasEnded call (rounds_after old.own) most old new)
+  pub ended_told : (old new : Sitting A Mark) (result : Result Stage Answer) → WasHeld n before after old new → own_part before old.number ≡ old.own → NothingIsOpen (beside_in old.own) → IfErr result (EndsMarked n call most before after) → IfErr result (HasEndedInHold call (rounds_after old.own) most old new)
   ended_told old new (Ok stage) was own_was alone e = tt
   ended_told old new (Err told) was own_was alone e =
-      subst (λ (own : List ℕ). HasEnded call (rounds_after own) most old new told) own_was
+      subst (λ (own : List ℕ). HasEndedInHold call (rounds_after own) most old new told) own_was
       (pass_ends before after old new was.has was.seen was.own call most told own_was (subst (λ (l : List ℕ). NothingIsOpen (beside_in l)) (sym own_was) alone) (subst (λ (k : ℕ). EndsMarked k call most before after told) was.number e))
 
   pub rounds_told : (old new : Sitting A Mark) (result : Result Stage Answer) → WasHeld n before after old new → own_part before old.number ≡ old.own → OnOk result (GoesOnIn n call most before after) → OnOk result (rounds_in new.own ≡ rounds_after old.own)
@@ -213,7 +213,7 @@ module _ {A : Type 0} (call lost most : ℕ) (a b c d : Sitting A Mark) (number 
       goes_on_then a.number a.seen b.seen d.seen marks more first
       (goes_on_then a.number b.seen c.seen d.seen [] more (subst (λ (k : ℕ). FrontGoesOn k b.seen c.seen []) number strays) (subst (λ (k : ℕ). FrontGoesOn k c.seen d.seen more) at_first then_))
 
-  pub gone_then : HasGoneOn call lost a b → HasGoneOn call most c d → HasGoneOn call (lost + most) a d
+  pub gone_then : HasGoneOnInHold call lost a b → HasGoneOnInHold call most c d → HasGoneOnInHold call (lost + most) a d
   gone_then first then_ = record {
     marks = first.marks ++ then_.marks;
     front = whole_front first.marks then_.marks first.front then_.front;
@@ -224,7 +224,7 @@ module _ {A : Type 0} (call lost most : ℕ) (a b c d : Sitting A Mark) (number 
     wanted = ap (λ (k : ℕ). wanted_by k d.seen) (sym at_first) ∙ then_.wanted ∙ ap (λ (k : ℕ). wanted_by k c.seen) (at_first ∙ sym number) ∙ wants_same ∙ ap (λ (k : ℕ). wanted_by k b.seen) number ∙ first.wanted;
   }
 
-  pub ended_then : (told : Answer) (rounds : ℕ) → HasGoneOn call lost a b → HasEnded call rounds most c d told → HasEnded call rounds (lost + most) a d told
+  pub ended_then : (told : Answer) (rounds : ℕ) → HasGoneOnInHold call lost a b → HasEndedInHold call rounds most c d told → HasEndedInHold call rounds (lost + most) a d told
   ended_then told rounds first then_ = record {
     marks = first.marks ++ then_.marks;
     front = subst (FrontGoesOn a.number a.seen d.seen) (sym (append_assoc first.marks then_.marks (Ended a.number call rounds told ∷ [])))
@@ -236,7 +236,7 @@ module _ {A : Type 0} (call lost most : ℕ) (a b c d : Sitting A Mark) (number 
   }
 
 -- a call that has just begun has gone on by nothing
-pub goes_on_none : {A : Type 0} (call : ℕ) (pass : Sitting A Mark) → HasOpen call pass.own → HasGoneOn call 0 pass pass
+pub goes_on_none : {A : Type 0} (call : ℕ) (pass : Sitting A Mark) → HasOpen call pass.own → HasGoneOnInHold call 0 pass pass
 goes_on_none call pass has = record {
   marks = [];
   front = record { begins = record { behind = []; whole = append-nil pass.seen }; own_marks = sym (append-nil (mine pass.number pass.seen)) };
@@ -253,7 +253,7 @@ pub record HasRun {A : Type 0} (call harms harms_now : ℕ) (old now : Sitting A
   pub pass : now ≡ record old { seen = now.seen; own = now.own }
   pub lost : ℕ
   pub counted : IsCounted lost harms harms_now
-  pub gone : HasGoneOn call lost old now
+  pub gone : HasGoneOnInHold call lost old now
 
 pub run_begins : {A : Type 0} (call harms : ℕ) (pass : Sitting A Mark) → HasOpen call pass.own → HasRun call harms harms pass pass
 run_begins call harms pass has = record { pass = refl; lost = 0; counted = counted_none harms; gone = goes_on_none call pass has }
@@ -284,7 +284,7 @@ module _ {A : Type 0} (call harms harms_now : ℕ) (a b c : Sitting A Mark) (run
     pub run_pass : d ≡ record a { seen = d.seen; own = d.own }
     run_pass = gave ∙ ap (λ (s : Sitting A Mark). record s { seen = d.seen; own = d.own }) asked ∙ ap (λ (s : Sitting A Mark). record s { seen = d.seen; own = d.own }) run.pass
 
-    pub run_goes_on : HasGoneOn call most c d → HasRun call harms harms_then a d
+    pub run_goes_on : HasGoneOnInHold call most c d → HasRun call harms harms_then a d
     run_goes_on gone = record {
       pass = run_pass;
       lost = run.lost + most;
@@ -292,8 +292,8 @@ module _ {A : Type 0} (call harms harms_now : ℕ) (a b c : Sitting A Mark) (run
       gone = gone_then call run.lost most a b c d number_b asked strays wants_same run.gone gone;
     }
 
-    pub run_ends : (told : Answer) (rounds tries : ℕ) → (is_conflict told ≡ true → rounds ≡ tries) → HasEnded call rounds most c d told
-        → (lost so_many : ℕ) × IsCounted lost harms harms_then × HasEnded call so_many lost a d told × (is_conflict told ≡ true → so_many ≡ tries)
+    pub run_ends : (told : Answer) (rounds tries : ℕ) → (is_conflict told ≡ true → rounds ≡ tries) → HasEndedInHold call rounds most c d told
+        → (lost so_many : ℕ) × IsCounted lost harms harms_then × HasEndedInHold call so_many lost a d told × (is_conflict told ≡ true → so_many ≡ tries)
     run_ends told rounds tries tried ended = (run.lost + most, rounds, counted_then run.lost most harms harms_now harms_then run.counted counts, ended_then call run.lost most a b c d number_b asked strays wants_same told rounds run.gone ended, tried)
 
 -- ---- rounds
@@ -337,7 +337,7 @@ tried_asked {A} tries rounds met b c asked tried = subst (HasTried tries rounds 
 
 -- ---- a change
 module _ {A : Type 0} (key : List ℕ) (program : List Clause) (harms harms_then : ℕ) where
-  pub change_answered : (tries call lost rounds : ℕ) (a b c : Sitting A Mark) (told : Answer) → b.number ≡ a.number → HasBegun call key program a b → IsCounted lost harms harms_then → HasEnded call rounds lost b c told → (is_conflict told ≡ true → rounds ≡ tries) → Answers key program tries harms harms_then a c told
+  pub change_answered : (tries call lost rounds : ℕ) (a b c : Sitting A Mark) (told : Answer) → b.number ≡ a.number → HasBegunInHold call key program a b → IsCounted lost harms harms_then → HasEndedInHold call rounds lost b c told → (is_conflict told ≡ true → rounds ≡ tries) → AnswersChange key program tries harms harms_then a c told
   change_answered tries call lost rounds a b c told number first counted then_ tried =
       let begun : Mark = Begun a.number call key program in
       let ended : Mark = Ended a.number call rounds told in
@@ -349,7 +349,7 @@ module _ {A : Type 0} (key : List ℕ) (program : List Clause) (harms harms_then
       (counted_less (losses (first.more ++ then_.marks)) lost harms harms_then (let low = few_then first.more then_.marks 0 lost (let none = first.none_lost in omega (arith, none)) then_.few in omega (arith, low)) counted)
       (subst (λ (k : ℕ). IsLast c.seen (Ended k call rounds told)) number then_.last) tried
 
-  pub change_refused : (tries : ℕ) (a c : Sitting A Mark) (told : Answer) → IsCounted 0 harms harms_then → HasNotBegun key program a c told → Answers key program tries harms harms_then a c told
+  pub change_refused : (tries : ℕ) (a c : Sitting A Mark) (told : Answer) → IsCounted 0 harms harms_then → HasNotBegun key program a c told → AnswersChange key program tries harms harms_then a c told
   change_refused tries a c told counted (changes.ends_at_once call rounds front last free no_conflict) = changes.is_answered call rounds [] front (All-nil (λ mark. call_of mark ≡ Some call)) counted last (λ conflict. absurd (cc (no_conflict, conflict)))
   change_refused tries a c told counted (changes.is_refused refusal front free) = changes.is_not_begun refusal counted front
 

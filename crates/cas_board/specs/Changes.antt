@@ -19,7 +19,7 @@ pub record IsCounted (most old new : ℕ) : Type 0 where
 -- ---- holds
 module _ {V : Type 0} where
   -- the call of that number begins, for this
-  pub record HasBegun (call : ℕ) (key : List ℕ) (program : List Clause) (old new : Sitting V Mark) : Type 0 where
+  pub record HasBegunInHold (call : ℕ) (key : List ℕ) (program : List Clause) (old new : Sitting V Mark) : Type 0 where
     pub more : List Mark
     pub front : FrontGoesOn old.number old.seen new.seen (Begun old.number call key program ∷ more)
     pub of_call : AreOfCall call more
@@ -36,7 +36,7 @@ module _ {V : Type 0} where
     is_refused : IsRefusalBehind (length new.seen) told → FrontGoesOn old.number old.seen new.seen [] → new.own ≡ old.own → HasNotBegun key program old new told
 
   -- the open call of that number goes on
-  pub record HasGoneOn (call most : ℕ) (old new : Sitting V Mark) : Type 0 where
+  pub record HasGoneOnInHold (call most : ℕ) (old new : Sitting V Mark) : Type 0 where
     pub marks : List Mark
     pub front : FrontGoesOn old.number old.seen new.seen marks
     pub of_call : AreOfCall call marks
@@ -46,7 +46,7 @@ module _ {V : Type 0} where
     pub wanted : wanted_by old.number new.seen ≡ wanted_by old.number old.seen
 
   -- it has ended after so many rounds with this answer, which the front's last mark tells
-  pub record HasEnded (call rounds most : ℕ) (old new : Sitting V Mark) (told : Answer) : Type 0 where
+  pub record HasEndedInHold (call rounds most : ℕ) (old new : Sitting V Mark) (told : Answer) : Type 0 where
     pub marks : List Mark
     pub front : FrontGoesOn old.number old.seen new.seen (marks ++ Ended old.number call rounds told ∷ [])
     pub last : IsLast new.seen (Ended old.number call rounds told)
@@ -58,7 +58,7 @@ module _ {V : Type 0} where
   -- A change is a call of its caller, with the marks of its beginning and its end, and between them marks of that call alone; a conflict
   -- had all rounds that it might have. Or it is not begun, and no mark of the caller is made.
   -- So many of them at most tell of frames that were lost or made late as the fate's count of harms rose by.
-  pub data Answers (key : List ℕ) (program : List Clause) (tries harms harms_then : ℕ) (old new : Sitting V Mark) (told : Answer) : Type 0 where
+  pub data AnswersChange (key : List ℕ) (program : List Clause) (tries harms harms_then : ℕ) (old new : Sitting V Mark) (told : Answer) : Type 0 where
     is_answered : (call rounds : ℕ) (between : List Mark) → FrontGoesOn old.number old.seen new.seen (Begun old.number call key program ∷ between ++ Ended old.number call rounds told ∷ []) → AreOfCall call between → IsCounted (losses between) harms harms_then
-        → IsLast new.seen (Ended old.number call rounds told) → (is_conflict told ≡ true → rounds ≡ tries) → Answers key program tries harms harms_then old new told
-    is_not_begun : IsRefusalBehind (length new.seen) told → IsCounted 0 harms harms_then → FrontGoesOn old.number old.seen new.seen [] → Answers key program tries harms harms_then old new told
+        → IsLast new.seen (Ended old.number call rounds told) → (is_conflict told ≡ true → rounds ≡ tries) → AnswersChange key program tries harms harms_then old new told
+    is_not_begun : IsRefusalBehind (length new.seen) told → IsCounted 0 harms harms_then → FrontGoesOn old.number old.seen new.seen [] → AnswersChange key program tries harms harms_then old new told

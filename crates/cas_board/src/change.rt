@@ -3,7 +3,7 @@
 ghost use Rattle.std.specs.Prelude.{◌≡◌, ◌≤◌, ℕ, true, false, if◌then◌else◌, [], Some, IfOk, IfErr, OnOk, reverse};
 ghost use Rattle.cas_record.specs.Legal.{IsLegal};
 ghost use Rattle.cas_model.specs.Calls.Step.{one_more};
-ghost use Rattle.cas_board.specs.Changes.{Answers, HasBegun, HasEnded, HasGoneOn, HasNotBegun, IsCounted};
+ghost use Rattle.cas_board.specs.Changes.{AnswersChange, HasBegunInHold, HasEndedInHold, HasGoneOnInHold, HasNotBegun, IsCounted};
 ghost use Rattle.cas_board_steps.specs.Calls.Changes.{harm_by};
 ghost use Rattle.cas_board_steps.specs.Mine.{FrontGoesOn, wanted_by, wants};
 ghost use Rattle.cas_board_steps.specs.Calls.Conflicts.{is_conflict};
@@ -42,7 +42,7 @@ impl<D: Disk> Board<D> {
         ensures pass { pass.new ≡ record pass.old { seen = pass.new.seen; own = pass.new.own } }
         ensures own { pass.new.own ≡ pass.old.own }
         ensures free { NothingIsOpen pass.new.own }
-        ensures answers { Answers key.now program.now tries
+        ensures answers { AnswersChange key.now program.now tries
             (F.harm_count fate.old) (F.harm_count fate.new) pass.old pass.new result }
         ensures legal { D.tells → IsLegal (reverse pass.new.seen) }
     {
@@ -77,7 +77,7 @@ impl<D: Disk> Board<D> {
         requires fresh { tells_met begun.stage ≡ false }
         ensures pass { pass.new ≡ record pass.old { seen = pass.new.seen; own = pass.new.own } }
         ensures ended { (lost rounds : ℕ) × IsCounted lost (F.harm_count fate.old)
-            (F.harm_count fate.new) × HasEnded begun.call rounds lost pass.old pass.new result
+            (F.harm_count fate.new) × HasEndedInHold begun.call rounds lost pass.old pass.new result
             × (is_conflict result ≡ true → rounds ≡ tries) }
         ensures legal { D.tells → IsLegal (reverse pass.new.seen) }
     {
@@ -133,7 +133,7 @@ impl<D: Disk> Board<D> {
         requires free { NothingIsOpen pass.old.own }
         ensures pass { pass.new ≡ record pass.old { seen = pass.new.seen; own = pass.new.own } }
         ensures begun { IfOk result
-            (λ begun. HasBegun begun.call key.now program.now pass.old pass.new) }
+            (λ begun. HasBegunInHold begun.call key.now program.now pass.old pass.new) }
         ensures fresh { IfOk result (λ begun. tells_met begun.stage ≡ false) }
         ensures not_begun { IfErr result (HasNotBegun key.now program.now pass.old pass.new) }
         ensures legal { D.tells → IsLegal (reverse pass.new.seen) }
@@ -161,12 +161,12 @@ impl<D: Disk> Board<D> {
         requires wanted { wanted_by pass.old.number pass.old.seen
             ≡ Some (wants call key.now program.now) }
         ensures pass { pass.new ≡ record pass.old { seen = pass.new.seen; own = pass.new.own } }
-        ensures goes_on { OnOk result (HasGoneOn call (harm_by verdict) pass.old pass.new) }
+        ensures goes_on { OnOk result (HasGoneOnInHold call (harm_by verdict) pass.old pass.new) }
         ensures rounds { OnOk result (rounds_in pass.new.own ≡ rounds_after pass.old.own) }
         ensures met { IfOk result (λ stage. is_met_in pass.new.own ≡ tells_met stage) }
         ensures repeats { OnOk result (is_met_in pass.new.own ≡ true → may_repeat ≡ true) }
         ensures ends { IfErr result
-            (HasEnded call (rounds_after pass.old.own) (harm_by verdict) pass.old pass.new) }
+            (HasEndedInHold call (rounds_after pass.old.own) (harm_by verdict) pass.old pass.new) }
         ensures last { IfErr result (λ told. is_conflict told ≡ true → may_repeat ≡ false) }
         ensures legal { D.tells → IsLegal (reverse pass.new.seen) }
     {

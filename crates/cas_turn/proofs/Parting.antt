@@ -15,8 +15,8 @@ use Rattle.cas_turn.specs.declared.view.Known.{Known}
 use Rattle.cas_turn.specs.declared.view.View.{View}
 use Rattle.cas_turn.specs.declared.view.View.TheVariants.{Opens, Tells, Sits, Gathers}
 use Rattle.cas_turn.specs.Seen.{Begins, HasSeenOwn, longer_of}
-use Rattle.cas_turn.specs.Rule.{Moment, tickets_of, numbers_of, sat, IsHolder, home_of, Knows, IsUngiven, Learned, LearnedFits, Fits, Kept}
-use Rattle.cas_turn.specs.Steps.{Sat, known_of, stage_of, newcomer, without_next, next_seat, note_of, told, gathered, settled, Heard, them_of}
+use Rattle.cas_turn.specs.Rule.{Moment, tickets_of, numbers_of, sat, IsHolder, home_of, SeatKnows, IsUngiven, Learned, LearnedFits, Fits, Kept}
+use Rattle.cas_turn.specs.Steps.{Sat, known_of, stage_of, newcomer, without_next, next_seat, note_of, told, gathered, settled, HeardNote, them_of}
 use Rattle.cas_turn.proofs.Rows.{sum_two}
 use Rattle.cas_turn.proofs.SeenLemmas.{begins_nothing, sees_nothing, sees_begins, sees_longer, learns}
 use Rattle.cas_turn.proofs.Steady.{at_one, at_one_here, at_one_else, moved, holder_stays, cut, joined}
@@ -44,7 +44,7 @@ module _ {V I : Type 0} (list : V → List I) (owner : I → Option ℕ) (part :
   on_desks m desk j (Sits k Idle learned) keep f = record { stands = record { at_desk = keep k.number f.stands.at_desk; has_seen = f.stands.has_seen }; own_part = f.own_part; for_seats = f.for_seats; stage_fits = tt; learned_fits = f.learned_fits }
   on_desks m desk j (Sits k (Waiting t) learned) keep f = let q = f.stage_fits in record { stands = record { at_desk = keep k.number f.stands.at_desk; has_seen = f.stands.has_seen }; own_part = f.own_part; for_seats = f.for_seats; stage_fits = record { at_queue = q.at_queue; not_served = q.not_served; was_drawn = q.was_drawn }; learned_fits = f.learned_fits }
   on_desks m desk j (Sits k (Holding t v) learned) keep f = let h = f.stage_fits in let q = h.queues in record { stands = record { at_desk = keep k.number f.stands.at_desk; has_seen = f.stands.has_seen }; own_part = f.own_part; for_seats = f.for_seats; stage_fits = record { queues = record { at_queue = q.at_queue; not_served = q.not_served; was_drawn = q.was_drawn }; is_served = h.is_served; is_out = h.is_out; has_value = h.has_value }; learned_fits = f.learned_fits }
-  on_desks m desk j (Gathers them) keep f = All-weaker (λ k. Knows list owner part made_for m.now m.desk j k) (λ k. Knows list owner part made_for m.now desk j k)
+  on_desks m desk j (Gathers them) keep f = All-weaker (λ k. SeatKnows list owner part made_for m.now m.desk j k) (λ k. SeatKnows list owner part made_for m.now desk j k)
       (λ k g. record { stands = record { at_desk = keep k.number g.stands.at_desk; has_seen = g.stands.has_seen }; own_part = g.own_part }) them f
 
   not_opening : (n count : ℕ) → IsHolder {V = V} {I = I} (Opens n count) → ⊥
@@ -77,7 +77,7 @@ module _ {V I : Type 0} (list : V → List I) (owner : I → Option ℕ) (part :
   -- the seat that will close the turn
   pub begins_gathering : (id : ℕ) (v : D) → Splits Rule id v v (Gathers [])
   begins_gathering id v s r at = let m = r.moment in
-      cut list owner part made_for seats s r id v v (Gathers []) m.desk at (omega arith) (omega arith) (λ h. h) (r.each_seat id v at) (All-nil (λ k. Knows list owner part made_for m.now m.desk (length s.views) k)) (λ j d other below there x. x)
+      cut list owner part made_for seats s r id v v (Gathers []) m.desk at (omega arith) (omega arith) (λ h. h) (r.each_seat id v at) (All-nil (λ k. SeatKnows list owner part made_for m.now m.desk (length s.views) k)) (λ j d other below there x. x)
 
   -- a seat takes in a note
   pub tells : (id other : ℕ) (k : Known I) (stage : Stage V) (theirs : List I) → Joins Rule id (sat k stage) other (Tells theirs) (told (sat k stage) (Tells theirs)) (Tells [])
@@ -128,7 +128,7 @@ module _ {V I : Type 0} (list : V → List I) (owner : I → Option ℕ) (part :
       let keep : (n : ℕ) → m.desk n ≡ id → desk n ≡ id = λ n e. dite (ℕ_discrete n k.number) (λ same. ap desk same ∙ at_one_here m.desk k.number id) (λ ne. at_one_else m.desk k.number id n ne ∙ e) in
       joined list owner part made_for seats s r id other (Gathers them) (sat k Idle) both (Tells []) desk at apart there refl (omega arith)
       (λ h. absurd (not_gathering them h)) (λ h. absurd (not_sitting k None h))
-      (All-cons (λ x. Knows list owner part made_for m.now desk id x) k them (record { stands = record { at_desk = at_one_here m.desk k.number id; has_seen = f.stands.has_seen }; own_part = f.own_part }) (on_desks m desk id (Gathers them) keep (r.each_seat id (Gathers them) at)))
+      (All-cons (λ x. SeatKnows list owner part made_for m.now desk id x) k them (record { stands = record { at_desk = at_one_here m.desk k.number id; has_seen = f.stands.has_seen }; own_part = f.own_part }) (on_desks m desk id (Gathers them) keep (r.each_seat id (Gathers them) at)))
       (begins_nothing (list m.now))
       (λ j d a b c x. on_desks m desk j d (λ n e. at_one_else m.desk k.number id n (λ same. b (sym e ∙ (ap m.desk same ∙ f.stands.at_desk))) ∙ e) x)
 
@@ -167,7 +167,7 @@ module _ {V I : Type 0} (list : V → List I) (owner : I → Option ℕ) (part :
         m.now,
         end.4 0 (Some m.now) (ap (λ hs. get_elem? hs 0) home),
         r.for_seats,
-        All-weaker (λ k. Knows list owner part made_for m.now m.desk id k) (λ k. HasSeenOwn owner k.number k.seen (list m.now) × (part m.now k.number ≡ k.own)) (λ k g. (g.stands.has_seen, g.own_part)) them (r.each_seat id (Gathers them) at),
+        All-weaker (λ k. SeatKnows list owner part made_for m.now m.desk id k) (λ k. HasSeenOwn owner k.number k.seen (list m.now) × (part m.now k.number ≡ k.own)) (λ k g. (g.stands.has_seen, g.own_part)) them (r.each_seat id (Gathers them) at),
       )
 
   -- the same at views that are known by equations
@@ -185,7 +185,7 @@ module _ {V I : Type 0} (list : V → List I) (owner : I → Option ℕ) (part :
 
   -- what the seat then hears
   pub hears : (st : Step (Option V)) (r : ℕ) (me before after : Sat V I) (theirs : List I) → before ≡ (Sits (record (known_of me.0) { seen = longer_of (known_of me.0).seen theirs }) (stage_of me.0) (Some ((known_of me.0).seen, theirs)), me.1)
-      → settled list owner part made_for st before r after → Heard list owner part made_for theirs me after
+      → settled list owner part made_for st before r after → HeardNote list owner part made_for theirs me after
   hears st r me before after theirs told tale =
       let tale' = subst (λ (b : Sat V I). settled list owner part made_for st b r after) told tale in
       let fact = tale'.1 (known_of me.0).seen theirs refl in

@@ -15,7 +15,7 @@ use Rattle.cas_turn.specs.declared.view.Known.{Known}
 use Rattle.cas_turn.specs.declared.view.View.{View}
 use Rattle.cas_turn.specs.declared.view.View.TheVariants.{Opens, Tells, Sits, Gathers}
 use Rattle.cas_turn.specs.Seen.{Begins, HasSeenOwn, OnlyOwnedBy, added_to}
-use Rattle.cas_turn.specs.Rule.{Moment, tickets_of, numbers_of, stage_weight, sat, IsHolder, home_of, Stands, Knows, Fits, words_of, Kept}
+use Rattle.cas_turn.specs.Rule.{Moment, tickets_of, numbers_of, stage_weight, sat, IsHolder, home_of, SeatStands, SeatKnows, Fits, words_of, Kept}
 use Rattle.cas_turn.specs.Steps.{Sat, known_of, known_from, idle, waiting, holding, ticket_in, IsHolding, Grew, drew, looked, measured, published, left_turn}
 use Rattle.cas_turn.proofs.Rows.{set_there, one_more, mod_small}
 use Rattle.cas_turn.proofs.SeenLemmas.{begins_grows, sees_self, sees_grown, none_else}
@@ -155,7 +155,7 @@ module _ {V I : Type 0} (list : V → List I) (owner : I → Option ℕ) (part :
     elsewhere : (j n : ℕ) → j ≢ me → m.desk n ≡ j → n ≢ mine
     elsewhere j n other here same = other (sym here ∙ (ap m.desk same ∙ at))
 
-    stands_on : (j n : ℕ) (seen : List I) → j ≢ me → Stands list owner part made_for m.now m.desk j n seen → Stands list owner part made_for w m.desk j n seen
+    stands_on : (j n : ℕ) (seen : List I) → j ≢ me → SeatStands list owner part made_for m.now m.desk j n seen → SeatStands list owner part made_for w m.desk j n seen
     stands_on j n seen other f = record { at_desk = f.at_desk; has_seen = subst (HasSeenOwn owner n seen) whole (sees_grown owner n seen (list m.now) new f.has_seen (none_else owner mine n (elsewhere j n other f.at_desk) new only)) }
 
     abbrev grown : Moment V
@@ -167,7 +167,7 @@ module _ {V I : Type 0} (list : V → List I) (owner : I → Option ℕ) (part :
     fits_on j (Sits k Idle learned) other holds f = record { stands = stands_on j k.number k.seen other f.stands; own_part = parts k.number (elsewhere j k.number other f.stands.at_desk) ∙ f.own_part; for_seats = still ∙ f.for_seats; stage_fits = tt; learned_fits = f.learned_fits }
     fits_on j (Sits k (Waiting t) learned) other holds f = let q = f.stage_fits in record { stands = stands_on j k.number k.seen other f.stands; own_part = parts k.number (elsewhere j k.number other f.stands.at_desk) ∙ f.own_part; for_seats = still ∙ f.for_seats; stage_fits = record { at_queue = q.at_queue; not_served = q.not_served; was_drawn = q.was_drawn }; learned_fits = f.learned_fits }
     fits_on j (Sits k (Holding t v) learned) other holds f = let h = f.stage_fits in absurd (other (sym h.queues.at_queue ∙ (ap m.queue h.is_served ∙ holds)))
-    fits_on j (Gathers them) other holds f = All-weaker (λ k. Knows list owner part made_for m.now m.desk j k) (λ k. Knows list owner part made_for w m.desk j k)
+    fits_on j (Gathers them) other holds f = All-weaker (λ k. SeatKnows list owner part made_for m.now m.desk j k) (λ k. SeatKnows list owner part made_for w m.desk j k)
         (λ k g. record { stands = stands_on j k.number k.seen other g.stands; own_part = parts k.number (elsewhere j k.number other g.stands.at_desk) ∙ g.own_part }) them f
 
   pub publishes : (slots id : ℕ) (k : Known I) (t : ℕ) (v w : V) (new : List I) (added : ℕ) → list v ++ new ≡ list w → OnlyOwnedBy owner k.number new → ((n : ℕ) → n ≢ k.number → part w n ≡ part v n) → made_for w ≡ made_for v

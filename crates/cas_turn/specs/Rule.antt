@@ -60,18 +60,18 @@ home_of false v = slot.some (Some v)
 
 module _ {V I : Type 0} (list : V → List I) (owner : I → Option ℕ) (part : V → ℕ → List ℕ) (made_for : V → ℕ) where
   -- the seat `me` has the number n, which has seen this much of the list
-  pub record Stands (now : V) (desk : ℕ → ℕ) (me n : ℕ) (seen : List I) : Type 0 where
+  pub record SeatStands (now : V) (desk : ℕ → ℕ) (me n : ℕ) (seen : List I) : Type 0 where
     pub at_desk : desk n ≡ me
     pub has_seen : HasSeenOwn owner n seen (list now)
 
   -- the seat `me` has a number, which knows this
-  pub record Knows (now : V) (desk : ℕ → ℕ) (me : ℕ) (k : Known I) : Type 0 where
-    pub stands : Stands now desk me k.number k.seen
+  pub record SeatKnows (now : V) (desk : ℕ → ℕ) (me : ℕ) (k : Known I) : Type 0 where
+    pub stands : SeatStands now desk me k.number k.seen
     pub own_part : part now k.number ≡ k.own
 
   -- a number that was not given owns nothing yet
   pub record IsUngiven (now : V) (desk : ℕ → ℕ) (me n : ℕ) : Type 0 where
-    pub stands : Stands now desk me n []
+    pub stands : SeatStands now desk me n []
     pub no_part : part now n ≡ []
 
   -- a ticket is one of those that are drawn and not served
@@ -81,7 +81,7 @@ module _ {V I : Type 0} (list : V → List I) (owner : I → Option ℕ) (part :
     pub was_drawn : t < m.drawn
 
   -- a holder has the ticket that is served, and the value is out with it
-  pub record Holds (m : Moment V) (me t : ℕ) (v : V) : Type 0 where
+  pub record HoldsTurn (m : Moment V) (me t : ℕ) (v : V) : Type 0 where
     pub queues : Queues m me t
     pub is_served : t ≡ m.served
     pub is_out : m.out ≡ true
@@ -91,7 +91,7 @@ module _ {V I : Type 0} (list : V → List I) (owner : I → Option ℕ) (part :
   abbrev pub StageFits : Moment V → ℕ → Stage V → Type 0
   StageFits m me Idle = Unit {0}
   StageFits m me (Waiting t) = Queues m me t
-  StageFits m me (Holding t v) = Holds m me t v
+  StageFits m me (Holding t v) = HoldsTurn m me t v
 
   -- what two lists, its own and a note's, have made a seat see
   pub record Learned (n : ℕ) (mine theirs seen : List I) : Type 0 where
@@ -106,7 +106,7 @@ module _ {V I : Type 0} (list : V → List I) (owner : I → Option ℕ) (part :
 
   -- what is true of a seat with a number
   pub record SeatFits (m : Moment V) (me : ℕ) (k : Known I) (stage : Stage V) (learned : Option (List I × List I)) : Type 0 where
-    pub stands : Stands m.now m.desk me k.number k.seen
+    pub stands : SeatStands m.now m.desk me k.number k.seen
     pub own_part : part m.now k.number ≡ k.own
     pub for_seats : made_for m.now ≡ k.seats
     pub stage_fits : StageFits m me stage
@@ -117,7 +117,7 @@ module _ {V I : Type 0} (list : V → List I) (owner : I → Option ℕ) (part :
   Fits m me (Opens next count) = (made_for m.now ≡ count) × ((n : ℕ) → next ≤ n → IsUngiven m.now m.desk me n)
   Fits m me (Tells seen) = Begins seen (list m.now)
   Fits m me (Sits k stage learned) = SeatFits m me k stage learned
-  Fits m me (Gathers them) = All (λ k. Knows m.now m.desk me k) them
+  Fits m me (Gathers them) = All (λ k. SeatKnows m.now m.desk me k) them
 
   -- the words: tickets drawn and served, modulo 2^64, and the length of the list
   abbrev pub words_of : Moment V → List ℕ

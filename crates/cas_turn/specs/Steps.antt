@@ -66,8 +66,8 @@ module _ {V I : Type 0} where
   IsHolding me v inside = me ≡ holding (known_of me.0) (ticket_in me) v inside
 
   -- it is a seat that took in no note
-  abbrev pub IsSettled : Sat V I → Type 0
-  IsSettled me = me.0 ≡ sat (known_of me.0) (stage_of me.0)
+  abbrev pub TookNoNote : Sat V I → Type 0
+  TookNoNote me = me.0 ≡ sat (known_of me.0) (stage_of me.0)
 
   -- the table and the place stay the same
   pub record IsSamePlace (p q : Seat (Option V) (View V I)) : Type 0 where
@@ -146,7 +146,7 @@ module _ {V I : Type 0} (list : V → List I) (owner : I → Option ℕ) (part :
     pub for_seats : made_for after ≡ made_for before
 
   -- a seat with what it had seen has now seen the longer of that and of what the note brought
-  pub record Heard (theirs : List I) (me me' : Sat V I) : Type 0 where
+  pub record HeardNote (theirs : List I) (me me' : Sat V I) : Type 0 where
     pub seat : me' ≡ (sat (record (known_of me.0) { seen = longer_of (known_of me.0).seen theirs }) (stage_of me.0), me.1)
     pub has_seen : HasSeenOwn owner (known_of me.0).number (known_of me.0).seen (longer_of (known_of me.0).seen theirs)
     pub begins : Begins theirs (longer_of (known_of me.0).seen theirs)

@@ -2,7 +2,7 @@
 ghost use Rattle.std.specs.Prelude.{◌≡◌, ℕ, ◌+◌, ◌<◌, ◌≤◌, ◌^◌, List, [], ◌∷◌, length, Some, None};
 ghost use Rattle.cas_turn.specs.declared.view.Stage.TheVariants.{Holding};
 ghost use Rattle.cas_turn.specs.Seen.{HasSeenOwn};
-ghost use Rattle.cas_turn.specs.Steps.{IsPlaceOf, IsSamePlace, IsWaiting, IsHolding, IsSettled, Took, Grew, Heard, known_of, known_from, stage_of, ticket_in, idle, holding};
+ghost use Rattle.cas_turn.specs.Steps.{IsPlaceOf, IsSamePlace, IsWaiting, IsHolding, TookNoNote, Took, Grew, HeardNote, known_of, known_from, stage_of, ticket_in, idle, holding};
 
 use crate::grows::Grows;
 use crate::plays::{Draw, Leave, Look, Measure, Note, Publish, Settle};
@@ -145,10 +145,10 @@ pub(crate) fn give_turn<V: Grows>(top: &Top<V>, place: &mut Place<V>, value: V)
 /// Tells one seat what another has seen.
 pub(crate) fn tell<V: Grows>(top: &Top<V>, from: &mut Place<V>, to: &mut Place<V>)
     requires table { IsPlaceOf top.now.table_id from.old × IsPlaceOf top.now.table_id to.old }
-    requires seats { IsSettled from.old.me × IsSettled to.old.me }
+    requires seats { TookNoNote from.old.me × TookNoNote to.old.me }
     ensures same { IsSamePlace from.old from.new × IsSamePlace to.old to.new }
     ensures from { from.new.me ≡ from.old.me }
-    ensures to { Heard V.list V.owner V.part V.seats
+    ensures to { HeardNote V.list V.owner V.part V.seats
         (known_of from.old.me.0).seen to.old.me to.new.me }
 {
     let note = top.split_seat::<Note>(from);

@@ -22,7 +22,7 @@ use Rattle.cas_board_steps.specs.Exchanges.Orders.{IsAgreedIn, IsAskingHarm, IsS
 use Rattle.cas_board_steps.proofs.Eras.Counting.{done_append, risen_by}
 use Rattle.cas_board_steps.proofs.Fronts.{goes_on_then}
 use Rattle.cas_board.proofs.Losses.{losses_append, counted_then}
-use Rattle.cas_board.specs.Changes.{IsCounted, Answers}
+use Rattle.cas_board.specs.Changes.{IsCounted, AnswersChange}
 use Rattle.cas_board.specs.Changes.Answers.{is_answered, is_not_begun}
 use Rattle.cas_board.specs.Looks.{told_by_look}
 use Rattle.cas_board.specs.Operations.{IsSilentSince, Operates}
@@ -150,7 +150,7 @@ module _ {V : Type 0} (tells : Type 0) (tries harms harms_then : ℕ) (old new :
       let still : done_calls (mine old.number new.seen) ≡ done_calls (mine old.number old.seen) = ap done_calls (front.own_marks ∙ append-nil (mine old.number old.seen)) in
       subst (λ (a : OpAnswer). CountsOn (rescanned_in old.own) a own (rescanned_in new.own)) (sym stopped) (risen_by (let e : rescanned_in new.own + 0 ≡ rescanned_in old.own + done_calls own = omega (arith, kept, grown, still) in e), tt)
 
-  pub change_ran : (asked : Task) (key : List ℕ) (program : List Clause) (told : Answer) → asked ≡ task.Change key program → new.own ≡ old.own → Answers key program tries harms harms_then old new told → HasRunTask tells tries harms harms_then asked (said.Change told) old new
+  pub change_ran : (asked : Task) (key : List ℕ) (program : List Clause) (told : Answer) → asked ≡ task.Change key program → new.own ≡ old.own → AnswersChange key program tries harms harms_then old new told → HasRunTask tells tries harms harms_then asked (said.Change told) old new
   change_ran asked key program told is same (is_answered call rounds between front of_call counted last tried) = record {
     own = mark.Begun old.number call key program ∷ between ++ mark.Ended old.number call rounds told ∷ [];
     front = front;

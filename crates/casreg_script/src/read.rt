@@ -29,7 +29,8 @@ pub fn read<S: Shelf, V: Disk>(
     requires quiet { IsAtRest world.old.council }
     requires network { (by : NetworkView) × IsNetwork network.old by }
     ensures read { IfOk result (λ answer. Through network.old network.new
-        (λ by next. IsReadLine (meaning S.Shelf V.Disk) by key.now world.old answer next world.new)) }
+        (λ by next. IsReadLine (meaning S.Shelf V.Disk)
+        by key.now world.old answer next world.new)) }
     ensures err { OnErr result ((world.new ≡ world.old) × (network.new ≡ network.old)) }
     ensures network { (by : NetworkView)
         → IsNetwork network.old by → (next : NetworkView) × IsNetwork network.new next }
