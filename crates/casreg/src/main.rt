@@ -4,7 +4,9 @@
 #![tactic(auto)]
 
 ghost use Rattle.std.specs.Prelude.{◌≡◌, vec_len, All, IfOk};
+ghost use Rattle.std.specs.Process.{exit_status};
 ghost use Rattle.cas_disk.specs.Memory.{faults_of};
+ghost use Rattle.casreg_command.specs.Status.{number_of};
 ghost use Rattle.casreg.specs.Disks.{AreFaultless, AreUnused, CountNoFault, IsUnused};
 
 mod folder;
@@ -32,6 +34,13 @@ fn main(rt: HostRuntime) -> ExitCode {
         // A word that is no text is none of a command.
         Err(_) => Status::Usage,
     };
+    exit_code(status)
+}
+
+/// How the process ends after that status: its exit status is the number of it.
+fn exit_code(status: Status) -> ExitCode
+    ensures { exit_status result ≡ number_of status }
+{
     ExitCode::from(status.number())
 }
 

@@ -232,6 +232,35 @@ const ROWS: [(&str, &str); 10] = [
     ),
 ];
 
+/// Numbers of acceptors, lines of the operator, and what a race over them writes.
+const SIZED_ROWS: [(&str, &str, &str); 3] = [
+    (
+        "race --acceptors 1",
+        "op probe a\nop join 2\nop probe a\n",
+        "op: probe a 1=none\nop: joined 2 era 2 rescanned 0\nop: probe a 1=none 2=none\n",
+    ),
+    (
+        "race --acceptors 5",
+        "op probe a\nop join 6\nop probe a\n",
+        "op: probe a 1=none 2=none 3=none 4=none 5=none\nop: joined 6 era 2 rescanned 0\nop: probe a 1=none 2=none 3=none 4=none 5=none 6=none\n",
+    ),
+    (
+        "race --acceptors 9",
+        "op probe a\nop join 10\n",
+        "op: probe a 1=none 2=none 3=none 4=none 5=none 6=none 7=none 8=none 9=none\nop: too many\n",
+    ),
+];
+
+#[test]
+fn the_operator_asks_and_adds_members_of_any_number(rt: HostRuntime) -> Result<(), Fail> {
+    for (words, input, output) in SIZED_ROWS {
+        let run = run(&rt, words, input.as_bytes(), FINE)?;
+        assert_eq!(rt; run.status, Status::Ok, "{words}");
+        assert_eq!(rt; run.written.as_slice(), output.as_bytes(), "{words}");
+    }
+    Ok(())
+}
+
 #[test]
 fn tells_all_in_its_order(rt: HostRuntime) -> Result<(), Fail> {
     for (input, output) in ROWS {
