@@ -23,7 +23,7 @@ use Rattle.cas_board_steps.proofs.Eras.Counting.{done_append, risen_by}
 use Rattle.cas_board_steps.proofs.Fronts.{goes_on_then}
 use Rattle.cas_board.proofs.Losses.{losses_append, counted_then}
 use Rattle.cas_board.specs.Changes.{IsCounted, AnswersChange}
-use Rattle.cas_board.specs.Changes.Answers.{is_answered, is_not_begun}
+use Rattle.cas_board.specs.Changes.AnswersChange.{is_answered, is_not_begun}
 use Rattle.cas_board.specs.Looks.{told_by_look}
 use Rattle.cas_board.specs.Operations.{IsSilentSince, Operates}
 use Rattle.cas_board.specs.Operations as operations

@@ -6,7 +6,7 @@ use Rattle.cas_turn.specs.Seen.{Begins}
 use Rattle.cas_turn.specs.Sitting.{Sitting}
 use Rattle.cas_turn.proofs.SeenLemmas.{begins_both}
 use Rattle.cas_board.specs.Changes.{AnswersChange}
-use Rattle.cas_board.specs.Changes.Answers.{is_answered, is_not_begun}
+use Rattle.cas_board.specs.Changes.AnswersChange.{is_answered, is_not_begun}
 use Rattle.test_board.specs.Meetings.{HasHeardOf}
 use Rattle.test_board.specs.Meetings.HasHeardOf.{has_ended, not_begun}
 use Rattle.test_board.proofs.meeting.change_and_meet.Goals as goal
