@@ -1,2 +1,3 @@
 pub mod Agreed
+pub mod Nothing
 pub mod Standing
