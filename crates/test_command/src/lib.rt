@@ -9,6 +9,8 @@ mod faults;
 #[cfg(test)]
 mod racing;
 #[cfg(test)]
+mod reading;
+#[cfg(test)]
 mod records;
 #[cfg(test)]
 mod rows;
