@@ -3,13 +3,13 @@ use Rattle.std.specs.Prelude.{◌≡◌, ⊤, ℕ, Bool, true, false, List, [], 
 use Rattle.cas_record.specs.declared.mark.Mark.{Mark}
 use Rattle.cas_record.specs.declared.mark.Mark.TheVariants.{Begun, Proposed, Voted, Acked, Floor, EraEntered, Ended, Harmed, Told}
 
--- the caller that it bears; what an operator was answered is caller 0's
+-- the caller that it bears; a floor, and what an operator was answered, is caller 0's
 abbrev pub owner_of : Mark → Option ℕ
 owner_of (Begun caller call key program) = Some caller
 owner_of (Proposed p) = Some p.caller
 owner_of (Voted acceptor key ballot) = None
 owner_of (Acked a) = None
-owner_of (Floor key ballot state) = None
+owner_of (Floor key ballot state) = Some 0
 owner_of (EraEntered proposer number) = None
 owner_of (Ended caller call rounds answer) = Some caller
 owner_of (Harmed caller call down) = Some caller

@@ -1,2 +1,3 @@
+mod Floors
 mod Refused
 mod Values

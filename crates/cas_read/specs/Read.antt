@@ -1,5 +1,5 @@
 -- What an operator is answered who reads a key over a board, and that it is so. Fronts are read oldest first.
-use Rattle.std.specs.Prelude.{◌≡◌, ◌≢◌, ⊤, ℕ, List, length, reverse, Result, Ok, Err, IfOk}
+use Rattle.std.specs.Prelude.{◌≡◌, ◌≢◌, ⊤, ℕ, List, reverse, Result, Ok, Err, IfOk}
 use Rattle.cas_ballot.specs.declared.ballot.Ballot.{Ballot}
 use Rattle.cas_ballot.specs.Ballot.{zero_ballot}
 use Rattle.cas_ballot.specs.Members.{IsMemberSet}
@@ -15,7 +15,8 @@ use Rattle.cas_record.specs.declared.operator.Asked.TheVariants as asked
 use Rattle.cas_record.specs.declared.read_answer.ReadAnswer.{ReadAnswer}
 use Rattle.cas_record.specs.declared.read_answer.ReadAnswer.TheVariants.{Value, Stopped}
 use Rattle.cas_turn.specs.Sitting.{Sitting}
-use Rattle.cas_board_steps.specs.Exchanges.Orders.{IsAgreedIn, IsAskingHarm, IsProbeAnswer, IsTrueProbe, WasEmptyBehind}
+use Rattle.cas_board_steps.specs.Exchanges.Orders.{IsAgreedIn, IsAskingHarm, IsProbeAnswer, IsTrueProbe}
+use Rattle.cas_agreement.specs.Nothing.{IsSettledEmpty}
 use Rattle.cas_board.specs.Looks.{told_by_look}
 use Rattle.cas_board.specs.Operations.{IsSilentSince, Operates}
 use Rattle.cas_board.specs.declared.probing.Look.{Look}
@@ -34,14 +35,14 @@ pub record IsValueSoOnBoard (before all : List Mark) (key : List ℕ) (state : S
   pub goes_on : IsPrefix (settled_of key (reverse before)) (chain_of key ballot (reverse all))
   pub begins : IsPrefix (chain_of key ballot (reverse all)) (settled_of key (reverse all))
 
--- The state is empty, and so was the register at some time since the front before.
-pub record IsEmptySoOnBoard (before all : List Mark) (key : List ℕ) (state : State) : Type 0 where
+-- The state is empty, and that is what was settled in the front before leaves.
+pub record IsEmptySoOnBoard (before : List Mark) (key : List ℕ) (state : State) : Type 0 where
   pub is : state ≡ Empty
-  pub was : WasEmptyBehind (length before) all key
+  pub was : IsSettledEmpty key (reverse before)
 
 -- a value at a ballot above zero is that history's, and one at zero is that of an empty register
 abbrev pub IsAnswerSo : List Mark → List Mark → ReadAnswer → Type 0
-IsAnswerSo before all (Value key state ballot) = (ballot ≢ zero_ballot → IsValueSoOnBoard before all key state ballot) × (ballot ≡ zero_ballot → IsEmptySoOnBoard before all key state)
+IsAnswerSo before all (Value key state ballot) = (ballot ≢ zero_ballot → IsValueSoOnBoard before all key state ballot) × (ballot ≡ zero_ballot → IsEmptySoOnBoard before key state)
 IsAnswerSo before all other = ⊤
 
 -- ---- a read

@@ -20,7 +20,7 @@ use std::sync::Wait;
 /// What is answered is made from a look of the board ([`Board::look`]), and an answer [`ReadAnswer::Stopped`] is what stopped that. If there is no
 /// memory for the key, it is [`Answer::NoMemory`], and nothing happened. Where disks tell what they keep, a state at a ballot above zero is what
 /// the history up to that ballot leaves. This history goes on from what was settled in the front before the call, and begins what is settled in
-/// the front then. At ballot zero, the register was empty at some time since the call began.
+/// the front then. At ballot zero, what was settled in the front before the call leaves the empty state.
 pub fn read<R: Wait, D: Disk, F: Fate>(
     board: &Board<D>,
     rt: &R,

@@ -82,7 +82,7 @@ such_marks key call (kinds.Ended caller number rounds told ∷ l) of_call none =
 such_marks key call (kinds.Harmed caller number down ∷ l) of_call none = such_if key call (caller == 0) (kinds.Harmed caller number down) (mine 0 l) tt (λ rest. such_marks key call l rest none) of_call
 such_marks key call (kinds.Voted acceptor other ballot ∷ l) of_call none = such_marks key call l of_call none
 such_marks key call (kinds.Acked a ∷ l) of_call none = such_marks key call l of_call none
-such_marks key call (kinds.Floor other ballot state ∷ l) of_call none = such_marks key call l of_call none
+such_marks key call (kinds.Floor other ballot state ∷ l) of_call none = absurd (cc (All-head (λ mark. call_of mark ≡ Some call) (kinds.Floor other ballot state) (mine 0 l) of_call))
 such_marks key call (kinds.EraEntered proposer number ∷ l) of_call none = such_marks key call l of_call none
 such_marks key call (kinds.Told asks told ∷ l) of_call none = absurd (cc (All-head (λ mark. call_of mark ≡ Some call) (kinds.Told asks told) (mine 0 l) of_call))
 

@@ -367,12 +367,13 @@ floor_held {S} {V} key most old new has kept by =
     let was = is_step old key step.Floor has in
     let made : List Mark = kinds.Floor by.at.collection.course.key (tomb_of by.at.collection.tombstone) Empty ∷ [] in
     let leaves : Leaves old new made = leaves_desks old _ new made by.view refl refl refl refl in
-    let only = only_one 0 (kinds.Floor by.at.collection.course.key (tomb_of by.at.collection.tombstone) Empty) (λ n e. absurd (cc e)) in
+    let only = only_one 0 (kinds.Floor by.at.collection.course.key (tomb_of by.at.collection.tombstone) Empty) (λ n e. sym (cc e)) in
     let none = none_then old new made leaves was.no_call in
+    let floor_key : by.at.collection.course.key ≡ key = ap (λ (c : CollectionView). c.course.key) (some_is (sym by.at.is_collection ∙ was.at.is_collection)) ∙ was.at.same_key in
     let at = steps_on key step.Floor step.Remove old.council new.council was.at by.at.order by.at.collection _ by.at.is_open by.at.is_collection (ap (λ (w : View S V). w.council.order) by.view) (ap (λ (w : View S V). w.council.plan) by.view) (ap (λ (w : View S V). w.council.collection) by.view) refl (ap (step_after by.at.collection.course.proposers) by.is_due) refl in
     record {
       does = (
-        record { marks = made; makes = makes_by old new made leaves (tt, tt) only; all_such = All-nil (IsTombstoneMark key); few = omega arith; counts = λ enters. absurd (enters 0 0); keeps = λ not. none_counted was.at at },
+        record { marks = made; makes = makes_by old new made leaves (tt, tt) only; all_such = All-cons (IsTombstoneMark key) (kinds.Floor by.at.collection.course.key (tomb_of by.at.collection.tombstone) Empty) [] (floor_key, refl) (All-nil (IsTombstoneMark key)); few = omega arith; counts = λ enters. absurd (enters 0 0); keeps = λ not. none_counted was.at at },
         has_step new key step.Remove (record { no_call = none; at = at; none_asked = ap (λ (w : View S V). w.council.exchange) by.view ∙ was.none_asked }),
       );
       kept = kept_then old new made leaves only kept none;

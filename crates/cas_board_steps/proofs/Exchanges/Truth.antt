@@ -1,7 +1,7 @@
 -- That what is read of a key is so, by the marks before and after.
 use Rattle.std.proofs.Common.{◌≡◌, ◌≤◌, ℕ, true, List, [], ◌∷◌, ◌++◌, length, length-append, map, reverse, Option, None, Some, sym, ap, subst, ◌∙◌, append_assoc, arith}
 use Rattle.std.specs.Prelude.{take, drop}
-use Rattle.std.proofs.lemmas.List.{reverse-append, take-append-drop, take-append-le, length-take-le}
+use Rattle.std.proofs.lemmas.List.{reverse-append, take-append-drop, take-append-le, length-take-le, length-reverse}
 use Rattle.cas_ballot.specs.Ballot.{zero_ballot}
 use Rattle.cas_ballot.specs.declared.ballot.Ballot.{Ballot}
 use Rattle.cas_quorum.specs.declared.era.Era.{Era}
@@ -18,13 +18,16 @@ use Rattle.cas_record.specs.declared.operator.Probe.{Probe as ProbeOf}
 use Rattle.cas_record.specs.declared.operator.Probes.{Probes}
 use Rattle.cas_slot.specs.declared.slot.Accepted.{Accepted}
 use Rattle.cas_model.specs.Council.{ExchangeView}
-use Rattle.cas_model.specs.Exchanges.ReadLaws.{IsReadGathered, IsReadSo, WasEmptyOnce}
+use Rattle.cas_model.specs.Exchanges.Read.{AgreeAt}
+use Rattle.cas_model.specs.Exchanges.ReadLaws.{IsReadGathered, IsReadSo, WasEmptyOnce, marks_before}
 use Rattle.cas_model.specs.History.{IsRemembered}
 use Rattle.cas_model.specs.View.{Meaning, View, IsAt}
 use Rattle.cas_model.proofs.Exchanges.ReadLaws.{reads_are_so, reads_of_nothing_are_so}
 use Rattle.cas_model.proofs.Openings.Opens.{remembered_legal}
 use Rattle.cas_board_steps.specs.Exchanges.Orders.{IsAgreedStateTrue, IsTrueAgreement, IsTrueRead}
+use Rattle.cas_agreement.specs.Nothing.{HasNoFloorSince, IsSettledEmpty}
 use Rattle.cas_agreement.specs.Told.{Rises}
+use Rattle.cas_agreement.proofs.Nothing.{reads_find_nothing}
 use Rattle.cas_agreement.proofs.Agreed.{agree_at, agree_on}
 
 -- ---- fronts of a record
@@ -52,7 +55,7 @@ module _ (fewer more all : List Mark) (behind : List Mark) (first : fewer ++ beh
 
   read_earlier : (found : Probes) (ballot : Ballot) (at : Option ℕ) → IsAgreedStateTrue more all key found ballot at → IsAgreedStateTrue fewer all key found ballot at
   read_earlier found ballot at is = record {
-    nothing = λ zero. let was = is.nothing zero in record { since = was.since; more = omega (arith, longer, was.more); empty = was.empty };
+    nothing = λ zero. let was = is.nothing zero in record { since = was.since; more = omega (arith, longer, was.more); empty = was.empty; before = was.before };
     state = λ place one promise accepted at_is at_one told. let so = is.state place one promise accepted at_is at_one told in (so.0, so_earlier accepted so.1);
   }
 
@@ -94,8 +97,8 @@ module _ {S V : Type 0} (m : Meaning S V) (old new : View S V) (exchange : Excha
     nothing = λ zero. record {
       since = exchange.since;
       more = few;
-      empty = subst (λ (l : List Mark). WasEmptyOnce (reverse l) (reverse new.marks) key) (sym since_same)
-          (reads_of_nothing_are_so m old new exchange key era is gathered (agree_at exchange.told rises era zero_ballot (subst (λ (b : Ballot). is_agreed era exchange.told b ≡ true) zero agrees))).1;
+      empty = subst (λ (l : List Mark). WasEmptyOnce (reverse l) (reverse new.marks) key) (sym since_same) (empty_at zero).1;
+      before = λ few short none. found_empty zero few short none;
     };
     state = λ place one promise accepted place_is at_one told.
         let on = agree_on exchange.told rises era ballot place one promise accepted agrees (sym place_is ∙ at_is) (subst (λ (l : List ProbeOf). IsAt l place one) keeps at_one) told in
@@ -104,6 +107,21 @@ module _ {S V : Type 0} (m : Meaning S V) (old new : View S V) (exchange : Excha
     where
       few : length (take exchange.since new.marks) ≤ exchange.since
       few = omega (arith, length-take-le exchange.since new.marks long)
+
+      at_zero : ballot ≡ zero_ballot → AgreeAt era exchange.told zero_ballot
+      at_zero zero = agree_at exchange.told rises era zero_ballot (subst (λ (b : Ballot). is_agreed era exchange.told b ≡ true) zero agrees)
+
+      empty_at : ballot ≡ zero_ballot → (new.marks ≡ old.marks) × WasEmptyOnce (marks_before old exchange) (reverse new.marks) key
+      empty_at zero = reads_of_nothing_are_so m old new exchange key era is gathered (at_zero zero)
+
+      found_empty : ballot ≡ zero_ballot → (so_many : ℕ) → so_many ≤ exchange.since → HasNoFloorSince key (reverse (take so_many new.marks)) (reverse new.marks)
+          → IsSettledEmpty key (reverse (take so_many new.marks))
+      found_empty zero so_many short none =
+          let part = subst (λ (l : List Mark). IsOlderPart (reverse (take so_many new.marks)) (reverse l)) (take-append-drop so_many new.marks) (front_part (take so_many new.marks) (drop so_many new.marks)) in
+          let size : length (reverse (take so_many new.marks)) ≤ exchange.since = omega (arith, length-reverse (take so_many new.marks), length-take-le so_many new.marks (omega (arith, short, long)), short) in
+          reads_find_nothing m old new exchange key era (reverse (take so_many new.marks)) is gathered (at_zero zero)
+          (subst (λ (l : List Mark). IsOlderPart (reverse (take so_many new.marks)) (reverse l)) (empty_at zero).0 part) size
+          (subst (λ (l : List Mark). HasNoFloorSince key (reverse (take so_many new.marks)) (reverse l)) (empty_at zero).0 none)
 
   gathered_truly : (found : Probes) (agreement : Agreement) → found.probes.items ≡ exchange.told → IsAgreementOf era found.probes.items agreement → IsTrueAgreement (take exchange.since new.marks) new.marks key found agreement
   gathered_truly found (agreed.Value ballot at) keeps agrees = let parts = subst (λ (l : List ProbeOf). IsAgreementOf era l (agreed.Value ballot at)) keeps agrees in read_now found ballot at keeps parts.0 parts.1

@@ -3,7 +3,8 @@ use Rattle.std.specs.Prelude.{◌≡◌, ◌⊎◌, ◌≤◌, ◌<◌, ⊤, ℕ
 use Rattle.cas_collect.specs.declared.collect.CollectStep.{CollectStep}
 use Rattle.cas_collect.specs.declared.collect.CollectStep.TheVariants as step
 use Rattle.cas_record.specs.declared.mark.Mark.{Mark}
-use Rattle.cas_record.specs.declared.mark.Mark.TheVariants.{Begun, Proposed, Ended, Harmed}
+use Rattle.cas_change.specs.declared.state.State.TheVariants.{Empty}
+use Rattle.cas_record.specs.declared.mark.Mark.TheVariants.{Begun, Proposed, Ended, Harmed, Floor}
 use Rattle.cas_record.specs.declared.operator.Asked.TheVariants as asked
 use Rattle.cas_record.specs.declared.operator.OpAnswer.{OpAnswer}
 use Rattle.cas_record.specs.declared.operator.OpAnswer.TheVariants as told
@@ -88,12 +89,14 @@ HasCourse key tries course.Removes own marks = HasStep key step.Remove own
 HasCourse key tries course.HearsRemovals own marks = HasQuestion key step.Remove own
 
 -- ---- what a hold does
--- It is of the call of the key's round, which changes no state and ends with no conflict; or it tells of a frame that was harmed.
+-- It is of the call of the key's round, which changes no state and ends with no conflict; or it tells of a frame that was harmed; or it is the
+-- key's floor, which holds the empty state.
 abbrev pub IsTombstoneMark : List ℕ → Mark → Type 0
 IsTombstoneMark key (Begun caller call other program) = (other ≡ key) × (program ≡ keep_always)
 IsTombstoneMark key (Proposed p) = ⊤
 IsTombstoneMark key (Ended caller call rounds answer) = is_conflict answer ≡ false
 IsTombstoneMark key (Harmed caller call down) = ⊤
+IsTombstoneMark key (Floor other ballot state) = (other ≡ key) × (state ≡ Empty)
 IsTombstoneMark key other = ⊥
 
 -- the same, but that call may end with a conflict once it has had so many rounds
@@ -102,6 +105,7 @@ IsCollectingMark key tries (Begun caller call other program) = (other ≡ key) �
 IsCollectingMark key tries (Proposed p) = ⊤
 IsCollectingMark key tries (Ended caller call rounds answer) = is_conflict answer ≡ true → rounds ≡ tries
 IsCollectingMark key tries (Harmed caller call down) = ⊤
+IsCollectingMark key tries (Floor other ballot state) = (other ≡ key) × (state ≡ Empty)
 IsCollectingMark key tries other = ⊥
 
 -- it is answered that the key is collected, or why it is not

@@ -11,6 +11,7 @@ use Rattle.cas_ballot.specs.Ballot.{zero_ballot}
 use Rattle.cas_ballot.specs.declared.ballot.Ballot.{Ballot}
 use Rattle.cas_slot.specs.declared.message.Tell.TheVariants as tell
 use Rattle.cas_slot.specs.declared.slot.Accepted.{Accepted}
+use Rattle.cas_agreement.specs.Nothing.{HasNoFloorSince, IsSettledEmpty}
 use Rattle.cas_model.specs.Exchanges.ReadLaws.{IsReadSo, WasEmptyOnce}
 use Rattle.cas_world.specs.declared.exchange.Exchange.{Exchange}
 use Rattle.cas_world.specs.declared.exchange.Exchange.TheVariants as this
@@ -205,11 +206,13 @@ IsAgreedSo acceptors vaults marks (told.Probed key found) (Some agreement) = IsA
 IsAgreedSo acceptors vaults marks (told.Probed key found) None = ⊥
 IsAgreedSo acceptors vaults marks other agreement = ⊤
 
--- the register was empty at some time since so many marks, or more, had been made
+-- The register was empty at some time since so many marks, or more, had been made. What was settled at any time before leaves the empty state,
+-- if no floor of the key was made since.
 pub record WasEmptyBehind (many : ℕ) (all : List Mark) (key : List ℕ) : Type 0 where
   pub since : ℕ
   pub more : many ≤ since
   pub empty : WasEmptyOnce (reverse (take since all)) (reverse all) key
+  pub before : (few : ℕ) → few ≤ since → HasNoFloorSince key (reverse (take few all)) (reverse all) → IsSettledEmpty key (reverse (take few all))
 
 -- What they agree on is so: if it is nothing, the register was empty; else the state is that of the history up to its ballot, which goes on from
 -- what was settled before, and begins what is settled now.

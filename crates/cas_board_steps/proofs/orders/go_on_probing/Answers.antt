@@ -1,4 +1,4 @@
-use Rattle.std.proofs.Common.{None, not, ap, ◌∙◌}
+use Rattle.std.proofs.Common.{not, ap, ◌∙◌}
 use Rattle.std.specs.Prelude.{take}
 use Rattle.cas_board_steps.proofs.Exchanges.Probes.{one_waits, no_frame_waits, stopped_answers, stopped_silent, stop_heard}
 use Rattle.cas_board_steps.proofs.orders.go_on_probing.Goals as goal

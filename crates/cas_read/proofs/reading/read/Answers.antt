@@ -1,6 +1,7 @@
 use Rattle.std.proofs.Common.{sym, subst}
 use Rattle.cas_record.specs.declared.read_answer.ReadAnswer.{ReadAnswer}
 use Rattle.cas_read.specs.Read.{IsAnswerSo}
+use Rattle.cas_read.proofs.Floors.{look_floorless}
 use Rattle.cas_read.proofs.Refused.{refused_read}
 use Rattle.cas_read.proofs.Values.{answered, look_so}
 use Rattle.cas_read.proofs.reading.read.Goals as goal
@@ -21,5 +22,6 @@ returns-in-Ok-look-clause-reads g c = record {
 
 pub returns-in-Ok-look-clause-truly : goal.returns-in-Ok-look-clause-truly
 returns-in-Ok-look-clause-truly g c tells =
+    let floorless = look_floorless c.args.key.now (g.F.Fate.harm_count c.args.fate.now) (g.F.Fate.harm_count c.look.new.fate) c.args.pass.now c.look.new.pass c.look.result _ c.requires.operator c.in-Ok-look.is c.look.ensures.operates in
     subst (λ (a : ReadAnswer). IsAnswerSo c.args.pass.now.seen c.look.new.pass.seen a) (sym (answered c.args.key.now c.in-Ok.named c.look.result c.in-Ok-look.field-0 c.of.result c.in-Ok.ensures c.in-Ok-look.is c.of.ensures))
-    (look_so g.D.Disk.tells c.args.pass.now.seen c.look.new.pass.seen c.args.key.now c.look.result c.look.ensures.agreed (c.look.ensures.reads tells))
+    (look_so g.D.Disk.tells c.args.pass.now.seen c.look.new.pass.seen c.args.key.now floorless.0 floorless.1 c.look.result c.look.ensures.agreed (c.look.ensures.reads tells))
