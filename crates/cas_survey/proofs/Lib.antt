@@ -1,0 +1,4 @@
+mod Among
+mod Gathering
+pub mod Keys
+mod Noting
