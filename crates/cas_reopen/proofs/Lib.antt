@@ -1,0 +1,5 @@
+mod Filling
+mod Giving
+mod Listing
+mod Restoring
+mod Settled
