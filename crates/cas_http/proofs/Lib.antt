@@ -7,6 +7,7 @@ mod LongerFronts
 mod ObjectMembers
 mod OutcomeJson
 mod ProgramJson
-mod RequestFronts
+pub mod RequestFronts
+pub mod RequestSizes
 mod Responses
 mod Utf8

@@ -44,12 +44,12 @@ end_stays head size size' more within =
     let there : nat_le (head.length + head.body) size' ≡ true = grind (arith, common_steps) in
     rw (here, there) refl
 
-not_there : (head : Head) (bytes : List ℕ) → length bytes < head.length + head.body → spelled_by head bytes (end_within head (length bytes)) ≡ None
+pub not_there : (head : Head) (bytes : List ℕ) → length bytes < head.length + head.body → spelled_by head bytes (end_within head (length bytes)) ≡ None
 not_there head bytes short =
     let test : nat_le (head.length + head.body) (length bytes) ≡ false = grind (arith, common_steps) in
     rw test refl
 
-there : (head : Head) (bytes : List ℕ) → head.length + head.body ≤ length bytes
+pub there : (head : Head) (bytes : List ℕ) → head.length + head.body ≤ length bytes
     → spelled_by head bytes (end_within head (length bytes)) ≡ Some (spelled_with head (slice_range bytes head.length (head.length + head.body)) (head.length + head.body))
 there head bytes within =
     let test : nat_le (head.length + head.body) (length bytes) ≡ true = grind (arith, common_steps) in

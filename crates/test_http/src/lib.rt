@@ -7,6 +7,8 @@
 #[cfg(test)]
 mod answers;
 #[cfg(test)]
+mod connections;
+#[cfg(test)]
 mod heads;
 #[cfg(test)]
 mod programs;

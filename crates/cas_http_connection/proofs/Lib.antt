@@ -1,0 +1,4 @@
+pub mod Hearing
+pub mod Answering
+pub mod Spelling
+pub mod Serving
