@@ -92,13 +92,13 @@ same_test ballot (Some tell.Kept) is = is
 same_test ballot (Some (tell.Listed after keys more)) is = is
 
 -- what is told at a ballot above zero
-pub record Told (ballot : Ballot) (told : Option Tell) : Type 0 where
+pub record ToldAboveZero (ballot : Ballot) (told : Option Tell) : Type 0 where
   pub promise : Ballot
   pub accepted : Accepted
   pub is : told ≡ Some (tell.Probed promise (Some accepted))
   pub same : accepted.ballot ≡ ballot
 
-told_above : (ballot : Ballot) (told : Option Tell) → ballot ≢ zero_ballot → is_ballot_told ballot (ballot_told told) ≡ true → Told ballot told
+told_above : (ballot : Ballot) (told : Option Tell) → ballot ≢ zero_ballot → is_ballot_told ballot (ballot_told told) ≡ true → ToldAboveZero ballot told
 told_above ballot (Some (tell.Probed promise (Some accepted))) above is = record { promise = promise; accepted = accepted; is = refl; same = ballot_same is }
 told_above ballot (Some (tell.Probed promise None)) above is = absurd (above (sym (ballot_same is)))
 told_above ballot None above is = absurd (cc is)
@@ -146,7 +146,7 @@ pub record ToldAt (number : ℕ) (ballot : Ballot) (found : List Answered) : Typ
   pub is : place_of number ballot found ≡ Some place
   pub one : Answered
   pub at : IsAt found place one
-  pub told : Told ballot one.told
+  pub told : ToldAboveZero ballot one.told
 
 told_where : (era : Era) (found : List Answered) (ballot : Ballot) → ballot ≢ zero_ballot → list_any (tells_in era.number ballot) found ≡ true → ToldAt era.number ballot found
 told_where era found ballot above someone =

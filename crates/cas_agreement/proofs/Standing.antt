@@ -30,7 +30,7 @@ any_at {A} test (y ∷ xs) zero x at passes = or_left (test y) (list_any test xs
 any_at test (y ∷ xs) (suc place) x at passes = or_right (test y) (list_any test xs) (any_at test xs place x at passes)
 
 -- the first that passes
-pub record First {A : Type 0} (test : A → Bool) (xs : List A) : Type 0 where
+pub record FirstPassing {A : Type 0} (test : A → Bool) (xs : List A) : Type 0 where
   pub place : ℕ
   pub is : position test xs ≡ Some place
   pub one : A
@@ -44,13 +44,13 @@ none_beyond n size place e low = by_test (nat_lt n size) refl
     by_test true is = absurd (cc (e, is))
     by_test false is = grind (arith, is, low)
 
-pub first : {A : Type 0} (test : A → Bool) (xs : List A) → list_any test xs ≡ true → First test xs
+pub first : {A : Type 0} (test : A → Bool) (xs : List A) → list_any test xs ≡ true → FirstPassing test xs
 first {A} test xs is = by_place (position test xs) refl
   where
     some : Passing test xs
     some = passing test xs is
 
-    by_place : (o : Option ℕ) → position test xs ≡ o → First test xs
+    by_place : (o : Option ℕ) → position test xs ≡ o → FirstPassing test xs
     by_place None none =
         let low = none_beyond (position_or_len test xs) (length xs) some.place none (low_at xs some.place some.at) in
         absurd (cc (some.passes, fails_before_first test xs some.place some.one low, get_or_from_slice_get xs some.place some.one some.one some.at))

@@ -23,6 +23,7 @@ use Rattle.cas_record.proofs.PlaceLemmas.{newest_or, stands_at, stands_deeper, p
 use Rattle.cas_record.proofs.Tests.{proposal_tells, key_same, key_refl, ballot_is, ballot_same}
 use Rattle.cas_record.proofs.Histories.Chains.{has_proposal_is, top_cases, entry_place}
 use Rattle.cas_record.proofs.Histories.Calls.{program_of_begun, counted_part}
+use Rattle.cas_record.proofs.LegalLemmas.{split_at}
 use Rattle.cas_audit.specs.Keeping.{KeepsNumbers, KeepsStanding, KeepsRefusals, StandsLate, KeepsRealTime, KeepsSettled, KeepsVotes, KeepsFloors, KeepsHarms, LegalGoesOn}
 use Rattle.cas_audit.specs.Rules.{DoneStands, StandsAfterSeen, OnlyGrows, AckedByVotes, FloorsAreTombstones, ShortIsHarmed}
 use Rattle.cas_audit.proofs.Histories.{counted_of}
@@ -228,14 +229,6 @@ grows_of (Floor key ballot state) older is = is.each whole (later whole) key
 grows_of mark older is = tt
 
 -- ---- what is settled was begun
-record Split {A : Type 0} (x : A) (older all : List A) : Type 0 where
-  front : List A
-  joins : all ≡ front ++ x ∷ older
-
-split_at : {A : Type 0} {x : A} {older all : List A} → At x older all → Split x older all
-split_at here = record { front = []; joins = refl }
-split_at (past {y = y} at) = let s = split_at at in record { front = y ∷ s.front; joins = ap (λ rest. y ∷ rest) s.joins }
-
 pub was_begun : (marks : List Mark) → IsNumbered marks → (key : List ℕ) (entry : Entry) → Stands entry (settled_of key marks) → WasBegun key entry marks
 was_begun marks numbered key entry s =
     let split = split_at s.at in

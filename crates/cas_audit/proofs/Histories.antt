@@ -17,9 +17,9 @@ use Rattle.cas_record.specs.Legal.{IsNumbered}
 use Rattle.cas_record.proofs.PlaceLemmas.{older_than, newer_than, at_one, order, stands_at, at_part, part_at, part_part, last_or_in}
 use Rattle.cas_record.proofs.Tests.{proposal_tells}
 use Rattle.cas_record.proofs.Histories.Chains.{has_proposal_tells, chain-none, chain-opened, chain-opens, chain-later, no_calls, nil_not}
-use Rattle.cas_record.proofs.Histories.Calls.{IsCounted}
+use Rattle.cas_record.proofs.Histories.Calls.{AreCallsCounted}
 
-pub counted_of : {marks : List Mark} → IsNumbered marks → IsCounted marks
+pub counted_of : {marks : List Mark} → IsNumbered marks → AreCallsCounted marks
 counted_of is = record { begun = λ at. is.begun at }
 
 pub numbered_part : {part marks : List Mark} → IsNumbered marks → IsOlderPart part marks → IsNumbered part

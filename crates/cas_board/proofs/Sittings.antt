@@ -249,16 +249,16 @@ goes_on_none call pass has = record {
 
 -- ---- a call that has begun, from hold to hold
 -- the pass of a call that has gone on, and what was lost by then
-pub record HasRun {A : Type 0} (call harms harms_now : ℕ) (old now : Sitting A Mark) : Type 0 where
+pub record SittingHasRun {A : Type 0} (call harms harms_now : ℕ) (old now : Sitting A Mark) : Type 0 where
   pub pass : now ≡ record old { seen = now.seen; own = now.own }
   pub lost : ℕ
   pub counted : IsCounted lost harms harms_now
   pub gone : HasGoneOnInHold call lost old now
 
-pub run_begins : {A : Type 0} (call harms : ℕ) (pass : Sitting A Mark) → HasOpen call pass.own → HasRun call harms harms pass pass
+pub run_begins : {A : Type 0} (call harms : ℕ) (pass : Sitting A Mark) → HasOpen call pass.own → SittingHasRun call harms harms pass pass
 run_begins call harms pass has = record { pass = refl; lost = 0; counted = counted_none harms; gone = goes_on_none call pass has }
 
-module _ {A : Type 0} (call harms harms_now : ℕ) (a b c : Sitting A Mark) (run : HasRun call harms harms_now a b) (asked : c ≡ record b { seen = c.seen }) where
+module _ {A : Type 0} (call harms harms_now : ℕ) (a b c : Sitting A Mark) (run : SittingHasRun call harms harms_now a b) (asked : c ≡ record b { seen = c.seen }) where
   pub asked_pass : (board : Turning) → IsPassOf board a → IsPassOf board c
   asked_pass board is = let now = still_pass board a b is run.pass in record {
     turn = ap (λ (s : Sitting A Mark). s.turn) asked ∙ now.turn;
@@ -284,7 +284,7 @@ module _ {A : Type 0} (call harms harms_now : ℕ) (a b c : Sitting A Mark) (run
     pub run_pass : d ≡ record a { seen = d.seen; own = d.own }
     run_pass = gave ∙ ap (λ (s : Sitting A Mark). record s { seen = d.seen; own = d.own }) asked ∙ ap (λ (s : Sitting A Mark). record s { seen = d.seen; own = d.own }) run.pass
 
-    pub run_goes_on : HasGoneOnInHold call most c d → HasRun call harms harms_then a d
+    pub run_goes_on : HasGoneOnInHold call most c d → SittingHasRun call harms harms_then a d
     run_goes_on gone = record {
       pass = run_pass;
       lost = run.lost + most;

@@ -26,10 +26,10 @@ rest_same old new zero same = ap council_part same
 rest_same old new (suc n) same = refl
 
 -- no exchange of the operator is open
-pub record IsQuiet (council : Council) : Type 0 where
+pub record IsExchangeQuiet (council : Council) : Type 0 where
   pub exchange : council.exchange ≡ None
 
-quiet_of : {S V : Type 0} (view : View S V) (n : ℕ) (council : Council) → council.exchange ≡ None → rest_of view n ≡ council_part council → n ≡ 0 → IsQuiet view.council
+quiet_of : {S V : Type 0} (view : View S V) (n : ℕ) (council : Council) → council.exchange ≡ None → rest_of view n ≡ council_part council → n ≡ 0 → IsExchangeQuiet view.council
 quiet_of view zero council unasked e is = record { exchange = no_exchange view.council.exchange ((is_like view.council council e).exchange ∙ ap exchange_part unasked) }
 quiet_of view (suc n) council unasked e is = absurd (cc is)
 
@@ -40,7 +40,7 @@ idle_parts view n idle = no_call_of (slice_get view.callers n) (rest_of view n) 
 pub idle_call : {S V : Type 0} (view : View S V) (n : ℕ) → IsIdle (own_part view n) → (caller : CallerView) → IsAt view.callers n caller → caller.call ≡ None
 idle_call view n idle = (idle_parts view n idle).0
 
-pub idle_quiet : {S V : Type 0} (view : View S V) (n : ℕ) → IsIdle (own_part view n) → n ≡ 0 → IsQuiet view.council
+pub idle_quiet : {S V : Type 0} (view : View S V) (n : ℕ) → IsIdle (own_part view n) → n ≡ 0 → IsExchangeQuiet view.council
 idle_quiet view n idle = quiet_of view n idle.council idle.unasked (idle_parts view n idle).1
 
 -- where nothing is open but a change of membership, no call is
@@ -48,7 +48,7 @@ pub free_is_idle : (own : List ℕ) → NothingIsOpen own → IsIdle own
 free_is_idle own free = record { council = with_plan free.plan; unasked = refl; is = free.is ∙ sym (append-nil (plan_part free.plan)) }
 
 -- ---- a call is open
-pub record IsOpenAt {S V : Type 0} (view : View S V) (n call : ℕ) : Type 0 where
+pub record HasOpenCallAt {S V : Type 0} (view : View S V) (n call : ℕ) : Type 0 where
   pub caller : CallerView
   pub at_caller : IsAt view.callers n caller
   pub number : caller.number ≡ call
@@ -77,10 +77,10 @@ caller_parts (Some one) rest call rounds phase beside not e = record { caller = 
 has_parts : {S V : Type 0} (view : View S V) (n call : ℕ) (has : HasOpen call (own_part view n)) → CallerParts (slice_get view.callers n) (rest_of view n) call (council_part has.council)
 has_parts view n call has = caller_parts (slice_get view.callers n) (rest_of view n) call has.rounds has.phase (council_part has.council) (rest_first view n) (sym (own_is view n) ∙ has.is)
 
-pub open_at : {S V : Type 0} (view : View S V) (n call : ℕ) → HasOpen call (own_part view n) → IsOpenAt view n call
+pub open_at : {S V : Type 0} (view : View S V) (n call : ℕ) → HasOpen call (own_part view n) → HasOpenCallAt view n call
 open_at view n call has = let p = has_parts view n call has in record { caller = p.caller; at_caller = p.is; number = p.parts.same; open_call = p.parts.open_call; is_open = p.parts.is_open }
 
-pub open_quiet : {S V : Type 0} (view : View S V) (n call : ℕ) → HasOpen call (own_part view n) → n ≡ 0 → IsQuiet view.council
+pub open_quiet : {S V : Type 0} (view : View S V) (n call : ℕ) → HasOpen call (own_part view n) → n ≡ 0 → IsExchangeQuiet view.council
 open_quiet view n call has = quiet_of view n has.council has.unasked (has_parts view n call has).parts.rest_is
 
 -- ---- what becomes of it

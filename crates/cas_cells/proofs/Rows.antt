@@ -10,7 +10,7 @@ use Rattle.cas_cells.specs.Held.{on, SoundAt, FramesHeld, CellHeld, OnDisk, IsRo
 use Rattle.cas_cells.specs.declared.cell.Side.{Side}
 use Rattle.cas_cells.specs.declared.cell.Side.TheVariants.{First, Second}
 use Rattle.cas_cells.specs.declared.cell.Cell.{Cell}
-use Rattle.cas_cells.proofs.Sound.{IsSound, not_less}
+use Rattle.cas_cells.proofs.Sound.{IsCellSound, not_less}
 use Rattle.cas_cells.proofs.Turning.{held_sound}
 use Rattle.cas_cells.proofs.Places.{sized, first_size, wrong_first, payload_first}
 
@@ -55,19 +55,19 @@ abbrev pub AllSound : ℕ → List (Option (List ℕ)) → List ℕ → Type 0
 AllSound narrow cells disk = (i : ℕ) (payload : Option (List ℕ)) → slice_get cells i ≡ Some payload → SoundAt narrow i payload disk
 
 module _ (narrow : ℕ) where
-  pub at_frames : (disk : List ℕ) (i : ℕ) (payload : Option (List ℕ)) → IsSound (half_size narrow i) payload (frame_at narrow disk (2 * i)) (frame_at narrow disk (2 * i + 1)) → SoundAt narrow i payload disk
+  pub at_frames : (disk : List ℕ) (i : ℕ) (payload : Option (List ℕ)) → IsCellSound (half_size narrow i) payload (frame_at narrow disk (2 * i)) (frame_at narrow disk (2 * i + 1)) → SoundAt narrow i payload disk
   at_frames disk i payload is = record { whole = is.whole; same = is.same }
 
-  from_frames : (disk : List ℕ) (i : ℕ) (payload : Option (List ℕ)) → SoundAt narrow i payload disk → IsSound (half_size narrow i) payload (frame_at narrow disk (2 * i)) (frame_at narrow disk (2 * i + 1))
+  from_frames : (disk : List ℕ) (i : ℕ) (payload : Option (List ℕ)) → SoundAt narrow i payload disk → IsCellSound (half_size narrow i) payload (frame_at narrow disk (2 * i)) (frame_at narrow disk (2 * i + 1))
   from_frames disk i payload is = record { whole = is.whole; same = is.same }
 
   -- the frames of a cell, from its current one and its spare
   pub sound_from : (side : Side) (disk : List ℕ) (i : ℕ) (payload : Option (List ℕ)) (current spare : List ℕ) → frame_at narrow disk (frame_of i side) ≡ current → frame_at narrow disk (frame_of i (other side)) ≡ spare
-      → IsSound (half_size narrow i) payload (on side current spare) (on side spare current) → SoundAt narrow i payload disk
+      → IsCellSound (half_size narrow i) payload (on side current spare) (on side spare current) → SoundAt narrow i payload disk
   sound_from First disk i payload current spare is_current is_spare is = at_frames disk i payload
-      (subst (λ (f : List ℕ). IsSound (half_size narrow i) payload f (frame_at narrow disk (2 * i + 1))) (sym is_current) (subst (λ (g : List ℕ). IsSound (half_size narrow i) payload current g) (sym is_spare) is))
+      (subst (λ (f : List ℕ). IsCellSound (half_size narrow i) payload f (frame_at narrow disk (2 * i + 1))) (sym is_current) (subst (λ (g : List ℕ). IsCellSound (half_size narrow i) payload current g) (sym is_spare) is))
   sound_from Second disk i payload current spare is_current is_spare is = at_frames disk i payload
-      (subst (λ (f : List ℕ). IsSound (half_size narrow i) payload f (frame_at narrow disk (2 * i + 1))) (sym is_spare) (subst (λ (g : List ℕ). IsSound (half_size narrow i) payload spare g) (sym is_current) is))
+      (subst (λ (f : List ℕ). IsCellSound (half_size narrow i) payload f (frame_at narrow disk (2 * i + 1))) (sym is_spare) (subst (λ (g : List ℕ). IsCellSound (half_size narrow i) payload spare g) (sym is_current) is))
 
   pub cell_sound : (disk : List ℕ) (i : ℕ) (cell : Cell) → CellHeld narrow disk i cell → SoundAt narrow i (payload_held cell) disk
   cell_sound disk i cell held = sound_from cell.side disk i (payload_held cell) _ _ refl refl (held_sound (half_size narrow i) (sized narrow (2 * i)) cell _ _ held)
@@ -109,8 +109,8 @@ module _ (narrow : ℕ) where
   other_sound old c i j side payload others apart is =
       let apart_frames = frames_apart i j side apart in
       at_frames c j payload
-      (subst (λ (f : List ℕ). IsSound (half_size narrow j) payload f (frame_at narrow c (2 * j + 1))) (sym (others (2 * j) apart_frames.0))
-      (subst (λ (g : List ℕ). IsSound (half_size narrow j) payload (frame_at narrow old (2 * j)) g) (sym (others (2 * j + 1) apart_frames.1)) (from_frames old j payload is)))
+      (subst (λ (f : List ℕ). IsCellSound (half_size narrow j) payload f (frame_at narrow c (2 * j + 1))) (sym (others (2 * j) apart_frames.0))
+      (subst (λ (g : List ℕ). IsCellSound (half_size narrow j) payload (frame_at narrow old (2 * j)) g) (sym (others (2 * j + 1) apart_frames.1)) (from_frames old j payload is)))
 
   -- a cell changed and kept its payload
   pub row_kept : (cells : List (Option (List ℕ))) (old c : List ℕ) (i : ℕ) (side : Side) (payload : Option (List ℕ)) → AllSound narrow cells old → Others narrow (frame_of i side) old c → slice_get cells i ≡ Some payload → SoundAt narrow i payload c → AllSound narrow cells c

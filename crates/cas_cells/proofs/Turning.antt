@@ -12,7 +12,7 @@ use Rattle.cas_cells.specs.declared.cell.Side.TheVariants.{First, Second}
 use Rattle.cas_cells.specs.declared.cell.Cell.{Cell}
 use Rattle.cas_cells.proofs.Places.{IsSize}
 use Rattle.cas_cells.proofs.Frames.{frame_whole}
-use Rattle.cas_cells.proofs.Sound.{IsSound, sound}
+use Rattle.cas_cells.proofs.Sound.{IsCellSound, sound}
 use Rattle.cas_cells.proofs.Tearing.{gate_tail}
 use Rattle.cas_cells.proofs.Zeros.{zero_past, zero_gate, zero_tail, zero_frame}
 
@@ -22,14 +22,14 @@ module _ (size : ℕ) (fit : IsSize size) where
   weaken (Some p) P Q F f here = here
 
   -- a cell in memory whose frames stand on the disk is sound
-  pub held_sound : (cell : Cell) (current spare : List ℕ) → FramesHeld size cell current spare → IsSound size (payload_held cell) (on cell.side current spare) (on cell.side spare current)
+  pub held_sound : (cell : Cell) (current spare : List ℕ) → FramesHeld size cell current spare → IsCellSound size (payload_held cell) (on cell.side current spare) (on cell.side spare current)
   held_sound cell current spare held =
       sound size fit cell.side (payload_held cell) cell.number cell.spare_open current spare
       (weaken (payload_held cell) (IsBlank cell × IsShut size current) ((cell.spare_open ≡ false) × IsShut size current) (λ p. IsFrame size cell.number p current) (λ blank. (blank.0.spare, blank.1)) held.in_current)
       held.in_spare
 
   -- a cell in memory whose frames stand on the disk but for the spare, which is closed
-  pub held_shut : (cell : Cell) (current spare spare' : List ℕ) → FramesHeld size cell current spare → IsShut size spare' → IsSound size (payload_held cell) (on cell.side current spare') (on cell.side spare' current)
+  pub held_shut : (cell : Cell) (current spare spare' : List ℕ) → FramesHeld size cell current spare → IsShut size spare' → IsCellSound size (payload_held cell) (on cell.side current spare') (on cell.side spare' current)
   held_shut cell current spare spare' held shut =
       sound size fit cell.side (payload_held cell) cell.number false current spare'
       (weaken (payload_held cell) (IsBlank cell × IsShut size current) ((false ≡ false) × IsShut size current) (λ p. IsFrame size cell.number p current) (λ blank. (refl, blank.1)) held.in_current)
@@ -56,13 +56,13 @@ module _ (size : ℕ) (fit : IsSize size) where
 
   -- while an open spare is closed, its gate may hold anything
   pub while_closing : (cell : Cell) (current spare spare' : List ℕ) → FramesHeld size cell current spare → cell.spare_open ≡ true → drop 1 spare' ≡ drop 1 spare → length spare' ≡ size
-      → IsSound size (payload_held cell) (on cell.side current spare') (on cell.side spare' current)
+      → IsCellSound size (payload_held cell) (on cell.side current spare') (on cell.side spare' current)
   while_closing cell current spare spare' held opened tail long = elim (cases_eq (get_or spare' 0 0) 1) [
     | inl gate ↦
         let older = in_older cell.spare_open cell.number spare opened held.in_spare in
         let same : spare' ≡ spare =
         gate_tail spare' (omega (arith, long, fit.least)) ∙ (λ i. gate i ∷ tail i) ∙ ap (λ (l : List ℕ). 1 ∷ drop 1 l) older.3.bytes ∙ sym older.3.bytes in
-        subst (λ (f : List ℕ). IsSound size (payload_held cell) (on cell.side current f) (on cell.side f current)) (sym same) (held_sound cell current spare held)
+        subst (λ (f : List ℕ). IsCellSound size (payload_held cell) (on cell.side current f) (on cell.side f current)) (sym same) (held_sound cell current spare held)
     | inr shut ↦ held_shut cell current spare spare' held (shut_frame spare' long shut)
   ]
 
@@ -105,13 +105,13 @@ module _ (size : ℕ) (fit : IsSize size) where
   older_or_shut cell (Some q) n current is held follows =
       (cell.number, q, follows, subst (λ (o : Option (List ℕ)). MatchOption o (IsBlank cell × IsShut size current) (λ q. IsFrame size cell.number q current)) (sym is) held)
 
-  turned : (side : Side) (pay : Option (List ℕ)) (f g : List ℕ) → IsSound size pay (on (other side) g f) (on (other side) f g) → IsSound size pay (on side f g) (on side g f)
+  turned : (side : Side) (pay : Option (List ℕ)) (f g : List ℕ) → IsCellSound size pay (on (other side) g f) (on (other side) f g) → IsCellSound size pay (on side f g) (on side g f)
   turned First pay f g is = is
   turned Second pay f g is = is
 
   -- while a spare that holds a payload is opened, the cell has its old payload or that one
   pub while_opening : (cell : Cell) (p current spare spare' : List ℕ) → FramesHeld size cell current spare → IsPayload size p → drop 1 spare ≡ tail_of size (next cell.number) p → drop 1 spare' ≡ drop 1 spare → length spare' ≡ size
-      → IsSound size (payload_held cell) (on cell.side current spare') (on cell.side spare' current) ⊎ IsSound size (Some p) (on cell.side current spare') (on cell.side spare' current)
+      → IsCellSound size (payload_held cell) (on cell.side current spare') (on cell.side spare' current) ⊎ IsCellSound size (Some p) (on cell.side current spare') (on cell.side spare' current)
   while_opening cell p current spare spare' held fits holds tail long = elim (cases_eq (get_or spare' 0 0) 1) [
     | inl gate ↦
         let frame = staged cell p spare' fits (tail ∙ holds) long gate in

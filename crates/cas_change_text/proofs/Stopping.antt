@@ -22,7 +22,7 @@ no_words (word ∷ a) b e = absurd cc
 -- ---- readers of a front
 
 -- what was read is a front of the words, and is read so whatever follows
-pub record Goes {X : Type 0} (read : WordsLeft → Read X) (at : ℕ) (words : List Word) (x : X) (left : WordsLeft) : Type 0 where
+pub record ReadsFront {X : Type 0} (read : WordsLeft → Read X) (at : ℕ) (words : List Word) (x : X) (left : WordsLeft) : Type 0 where
   pub front : List Word
   pub split : words ≡ front ++ left.words
   pub place : left.at ≡ at + length front
@@ -46,7 +46,7 @@ pub record Stops {X : Type 0} (read : WordsLeft → Read X) (at : ℕ) (words : 
   pub on : (later : List Word) → read (from at (before ++ (more ++ later))) ≡ Ok (x, from next later)
 
 pub record IsReader {X : Type 0} (read : WordsLeft → Read X) : Type 0 where
-  pub goes : (at : ℕ) (words : List Word) (x : X) (left : WordsLeft) → read (from at words) ≡ Ok (x, left) → Goes read at words x left
+  pub goes : (at : ℕ) (words : List Word) (x : X) (left : WordsLeft) → read (from at words) ≡ Ok (x, left) → ReadsFront read at words x left
   pub stops : (at : ℕ) (words : List Word) (refusal : TextRefusal) → read (from at words) ≡ Err refusal → Stops read at words refusal
 
 -- some words are read, whatever follows
@@ -120,7 +120,7 @@ pub one_word_reader : {X : Type 0} (says : ℕ → Word → Result X TextRefusal
 one_word_reader {X} says place good some is = record { goes = goes_on; stops = stops_at }
   where
     goes_word : (at : ℕ) (word : Word) (words : List Word) (x : X) (left : WordsLeft) (r : Result X TextRefusal) → says at word ≡ r → (r >>= read_as (from (at + 1) words)) ≡ Ok (x, left)
-        → Goes (one_word says) at (word ∷ words) x left
+        → ReadsFront (one_word says) at (word ∷ words) x left
     goes_word at word words x left (Err refusal) e is = absurd cc
     goes_word at word words x left (Ok y) e is =
         let same : (y, from (at + 1) words) ≡ (x, left) = cc in
@@ -131,7 +131,7 @@ one_word_reader {X} says place good some is = record { goes = goes_on; stops = s
           again = λ rest. rw e (ap (λ (p : X × WordsLeft). Ok (p.0, from p.1.at rest)) same);
         }
 
-    goes_on : (at : ℕ) (words : List Word) (x : X) (left : WordsLeft) → one_word says (from at words) ≡ Ok (x, left) → Goes (one_word says) at words x left
+    goes_on : (at : ℕ) (words : List Word) (x : X) (left : WordsLeft) → one_word says (from at words) ≡ Ok (x, left) → ReadsFront (one_word says) at words x left
     goes_on at [] x left e = absurd cc
     goes_on at (word ∷ words) x left e = goes_word at word words x left (says at word) refl e
 
@@ -195,7 +195,7 @@ repeats_second read then at next front before (word ∷ rest) x refusal on again
 pub then_reader : {X Y : Type 0} (read : WordsLeft → Read X) (then : X → WordsLeft → Read Y) → IsReader read → ((x : X) → IsReader (then x)) → IsReader (after read then)
 then_reader {X} {Y} read then first second = record { goes = goes_on; stops = stops_at }
   where
-    goes_on : (at : ℕ) (words : List Word) (y : Y) (left : WordsLeft) → after read then (from at words) ≡ Ok (y, left) → Goes (after read then) at words y left
+    goes_on : (at : ℕ) (words : List Word) (y : Y) (left : WordsLeft) → after read then (from at words) ≡ Ok (y, left) → ReadsFront (after read then) at words y left
     goes_on at words y left e =
         let step = bind_ok (read (from at words)) (λ x. then x.0 x.1) (y, left) e in
         let a = first.goes at words step.0.0 step.0.1 step.1 in

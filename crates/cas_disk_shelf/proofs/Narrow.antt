@@ -38,26 +38,26 @@ use Rattle.cas_disk_shelf.proofs.Using.{row_behind, row_grown}
 -- ---- what cells show
 
 -- these cells are a shelf with these contents
-pub record IsShown (row : List (Option (List ℕ))) (contents : Contents) : Type 0 where
+pub record IsRowShown (row : List (Option (List ℕ))) (contents : Contents) : Type 0 where
   pub is_row : IsRow row
   pub told : head_of (head_in row) ≡ Ok (head_for row contents.ages)
   pub show : Show (narrow_in row) (cell_in row) (count_in row) contents.slots
   pub few : slot_count contents.slots ≤ 4096
 
-pub shown_is : (row : List (Option (List ℕ))) (contents : Contents) (disk : List ℕ) → IsShown row contents → IsImageOf row disk → left_on disk ≡ Ok contents
+pub shown_is : (row : List (Option (List ℕ))) (contents : Contents) (disk : List ℕ) → IsRowShown row contents → IsImageOf row disk → left_on disk ≡ Ok contents
 shown_is row contents disk is stands = read_spelled row contents disk is.is_row is.told is.show is.few stands
 
-pub shown_of : (row : List (Option (List ℕ))) (loaded : Loaded) → IsRow row → IsMoving row loaded → IsShown row loaded.memory.held
+pub shown_of : (row : List (Option (List ℕ))) (loaded : Loaded) → IsRow row → IsMoving row loaded → IsRowShown row loaded.memory.held
 shown_of row loaded is_row is = record { is_row = is_row; told = ap head_of is.head ∙ head_again _ is.fits; show = is.behind.show; few = is.behind.few }
 
 -- a change from cells with these contents to others leaves them
-pub shown_moment : {D : Type 0} (moment : D → ℕ) (left_since : D → ℕ → List ℕ → Type 0) (old new : D) (row row' : List (Option (List ℕ))) (contents : Contents) → IsShown row contents → IsShown row' contents → ContinuesOnly moment left_since old new (IsBeforeOrAfter row row') → ContinuesOnly moment left_since old new (λ c. left_on c ≡ Ok contents)
+pub shown_moment : {D : Type 0} (moment : D → ℕ) (left_since : D → ℕ → List ℕ → Type 0) (old new : D) (row row' : List (Option (List ℕ))) (contents : Contents) → IsRowShown row contents → IsRowShown row' contents → ContinuesOnly moment left_since old new (IsBeforeOrAfter row row') → ContinuesOnly moment left_since old new (λ c. left_on c ≡ Ok contents)
 shown_moment moment left_since old new row row' contents before after run =
     weaker moment left_since old new (IsBeforeOrAfter row row') (λ c. left_on c ≡ Ok contents)
     (λ c either. ⊎_elim (λ stands. shown_is row contents c before stands) (λ stands. shown_is row' contents c after stands) either) run
 
 -- the disk was not touched
-pub shown_still : {D : Type 0} (tells : Type 0) (seen : D → List ℕ) (may_leave : D → List ℕ → Type 0) (moment : D → ℕ) (left_since : D → ℕ → List ℕ → Type 0) (now : Cells D) (contents : Contents) → CellsStand tells seen may_leave now → IsShown (cells_of now) contents → ((c : List ℕ) → left_since (disk_of now) (moment (disk_of now)) c → may_leave (disk_of now) c) → tells → ContinuesOnly moment left_since (disk_of now) (disk_of now) (λ c. left_on c ≡ Ok contents)
+pub shown_still : {D : Type 0} (tells : Type 0) (seen : D → List ℕ) (may_leave : D → List ℕ → Type 0) (moment : D → ℕ) (left_since : D → ℕ → List ℕ → Type 0) (now : Cells D) (contents : Contents) → CellsStand tells seen may_leave now → IsRowShown (cells_of now) contents → ((c : List ℕ) → left_since (disk_of now) (moment (disk_of now)) c → may_leave (disk_of now) c) → tells → ContinuesOnly moment left_since (disk_of now) (disk_of now) (λ c. left_on c ≡ Ok contents)
 shown_still tells seen may_leave moment left_since now contents stands shown only t =
     started moment left_since (disk_of now) (λ c. left_on c ≡ Ok contents) (λ c left. shown_is (cells_of now) contents c shown (crash_leaves tells seen may_leave now stands t c (only c left)))
 
@@ -143,7 +143,7 @@ module _ (row : List (Option (List ℕ))) (old : Loaded) (is : IsMoving row old)
     grown_shows = subst (λ (x : ℕ × ℕ). Show x.0 (cell_in (grown row)) x.1 slots) (λ t. (sym told.narrow t, sym one_more t))
         (nothing_shows narrow (cell_in (grown row)) (cell_in (grown row)) last (last + 1) (last + 1) step slots front_shows nothing)
 
-    pub grown_shown : IsShown (grown row) old.memory.held
+    pub grown_shown : IsRowShown (grown row) old.memory.held
     grown_shown = record { is_row = grown_row; told = ap head_of told.head ∙ head_again _ told.fits; show = grown_shows; few = is.behind.few }
 
     pub grown_narrow : narrow_in (grown row) ≡ narrow
@@ -204,7 +204,7 @@ module _ (row : List (Option (List ℕ))) (old : Loaded) (is : IsMoving row old)
     this : w ≤ last → cell_in changed w ≡ Some payload
     this low = ap (λ (o : Option (Option (List ℕ))). unwrap_or o None) (get_set_same row w (Some payload) (omega (arith, low, row_length row is_row)))
 
-    shown_by : Show narrow (cell_in changed) last slots → IsShown changed old.memory.held
+    shown_by : Show narrow (cell_in changed) last slots → IsRowShown changed old.memory.held
     shown_by show = record {
       is_row = row_behind row w (Some payload) pos is_row;
       told = ap head_of (spelled_same old.memory.held.ages is.head) ∙ head_again _ (fits_same old.memory.held.ages is.fits);
@@ -252,7 +252,7 @@ module _ (row : List (Option (List ℕ))) (old : Loaded) (is : IsMoving row old)
       copied_shows = twin_shows narrow (cell_in row) (cell_in changed) last last w copy_step slots is.behind.show key first.2.0 here v first.0 spare.0 first.2.1
           (only_there narrow (cell_in row) last (cell_of old.memory) (alone_in old) (is_free old.memory) is.behind.known key v alone) (own ∙ sym (this spare.1))
 
-      pub copied_shown : IsShown changed old.memory.held
+      pub copied_shown : IsRowShown changed old.memory.held
       copied_shown = shown_by copied_shows
 
       pub copied_others : (i : ℕ) → 0 < i → i ≤ narrow → cell_in changed i ≡ cell_in row i
@@ -284,7 +284,7 @@ module _ (row : List (Option (List ℕ))) (old : Loaded) (is : IsMoving row old)
       cleared_show : Show narrow (cell_in changed) last slots
       cleared_show = cleared_shows narrow (cell_in row) (cell_in changed) last w key slot near others nothing_here that (cell_of old.memory) (alone_in old) (is_free old.memory) is.behind.known wide.0 wide.1 slots is.behind.show
 
-      pub cleared_shown : IsShown changed old.memory.held
+      pub cleared_shown : IsRowShown changed old.memory.held
       cleared_shown = shown_by cleared_show
 
       pub cleared_moving : IsMoving changed old

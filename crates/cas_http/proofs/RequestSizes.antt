@@ -84,15 +84,15 @@ waits_for_few bytes (front.Whole head, is, same) =
     (cases_lt (length bytes) (head.length + head.body))
 
 -- a request that stands there is told by a code with no bytes, or by a head that stands within the bytes with its body
-data Told (bytes : List ℕ) (asked : Spelled) : Type 0 where
-  by_code : (refusal : Code) → asked ≡ record { request = request.Refused refusal; length = 0; last = true } → Told bytes asked
+data ToldIn (bytes : List ℕ) (asked : Spelled) : Type 0 where
+  by_code : (refusal : Code) → asked ≡ record { request = request.Refused refusal; length = 0; last = true } → ToldIn bytes asked
   by_head : (head : Head) (body : List ℕ) → head.length + head.body ≤ length bytes → head.length + head.body ≤ MOST_HEAD + MOST_BODY
-      → asked ≡ spelled_with head body (head.length + head.body) → Told bytes asked
+      → asked ≡ spelled_with head body (head.length + head.body) → ToldIn bytes asked
 
 same_told : (a b : Spelled) → Some a ≡ Some b → a ≡ b
 same_told a b is = cc
 
-told_by : (bytes : List ℕ) (asked : Spelled) → BeginsWith bytes (Some asked) → Told bytes asked
+told_by : (bytes : List ℕ) (asked : Spelled) → BeginsWith bytes (Some asked) → ToldIn bytes asked
 told_by bytes asked (front.Open, is, same) = cc
 told_by bytes asked (front.Refused refusal, is, same) = by_code refusal (same_told _ _ same)
 told_by bytes asked (front.Whole head, is, same) =
@@ -102,7 +102,7 @@ told_by bytes asked (front.Whole head, is, same) =
     (λ (within : head.length + head.body ≤ length bytes). by_head head _ within (omega (arith, fits.1, fits.2)) (same_told _ _ (same ∙ there head bytes within)))
     (cases_lt (length bytes) (head.length + head.body))
 
-fits_told : (bytes : List ℕ) (asked : Spelled) → Told bytes asked → (asked.length ≤ length bytes) × (asked.length ≤ MOST_HEAD + MOST_BODY)
+fits_told : (bytes : List ℕ) (asked : Spelled) → ToldIn bytes asked → (asked.length ≤ length bytes) × (asked.length ≤ MOST_HEAD + MOST_BODY)
 fits_told bytes asked (by_code refusal is) =
     let size : asked.length ≡ 0 = ap (λ (x : Spelled). x.length) is in
     (omega arith, omega arith)
@@ -118,7 +118,7 @@ or_true : (a b : Bool) → b ≡ true → (a || b) ≡ true
 or_true true b is = refl
 or_true false b is = is
 
-closes_told : (bytes : List ℕ) (asked : Spelled) → Told bytes asked → refusal_closes asked.request ≡ true → asked.last ≡ true
+closes_told : (bytes : List ℕ) (asked : Spelled) → ToldIn bytes asked → refusal_closes asked.request ≡ true → asked.last ≡ true
 closes_told bytes asked (by_code refusal is) closes = ap (λ (x : Spelled). x.last) is
 closes_told bytes asked (by_head head body within few is) closes =
     let last : asked.last ≡ (head.last || refusal_closes (request_of head.asks body)) = ap (λ (x : Spelled). x.last) is in

@@ -13,7 +13,7 @@ use Rattle.cas_http.proofs.RequestSizes.{request_fits, refusal_is_last}
 use Rattle.cas_http_connection.specs.declared.connection.TheConstants.{MOST_REQUESTS}
 use Rattle.cas_http_connection.specs.declared.fault.ConnectionFault.{ConnectionFault}
 use Rattle.cas_http_connection.specs.declared.fault.ConnectionFault.TheVariants as fault
-use Rattle.cas_http_connection.specs.Input.{is_last, Spells, spells_none, spells_one_more, IsOpen, Gave, gave_nothing, Stops, Hears}
+use Rattle.cas_http_connection.specs.Input.{is_last, SpellsRequests, spells_none, spells_one_more, IsOpen, Gave, gave_nothing, Stops, HearsRequest}
 use Rattle.cas_http_connection.specs.Connection.{AnswersRequest, Answers, answers_none, answers_one_more, Puts, Parts, Serves}
 use Rattle.cas_http_connection.specs.Connection.{Ends, closes, input_ends, is_cut, reading_fails, writing_fails, no_memory_to_read, no_memory_to_answer}
 use Rattle.cas_http_connection.proofs.Spelling.{spells_on, gave_both}
@@ -32,7 +32,7 @@ module _ {S C : Type 0} (gives : S → Taken → S → Type 0) (changes : C → 
     pub gave : Gave gives IsOpen first.source bytes now.source
     pub taken : Consumes first.left now.left bytes
     pub requests : List Spelled
-    pub spells : Spells bytes requests false held
+    pub spells : SpellsRequests bytes requests false held
     pub text : List ℕ
     pub answers : Answers changes first.changer requests text now.changer
     pub written : Appends first.written now.written text
@@ -59,7 +59,7 @@ module _ {S C : Type 0} (gives : S → Taken → S → Type 0) (changes : C → 
     pub gave : Gave gives IsOpen first.source bytes mid
     pub taken : Consumes first.left left bytes
     pub requests : List Spelled
-    pub spells : Spells bytes requests false before
+    pub spells : SpellsRequests bytes requests false before
     pub text : List ℕ
     pub answers : Answers changes first.changer requests text now.changer
     pub written : Appends first.written now.written text
@@ -110,7 +110,7 @@ module _ {S C : Type 0} (gives : S → Taken → S → Type 0) (changes : C → 
 
   -- the input ended where nothing is held, or where something is
   pub input_ended : (answered passed : ℕ) (held rest : List ℕ) (new_source : S) (left : Option (List ℕ)) (now : Parts S C) → Midway answered passed held now
-      → Hears gives (Ok None) now.source new_source now.left left held rest → rest ≡ []
+      → HearsRequest gives (Ok None) now.source new_source now.left left held rest → rest ≡ []
       → Serves gives changes (Ok tt) first (read_on now new_source left)
   input_ended answered passed held rest new_source left now m h none =
       let f = further answered passed held h.more h.mid left now m h.gave h.taken in
@@ -119,7 +119,7 @@ module _ {S C : Type 0} (gives : S → Taken → S → Type 0) (changes : C → 
       (input_ends (sym h.tells.2 ∙ none) h.tells.0)
 
   pub input_cut : (answered passed : ℕ) (held rest : List ℕ) (new_source : S) (left : Option (List ℕ)) (now : Parts S C) → Midway answered passed held now
-      → Hears gives (Ok None) now.source new_source now.left left held rest → rest ≢ []
+      → HearsRequest gives (Ok None) now.source new_source now.left left held rest → rest ≢ []
       → Serves gives changes (Err (fault.Cut (passed + length rest))) first (read_on now new_source left)
   input_cut answered passed held rest new_source left now m h some =
       let f = further answered passed held h.more h.mid left now m h.gave h.taken in
@@ -128,7 +128,7 @@ module _ {S C : Type 0} (gives : S → Taken → S → Type 0) (changes : C → 
       (is_cut (λ none. some (h.tells.2 ∙ none)) h.tells.0 (ap (λ b. passed + length b) h.tells.2 ∙ f.sized))
 
   pub input_over : (answered passed : ℕ) (held rest : List ℕ) (new_source : S) (left : Option (List ℕ)) (now : Parts S C) (result : Result (Unit {0}) ConnectionFault) → Midway answered passed held now
-      → Hears gives (Ok None) now.source new_source now.left left held rest → (rest ≡ [] → result ≡ Ok tt) → (rest ≢ [] → result ≡ Err (fault.Cut (passed + length rest)))
+      → HearsRequest gives (Ok None) now.source new_source now.left left held rest → (rest ≡ [] → result ≡ Ok tt) → (rest ≢ [] → result ≡ Err (fault.Cut (passed + length rest)))
       → Serves gives changes result first (read_on now new_source left)
   input_over answered passed held [] new_source left now result m h ended cut =
       subst (λ r. Serves gives changes r first (read_on now new_source left)) (sym (ended refl)) (input_ended answered passed held [] new_source left now m h refl)
@@ -138,7 +138,7 @@ module _ {S C : Type 0} (gives : S → Taken → S → Type 0) (changes : C → 
 
   -- no request could be read
   pub read_failed : (answered passed : ℕ) (held rest : List ℕ) (new_source : S) (left : Option (List ℕ)) (now : Parts S C) (f : ConnectionFault) → Midway answered passed held now
-      → Hears gives (Err f) now.source new_source now.left left held rest
+      → HearsRequest gives (Err f) now.source new_source now.left left held rest
       → Serves gives changes (Err f) first (read_on now new_source left)
   read_failed answered passed held rest new_source left now fault.ReadFault m h =
       let f = further answered passed held h.more h.mid left now m h.gave h.taken in
@@ -158,7 +158,7 @@ module _ {S C : Type 0} (gives : S → Taken → S → Type 0) (changes : C → 
     pub behind : rest ≡ drop asked.length before
 
   pub next_request : (answered passed : ℕ) (held rest : List ℕ) (asked : Spelled) (new_source : S) (left : Option (List ℕ)) (now : Parts S C) → Midway answered passed held now
-      → Hears gives (Ok (Some asked)) now.source new_source now.left left held rest
+      → HearsRequest gives (Ok (Some asked)) now.source new_source now.left left held rest
       → IsNext answered passed asked rest (read_on now new_source left)
   next_request answered passed held rest asked new_source left now m h =
       let same : new_source ≡ h.mid = subst (λ s. Stops gives h.mid s new_source) h.tells.1 h.stops in
@@ -201,13 +201,14 @@ module _ {S C : Type 0} (gives : S → Taken → S → Type 0) (changes : C → 
       → Midway (answered + 1) (passed + asked.length) rest (answered_by now changer written)
   goes_on answered passed asked rest reply now changer written n answers appends still =
       let f = n.at in
-      let more : Spells f.bytes (f.requests ++ asked ∷ []) (is_last (length f.requests) asked) (drop asked.length n.before) = spells_one_more f.spells n.begins in
+      let more : SpellsRequests f.bytes (f.requests ++ asked ∷ []) (is_last (length f.requests) asked) (drop asked.length n.before) = spells_one_more f.spells n.begins in
       let stays : is_last (length f.requests) asked ≡ false = ap (λ k. is_last k asked) f.counted ∙ still in record {
         bytes = f.bytes;
         gave = f.gave;
         taken = f.taken;
         requests = f.requests ++ asked ∷ [];
-        spells = subst (Spells f.bytes (f.requests ++ asked ∷ []) false) (sym n.behind) (subst (λ b. Spells f.bytes (f.requests ++ asked ∷ []) b (drop asked.length n.before)) stays more);
+        spells = subst (SpellsRequests f.bytes (f.requests ++ asked ∷ []) false) (sym n.behind)
+            (subst (λ b. SpellsRequests f.bytes (f.requests ++ asked ∷ []) b (drop asked.length n.before)) stays more);
         text = f.text ++ reply;
         answers = answers_one_more asked f.answers (numbered answered asked f.requests now.changer changer reply f.counted answers);
         written = Appends-trans first.written now.written written f.text reply f.written appends;
@@ -224,7 +225,7 @@ module _ {S C : Type 0} (gives : S → Taken → S → Type 0) (changes : C → 
       → Serves gives changes (Ok tt) first (answered_by now changer written)
   closed_behind answered passed asked rest reply now changer written n answers appends ends =
       let f = n.at in
-      let more : Spells f.bytes (f.requests ++ asked ∷ []) (is_last (length f.requests) asked) (drop asked.length n.before) = spells_one_more f.spells n.begins in
+      let more : SpellsRequests f.bytes (f.requests ++ asked ∷ []) (is_last (length f.requests) asked) (drop asked.length n.before) = spells_one_more f.spells n.begins in
       let stops : is_last (length f.requests) asked ≡ true = ap (λ k. is_last k asked) f.counted ∙ ends in record {
         bytes = f.bytes;
         mid = now.source;
@@ -236,7 +237,7 @@ module _ {S C : Type 0} (gives : S → Taken → S → Type 0) (changes : C → 
         requests = f.requests ++ asked ∷ [];
         closed = true;
         rest = drop asked.length n.before;
-        spells = subst (λ b. Spells f.bytes (f.requests ++ asked ∷ []) b (drop asked.length n.before)) stops more;
+        spells = subst (λ b. SpellsRequests f.bytes (f.requests ++ asked ∷ []) b (drop asked.length n.before)) stops more;
         text = f.text ++ reply;
         changer = changer;
         answers = answers_one_more asked f.answers (numbered answered asked f.requests now.changer changer reply f.counted answers);

@@ -14,7 +14,7 @@ use Rattle.cas_http.specs.Outcomes.{reply_text}
 use Rattle.cas_http.specs.Requests.{BeginsWith}
 use Rattle.cas_http_connection.specs.declared.fault.ConnectionFault.{ConnectionFault}
 use Rattle.cas_http_connection.specs.declared.fault.ConnectionFault.TheVariants as fault
-use Rattle.cas_http_connection.specs.Input.{is_last, Spells, IsOpen, Gave, Stops}
+use Rattle.cas_http_connection.specs.Input.{is_last, SpellsRequests, IsOpen, Gave, Stops}
 
 -- ---- answers
 -- One request is answered by these bytes, with a changer before and behind it. A refusal asks it nothing, and is told by its code. A change is
@@ -78,7 +78,7 @@ pub record Serves {S C : Type 0} (gives : S → Taken → S → Type 0) (changes
   pub requests : List Spelled
   pub closed : Bool
   pub rest : List ℕ
-  pub spells : Spells bytes requests closed rest
+  pub spells : SpellsRequests bytes requests closed rest
   pub text : List ℕ
   pub changer : C
   pub answers : Answers changes old.changer requests text changer

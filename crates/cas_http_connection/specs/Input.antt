@@ -15,13 +15,13 @@ is_last before asked = asked.last || (suc before == MOST_REQUESTS)
 
 -- the bytes spell these requests, one behind another, and then these bytes are left. The connection closes behind the last of them, or not;
 -- behind none of the others it closes
-pub data Spells (bytes : List ℕ) : List Spelled → Bool → List ℕ → Type 0 where
-  spells_none : Spells bytes [] false bytes
-  spells_one_more : {requests : List Spelled} {rest : List ℕ} {asked : Spelled} → Spells bytes requests false rest → BeginsWith rest (Some asked) → Spells bytes (requests ++ asked ∷ []) (is_last (length requests) asked) (drop asked.length rest)
+pub data SpellsRequests (bytes : List ℕ) : List Spelled → Bool → List ℕ → Type 0 where
+  spells_none : SpellsRequests bytes [] false bytes
+  spells_one_more : {requests : List Spelled} {rest : List ℕ} {asked : Spelled} → SpellsRequests bytes requests false rest → BeginsWith rest (Some asked) → SpellsRequests bytes (requests ++ asked ∷ []) (is_last (length requests) asked) (drop asked.length rest)
 
 -- it is open what comes next: behind no request the connection closes, and what follows them is no whole request yet
 abbrev pub IsOpen : List ℕ → Type 0
-IsOpen bytes = (requests : List Spelled) × (rest : List ℕ) × Spells bytes requests false rest × BeginsWith rest None
+IsOpen bytes = (requests : List Spelled) × (rest : List ℕ) × SpellsRequests bytes requests false rest × BeginsWith rest None
 
 -- ---- what a source gave
 -- by its calls a source gave these bytes, and was asked only where this held of the bytes before
@@ -45,7 +45,7 @@ Tells bytes stop (Err fault.NoMemory) rest = (stop ≡ None) × (rest ≡ bytes)
 Tells bytes stop (Err other) rest = ⊥
 
 -- What a reader held and what its source gave, and what it tells of that. The source was asked only while no whole request was there.
-pub record Hears {S : Type 0} (gives : S → Taken → S → Type 0) (result : Result (Option Spelled) ConnectionFault) (old new : S) (input left : Option (List ℕ)) (held rest : List ℕ) : Type 0 where
+pub record HearsRequest {S : Type 0} (gives : S → Taken → S → Type 0) (result : Result (Option Spelled) ConnectionFault) (old new : S) (input left : Option (List ℕ)) (held rest : List ℕ) : Type 0 where
   pub more : List ℕ
   pub mid : S
   pub gave : Gave gives (λ bytes. BeginsWith (held ++ bytes) None) old more mid

@@ -5,7 +5,7 @@ ghost use Rattle.std.specs.Io.{StartsWith};
 ghost use Rattle.std.specs.Io.KnownBytes.{Consumes, IsAtEnd};
 ghost use Rattle.cas_base.specs.Faults.{Rose};
 ghost use Rattle.cas_lines.specs.Source.{Bytes, End, Fault};
-ghost use Rattle.cas_http_connection.specs.Input.{Hears};
+ghost use Rattle.cas_http_connection.specs.Input.{HearsRequest};
 
 use crate::fault::ConnectionFault;
 use cas_http::{Spelled, read_request};
@@ -63,7 +63,7 @@ pub(crate) fn next_request<S: Source>(
     source: &mut S,
     held: &mut Vec<u8>,
 ) -> Result<Option<Spelled>, ConnectionFault>
-    ensures hears { Hears S.take_gives result source.old source.new (S.remaining source.old)
+    ensures hears { HearsRequest S.take_gives result source.old source.new (S.remaining source.old)
         (S.remaining source.new) held.old.items held.new.items }
     ensures read_fault { IsErrOf result ConnectionFault.ReadFault
         → Rose (S.faults_of source.old) (S.faults_of source.new) }

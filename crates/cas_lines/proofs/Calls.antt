@@ -37,12 +37,12 @@ gives_front E old new count buf counted fine next = record {
 
 -- ---- filling up
 -- the bytes held grew by what calls gave
-pub record Gathered {S : Type 0} (gives : S → Taken → S → Type 0) (room : ℕ) (old : List ℕ) (old_source : S) (held : List ℕ) (source : S) : Type 0 where
+pub record FilledUp {S : Type 0} (gives : S → Taken → S → Type 0) (room : ℕ) (old : List ℕ) (old_source : S) (held : List ℕ) (source : S) : Type 0 where
   pub more : List ℕ
   pub calls : SourceGave gives room old old_source more source
   pub grown : held ≡ old ++ more
 
-pub gathered_nothing : {S : Type 0} (gives : S → Taken → S → Type 0) (room : ℕ) (held : List ℕ) (source : S) → Gathered gives room held source held source
+pub gathered_nothing : {S : Type 0} (gives : S → Taken → S → Type 0) (room : ℕ) (held : List ℕ) (source : S) → FilledUp gives room held source held source
 gathered_nothing gives room held source = record { more = []; calls = not_asked; grown = sym (append-nil held) }
 
 -- no newline within the room, and no byte beyond it
@@ -60,8 +60,8 @@ nothing_added old new front same = sym (take_all (length old) new (omega arith))
 
 -- one call more
 pub gathered_more : {S : Type 0} (gives : S → Taken → S → Type 0) (room : ℕ) (old : List ℕ) (old_source : S) (held new : List ℕ) (mid new_source : S)
-    → Gathered gives room old old_source held mid → IsOpen room held → StartsWith new held → gives mid (Bytes (drop (length held) new)) new_source
-    → Gathered gives room old old_source new new_source
+    → FilledUp gives room old old_source held mid → IsOpen room held → StartsWith new held → gives mid (Bytes (drop (length held) new)) new_source
+    → FilledUp gives room old old_source new new_source
 gathered_more gives room old old_source held new mid new_source g still front gave = record {
   more = g.more ++ drop (length held) new;
   calls = asked g.calls (subst (IsOpen room) g.grown still) gave;
@@ -70,18 +70,18 @@ gathered_more gives room old old_source held new mid new_source g still front ga
 
 -- the last call gave bytes
 pub grows_on : {S : Type 0} (gives : S → Taken → S → Type 0) (room : ℕ) (old : List ℕ) (old_source : S) (Stops : Option Taken → Type 0) (held : List ℕ) (source : S)
-    → Gathered gives room old old_source held source → Stops None → GrowsBy gives room old old_source Stops held source
+    → FilledUp gives room old old_source held source → Stops None → GrowsBy gives room old old_source Stops held source
 grows_on gives room old old_source Stops held source g stops = record { more = g.more; stop = None; heard = going g.calls; grown = g.grown; stops = stops }
 
 -- the last call gave none
 pub grows_to : {S : Type 0} (gives : S → Taken → S → Type 0) (room : ℕ) (old : List ℕ) (old_source : S) (Stops : Option Taken → Type 0) (held : List ℕ) (mid new_source : S) (last : Taken)
-    → Gathered gives room old old_source held mid → IsOpen room held → gives mid last new_source → Stops (Some last) → GrowsBy gives room old old_source Stops held new_source
+    → FilledUp gives room old old_source held mid → IsOpen room held → gives mid last new_source → Stops (Some last) → GrowsBy gives room old old_source Stops held new_source
 grows_to gives room old old_source Stops held mid new_source last g still gave stops =
     record { more = g.more; stop = Some last; heard = stopped g.calls (subst (IsOpen room) g.grown still) gave; grown = g.grown; stops = stops }
 
 -- the last call failed, or was not made for want of memory
 pub grows_not : {S : Type 0} (gives : S → Taken → S → Type 0) (room : ℕ) (old : List ℕ) (old_source : S) (held : List ℕ) (mid new_source : S) (fault : LineFault)
-    → Gathered gives room old old_source held mid → IsOpen room held
+    → FilledUp gives room old old_source held mid → IsOpen room held
     → (fault ≡ ReadFault → gives mid Fault new_source) → (fault ≡ NoMemory → new_source ≡ mid) → fault ≢ TooManyLines → ((line : ℕ) → fault ≢ Endless line)
     → GrowsBy gives room old old_source (λ stop. stop ≡ Some Fault ↔ fault ≡ ReadFault) held new_source
 grows_not gives room old old_source held mid new_source ReadFault g still failed unasked few short =
@@ -89,7 +89,7 @@ grows_not gives room old old_source held mid new_source ReadFault g still failed
 grows_not gives room old old_source held mid new_source TooManyLines g still failed unasked few short = absurd (few refl)
 grows_not gives room old old_source held mid new_source (Endless line) g still failed unasked few short = absurd (short line refl)
 grows_not gives room old old_source held mid new_source NoMemory g still failed unasked few short =
-    grows_on gives room old old_source _ held new_source (subst (λ source. Gathered gives room old old_source held source) (sym (unasked refl)) g) (λ is. cc, λ is. cc)
+    grows_on gives room old old_source _ held new_source (subst (λ source. FilledUp gives room old old_source held source) (sym (unasked refl)) g) (λ is. cc, λ is. cc)
 
 -- ---- what is told
 pub tells : {S : Type 0} (gives : S → Taken → S → Type 0) (room : ℕ) (old new : LinesState) (source new_source : S) (Stops : Option Taken → Type 0) (held : List ℕ) (result : Result (Option LineState) LineFault)

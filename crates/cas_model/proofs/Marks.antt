@@ -61,7 +61,7 @@ plain_both [] more none plain = plain
 plain_both (mark ∷ marks) more these plain = (these.0, plain_both marks more these.1 plain)
 
 -- a step makes such marks and no others, and tells the open call of no end
-pub record Adds {S V : Type 0} (Says : OpAnswer → Type 0) (old new : View S V) : Type 0 where
+pub record AddsMarks {S V : Type 0} (Says : OpAnswer → Type 0) (old new : View S V) : Type 0 where
   pub last_proposer : new.last_proposer ≡ old.last_proposer
   pub more : List Mark
   pub marks : new.marks ≡ old.marks ++ more
@@ -71,7 +71,7 @@ pub record Adds {S V : Type 0} (Says : OpAnswer → Type 0) (old new : View S V)
 module _ {S V : Type 0} {Says : OpAnswer → Type 0} where
   -- it is as another view, whose marks are those of the old one and these
   still : (old new middle : View S V) (more : List Mark) → new ≡ middle → ArePlain more → middle.last_proposer ≡ old.last_proposer → middle.marks ≡ old.marks ++ more
-      → (WasToldSo Says old.council.order → WasToldSo Says middle.council.order) → Adds Says old new
+      → (WasToldSo Says old.council.order → WasToldSo Says middle.council.order) → AddsMarks Says old new
   still old new middle more is plain last_proposer marks passing = record {
     last_proposer = ap (λ (v : View S V). v.last_proposer) is ∙ last_proposer;
     more = more;
@@ -80,7 +80,7 @@ module _ {S V : Type 0} {Says : OpAnswer → Type 0} where
     passing = λ was. subst (λ (v : View S V). WasToldSo Says v.council.order) (sym is) (passing was);
   }
 
-  then_ : (a b c : View S V) → Adds Says a b → Adds Says b c → Adds Says a c
+  then_ : (a b c : View S V) → AddsMarks Says a b → AddsMarks Says b c → AddsMarks Says a c
   then_ a b c first next = record {
     last_proposer = next.last_proposer ∙ first.last_proposer;
     more = first.more ++ next.more;
@@ -90,12 +90,12 @@ module _ {S V : Type 0} {Says : OpAnswer → Type 0} where
   }
 
   same : (old new middle : View S V) → new ≡ middle → middle.last_proposer ≡ old.last_proposer → middle.marks ≡ old.marks → (WasToldSo Says old.council.order → WasToldSo Says middle.council.order)
-      → Adds Says old new
+      → AddsMarks Says old new
   same old new middle is last_proposer marks passing = still old new middle [] is tt last_proposer (marks ∙ sym (append-nil old.marks)) passing
 
   -- what is as another view but for what has no marks
-  after : (old middle new shown : View S V) → Adds Says old middle → new ≡ shown → shown.last_proposer ≡ middle.last_proposer → shown.marks ≡ middle.marks
-      → (WasToldSo Says middle.council.order → WasToldSo Says shown.council.order) → Adds Says old new
+  after : (old middle new shown : View S V) → AddsMarks Says old middle → new ≡ shown → shown.last_proposer ≡ middle.last_proposer → shown.marks ≡ middle.marks
+      → (WasToldSo Says middle.council.order → WasToldSo Says shown.council.order) → AddsMarks Says old new
   after old middle new shown adds is last_proposer marks passing = then_ old middle new adds (same middle new shown is last_proposer marks passing)
 
 -- ---- why a listing cannot go on
@@ -196,12 +196,12 @@ plain_read era key found older marks (agreed.nothing none is) = subst ArePlain (
 
 -- ---- steps
 module _ {S V : Type 0} (Says : OpAnswer → Type 0) (passes : (answer : OpAnswer) → IsPassing answer → StopsUndone answer → Says answer) (m : Meaning S V) (old new : View S V) where
-  opens : (middle : View S V) (id : ℕ) (key : List ℕ) (program : List Clause) → calls.Opens old id key program middle → Adds Says old middle
+  opens : (middle : View S V) (id : ℕ) (key : List ℕ) (program : List Clause) → calls.Opens old id key program middle → AddsMarks Says old middle
   opens middle id key program (calls.first caller at none_open room is) =
       still old middle _ (Begun id (suc caller.number) key program ∷ []) is (tt, tt) refl refl (λ u. u)
   opens middle id key program (calls.again caller call reserved at is_open same_key same_program unproposed met idle room for_round is) = same old middle _ is refl refl (λ u. u)
 
-  begins_round : (middle : View S V) (id : ℕ) (caller : CallerView) (call : CallView) (after_it : View S V) → calls.BeginsRound m middle id caller call after_it → Adds Says middle after_it
+  begins_round : (middle : View S V) (id : ℕ) (caller : CallerView) (call : CallView) (after_it : View S V) → calls.BeginsRound m middle id caller call after_it → AddsMarks Says middle after_it
   begins_round middle id caller call after_it (calls.prepares desk now ballot round flow at up few begins sends is) = same middle after_it _ is refl refl (λ u. u)
   begins_round middle id caller call after_it (calls.proposes desk now ready ride round outcome flow at up few begins made sends is) =
       still middle after_it _ (Proposed (calls.proposal_of id caller.number round ready.read ready.by) ∷ []) is (tt, tt) refl refl (λ u. u)
@@ -210,19 +210,19 @@ module _ {S V : Type 0} (Says : OpAnswer → Type 0) (passes : (answer : OpAnswe
   begins_round middle id caller call after_it (calls.fails desk now at none_open up fails is) = same middle after_it _ is refl refl (λ u. u)
   begins_round middle id caller call after_it (calls.loses desk now ballot at none_open up loses is) = same middle after_it _ is refl refl (λ u. u)
 
-  begins : (id : ℕ) (key : List ℕ) (program : List Clause) (begun : View S V) → StepBegin m old id key program begun → Adds Says old begun
+  begins : (id : ℕ) (key : List ℕ) (program : List Clause) (begun : View S V) → StepBegin m old id key program begun → AddsMarks Says old begun
   begins id key program begun by = then_ old by.middle begun (opens by.middle id key program by.opens) (begins_round by.middle id by.caller by.call begun by.begins)
 
-  refuses : (id : ℕ) (key : List ℕ) (left : View S V) → calls.RefusesCall m old id key left → Adds Says old left
+  refuses : (id : ℕ) (key : List ℕ) (left : View S V) → calls.RefusesCall m old id key left → AddsMarks Says old left
   refuses id key left (calls.stays told council_then refusal follows is) = same old left _ is refl refl (rescanned_so Says passes old.council council_then id key told follows)
   refuses id key left (calls.loses caller desk now ballot council_then at at_desk none_open up loses follows is) =
       same old left _ is refl refl (rescanned_so Says passes old.council council_then id key (answers.NoMemory false) follows)
 
-  finds : (left : View S V) → frames.FindsNoRoom m old left → Adds Says old left
+  finds : (left : View S V) → frames.FindsNoRoom m old left → AddsMarks Says old left
   finds left (frames.stays is) = same old left _ is refl refl (λ u. u)
   finds left (frames.kept id acceptor now at finds_none is) = same old left _ is refl refl (λ u. u)
 
-  turns : (id : ℕ) (verdict : Verdict) (front : Message) (caller : CallerView) (call : CallView) → frames.TakesTurn m old id verdict front caller call new → Adds Says old new
+  turns : (id : ℕ) (verdict : Verdict) (front : Message) (caller : CallerView) (call : CallView) → frames.TakesTurn m old id verdict front caller call new → AddsMarks Says old new
   turns id verdict front caller call (frames.held falls is) = same old new _ is refl refl (λ u. u)
   turns id verdict front caller call (frames.gone falls is) = still old new _ _ is (plain_harms id caller.number _ call false) refl refl (λ u. u)
   turns id verdict front caller call (frames.answers request acceptor now reply falls front_is at by is) = still old new _ _ is (plain_votes request.to request.ask reply.tell) refl refl (λ u. u)
@@ -230,7 +230,7 @@ module _ {S V : Type 0} (Says : OpAnswer → Type 0) (passes : (answer : OpAnswe
   turns id verdict front caller call (frames.brings_down request acceptor now falls front_is at stops_it is) = still old new _ _ is (plain_harms id caller.number _ call true) refl refl (λ u. u)
   turns id verdict front caller call (frames.arrives reply desk now round heard falls front_is at open_ hears is) = same old new _ is refl refl (λ u. u)
 
-  proposes : (id : ℕ) (desk : DeskView V) (round : Round) (caller : CallerView) (call : CallView) → calls.ProposesOrEnds m old id desk round caller call new → Adds Says old new
+  proposes : (id : ℕ) (desk : DeskView V) (round : Round) (caller : CallerView) (call : CallView) → calls.ProposesOrEnds m old id desk round caller call new → AddsMarks Says old new
   proposes id desk round caller call (calls.proposes now turned read by ride outcome flow quorum confirmers reads turns_ made sends is) =
       still old new _ (Proposed _ ∷ []) is (tt, tt) refl refl (λ u. u)
   proposes id desk round caller call (calls.ends now verdict answer is_verdict refused ends_ is) = same old new _ is refl refl (λ u. u)
@@ -238,41 +238,41 @@ module _ {S V : Type 0} (Says : OpAnswer → Type 0) (passes : (answer : OpAnswe
   proposes id desk round caller call (calls.loses now ballot loses is) = same old new _ is refl refl (λ u. u)
 
   counts : (counted : View S V) (id : ℕ) (desk : DeskView V) (round : Round) (caller : CallerView) (call : CallView) → calls.CountsOrEnds m old id desk round caller call counted
-      → Adds Says old counted
+      → AddsMarks Says old counted
   counts counted id desk round caller call (calls.counts now by outcome quorum confirmers proposed ends_ is) = still old counted _ (Acked _ ∷ []) is (tt, tt) refl refl (λ u. u)
   counts counted id desk round caller call (calls.ends now verdict why is_verdict caused ends_ is) = same old counted _ is refl refl (λ u. u)
 
-  ends : (ended : View S V) (id : ℕ) (answer : Answer) → StepEnd m old id answer ended → Adds Says old ended
+  ends : (ended : View S V) (id : ℕ) (answer : Answer) → StepEnd m old id answer ended → AddsMarks Says old ended
   ends ended id answer by =
       still old ended _ (Ended id _ _ answer ∷ []) by.ends.view (tt, tt) refl refl (rescanned_so Says passes old.council by.ends.council id by.of_call.call.key answer by.ends.rescans)
 
-  strays : (index : ℕ) (late : Message) → frames.Strays m old index late new → Adds Says old new
+  strays : (index : ℕ) (late : Message) → frames.Strays m old index late new → AddsMarks Says old new
   strays index late (frames.answers request acceptor now reply late_is at by is) = still old new _ _ is (plain_votes request.to request.ask reply.tell) refl refl (λ u. u)
   strays index late (frames.brings_down request acceptor now late_is at stops_it is) = same old new _ is refl refl (λ u. u)
   strays index late (frames.arrives reply desk now round heard late_is at open_ hears is) = same old new _ is refl refl (λ u. u)
   strays index late (frames.drops ignored is) = same old new _ is refl refl (λ u. u)
 
-  pub leaves : {DeskTurns : DeskView V → DeskView V → Type 0} {closed : CallView → CallView} (id : ℕ) (left : View S V) → LeavesRound DeskTurns closed old id left → Adds Says old left
+  pub leaves : {DeskTurns : DeskView V → DeskView V → Type 0} {closed : CallView → CallView} (id : ℕ) (left : View S V) → LeavesRound DeskTurns closed old id left → AddsMarks Says old left
   leaves id left (stops.idle desk now at none_open turns_ is) = same old left _ is refl refl (λ u. u)
   leaves id left (stops.closes desk now round of_call at open_ turns_ is) = same old left _ is refl refl (λ u. u)
 
-  goes_down : {DeskTurns : DeskView V → DeskView V → Type 0} (id : ℕ) (left : View S V) → GoesDown DeskTurns old id left → Adds Says old left
+  goes_down : {DeskTurns : DeskView V → DeskView V → Type 0} (id : ℕ) (left : View S V) → GoesDown DeskTurns old id left → AddsMarks Says old left
   goes_down id left (stops.of_client other by) = leaves id left by
   goes_down id left (stops.of_operator middle first_ by is) = after old middle left _ (leaves id middle by) is refl refl (λ u. u)
 
-  crashes : (id : ℕ) → StepCrashAcceptor m old id new → Adds Says old new
+  crashes : (id : ℕ) → StepCrashAcceptor m old id new → AddsMarks Says old new
   crashes id (step.crashes acceptor now at by is) = same old new _ is refl refl (λ u. u)
 
-  restarts : (id : ℕ) → StepRestartAcceptor m old id new → Adds Says old new
+  restarts : (id : ℕ) → StepRestartAcceptor m old id new → AddsMarks Says old new
   restarts id (step.was_up acceptor at up is) = same old new _ is refl refl (λ u. u)
   restarts id (step.starts acceptor now at by is) = same old new _ is refl refl (λ u. u)
   restarts id (step.fails acceptor now at by is) = same old new _ is refl refl (λ u. u)
 
-  restarts_desk : (id : ℕ) → StepRestartProposer m old id new → Adds Says old new
+  restarts_desk : (id : ℕ) → StepRestartProposer m old id new → AddsMarks Says old new
   restarts_desk id (step.was_up_already desk at up is) = same old new _ is refl refl (λ u. u)
   restarts_desk id (step.restarts desk now caller at at_caller down by is) = same old new _ is refl refl (λ u. u)
 
-  asks : (question : _) (desk : DeskView V) → council.AsksAll m old question desk new → Adds Says old new
+  asks : (question : _) (desk : DeskView V) → council.AsksAll m old question desk new → AddsMarks Says old new
   asks question desk (council.asks now tag flow up room tags now_is sends is) = same old new _ is refl refl (λ u. u)
   asks question desk (council.is_down down is) = same old new _ is refl refl (λ u. told_so Says passes old.council.order _ tt tt)
   asks question desk (council.is_full up full is) = same old new _ is refl refl (λ u. told_so Says passes old.council.order _ tt tt)
@@ -280,7 +280,7 @@ module _ {S V : Type 0} (Says : OpAnswer → Type 0) (passes : (answer : OpAnswe
   asks question desk (council.fails now up fails is) = same old new _ is refl refl (λ u. told_so Says passes old.council.order _ tt tt)
   asks question desk (council.no_memory now tag up loses is) = same old new _ is refl refl (λ u. told_so Says passes old.council.order _ tt tt)
 
-  turns_exchange : (verdict : Verdict) (front : Message) (exchange : ExchangeView) → council.TurnsExchange m old verdict front exchange new → Adds Says old new
+  turns_exchange : (verdict : Verdict) (front : Message) (exchange : ExchangeView) → council.TurnsExchange m old verdict front exchange new → AddsMarks Says old new
   turns_exchange verdict front exchange (council.held falls is) = same old new _ is refl refl (λ u. u)
   turns_exchange verdict front exchange (council.gone falls is) = still old new _ _ is (plain_asked _ exchange false) refl refl (λ u. u)
   turns_exchange verdict front exchange (council.answers request acceptor now reply falls front_is at by is) = still old new _ _ is (plain_votes request.to request.ask reply.tell) refl refl (λ u. u)
@@ -288,7 +288,7 @@ module _ {S V : Type 0} (Says : OpAnswer → Type 0) (passes : (answer : OpAnswe
   turns_exchange verdict front exchange (council.brings_down request acceptor now falls front_is at stops_it is) = still old new _ _ is (plain_asked _ exchange true) refl refl (λ u. u)
   turns_exchange verdict front exchange (council.arrives reply falls front_is to_it is) = same old new _ is refl refl (λ u. u)
 
-  gathers : (exchange : ExchangeView) → council.Gathers old exchange new → Adds Says old new
+  gathers : (exchange : ExchangeView) → council.Gathers old exchange new → AddsMarks Says old new
   gathers exchange (council.crashed crashed is) = same old new _ is refl refl (λ u. told_so Says passes old.council.order _ tt tt)
   gathers exchange (council.probed key found running question plain items is) = same old new _ is refl refl (λ u. told_so Says passes old.council.order _ tt tt)
   gathers exchange (council.read key era found marks running question reads items counts is) =
@@ -298,13 +298,13 @@ module _ {S V : Type 0} (Says : OpAnswer → Type 0) (passes : (answer : OpAnswe
       same old new _ is refl refl (λ u. told_so Says passes old.council.order _ tt (short_undone (era_at old 0) (counted exchange.told of.listing.places) short (greatest_age exchange.told) lacks))
   gathers exchange (council.no_memory running is) = same old new _ is refl refl (λ u. told_so Says passes old.council.order _ tt tt)
 
-  welcomes : (asked : Asked) (middle : View S V) → plans.Welcomes m old asked middle → Adds Says old middle
+  welcomes : (asked : Asked) (middle : View S V) → plans.Welcomes m old asked middle → AddsMarks Says old middle
   welcomes asked middle (plans.starts id acceptor now asks_ at by is) = same old middle _ is refl refl (λ u. u)
   welcomes asked middle (plans.fails id acceptor now asks_ at by is) = same old middle _ is refl refl (λ u. u)
   welcomes asked middle (plans.is_up id acceptor asks_ at up is) = same old middle _ is refl refl (λ u. u)
   welcomes asked middle (plans.stays joins_none is) = same old middle _ is refl refl (λ u. u)
 
-  opens_plan : (asked : Asked) (desk : DeskView V) → plans.OpensPlan m old asked desk new → Adds Says old new
+  opens_plan : (asked : Asked) (desk : DeskView V) → plans.OpensPlan m old asked desk new → AddsMarks Says old new
   opens_plan asked desk (plans.is_down down is) = same old new _ is refl refl (λ u. told_so Says passes old.council.order _ tt tt)
   opens_plan asked desk (plans.is_busy plan up planned is) = same old new _ is refl refl (λ u. told_so Says passes old.council.order _ tt tt)
   opens_plan asked desk (plans.refuses fault up unplanned planned is) = same old new _ is refl refl (λ u. told_so Says passes old.council.order _ tt tt)
@@ -312,7 +312,7 @@ module _ {S V : Type 0} (Says : OpAnswer → Type 0) (passes : (answer : OpAnswe
   opens_plan asked desk (plans.no_memory progress middle up unplanned planned by is) =
       after old middle new _ (welcomes asked middle by) is refl refl (λ u. told_so Says passes middle.council.order _ tt tt)
 
-  enters : (plan : PlanView) (next : Era) (desk : DeskView V) → plans.EntersNext m old plan next desk new → Adds Says old new
+  enters : (plan : PlanView) (next : Era) (desk : DeskView V) → plans.EntersNext m old plan next desk new → AddsMarks Says old new
   enters plan next desk (plans.enters middle room by is) =
       then_ old middle new (leaves plan.entered middle by) (still middle new _ (EraEntered plan.entered next.number ∷ []) is (tt, tt) refl refl (λ u. hushed_so Says passes middle.council.order))
   enters plan next desk (plans.is_full full is) = same old new _ is refl refl (λ u. told_so Says passes old.council.order _ tt tt)
@@ -321,7 +321,7 @@ module _ {S V : Type 0} (Says : OpAnswer → Type 0) (passes : (answer : OpAnswe
   enters plan next desk (plans.no_memory now room up kept now_is is) = same old new _ is refl refl (λ u. told_so Says passes old.council.order _ tt tt)
 
   begins_collection : (key : List ℕ) (order : _) (desk : DeskView V) (caller : CallerView)
-      → collect.BeginsCollection m (λ before then_so. StepBegin m before 0 key keep_always then_so) old key order desk caller new → Adds Says old new
+      → collect.BeginsCollection m (λ before then_so. StepBegin m before 0 key keep_always then_so) old key order desk caller new → AddsMarks Says old new
   begins_collection key order desk caller (collect.is_down no_call down is) = same old new _ is refl refl (λ u. told_so Says passes old.council.order _ tt tt)
   begins_collection key order desk caller (collect.is_busy plan no_call up planned is) = same old new _ is refl refl (λ u. told_so Says passes old.council.order _ tt tt)
   begins_collection key order desk caller (collect.is_full no_call up unplanned full is) = same old new _ is refl refl (λ u. told_so Says passes old.council.order _ tt tt)
@@ -330,31 +330,31 @@ module _ {S V : Type 0} (Says : OpAnswer → Type 0) (passes : (answer : OpAnswe
   begins_collection key order desk caller (collect.begins middle no_call unplanned by is) = after old middle new _ (begins 0 key keep_always middle by) is refl refl (λ u. tt)
   begins_collection key order desk caller (collect.goes_on middle call of is_call by is) = after old middle new _ (begins 0 key keep_always middle by) is refl refl (λ u. tt)
 
-  gathers_round : (at : CollectingAt old.council) → collect.GathersRound old at new → Adds Says old new
+  gathers_round : (at : CollectingAt old.council) → collect.GathersRound old at new → AddsMarks Says old new
   gathers_round at (collect.all ballot by acknowledged all_ is) = same old new _ is refl refl (λ u. tt)
   gathers_round at (collect.is_absent ballot by acceptor acknowledged least is) = same old new _ is refl refl (λ u. told_so Says passes old.council.order _ tt tt)
   gathers_round at (collect.is_held version found is) = same old new _ is refl refl (λ u. told_so Says passes old.council.order _ tt tt)
 
-  renews : (at : CollectingAt old.council) (proposer : ℕ) (desk : DeskView V) → collect.RenewsNext m old at proposer desk new → Adds Says old new
+  renews : (at : CollectingAt old.council) (proposer : ℕ) (desk : DeskView V) → collect.RenewsNext m old at proposer desk new → AddsMarks Says old new
   renews at proposer desk (collect.renews age middle by is) = after old middle new _ (leaves proposer middle by) is refl refl (λ u. tt)
   renews at proposer desk (collect.is_down down is) = same old new _ is refl refl (λ u. told_so Says passes old.council.order _ tt tt)
   renews at proposer desk (collect.fails middle by is) = after old middle new _ (goes_down proposer middle by) is refl refl (λ u. told_so Says passes middle.council.order _ tt tt)
   renews at proposer desk (collect.is_spent up spent is) = same old new _ is refl refl (λ u. told_so Says passes old.council.order _ tt tt)
   renews at proposer desk (collect.no_memory now up finds_none is) = same old new _ is refl refl (λ u. told_so Says passes old.council.order _ tt tt)
 
-  asks_collect : (at : CollectingAt old.council) (desk : DeskView V) → collect.AsksCollect m old at desk new → Adds Says old new
+  asks_collect : (at : CollectingAt old.council) (desk : DeskView V) → collect.AsksCollect m old at desk new → AddsMarks Says old new
   asks_collect at desk (collect.asks question flow up asks_ room aged sends is) = same old new _ is refl refl (λ u. u)
   asks_collect at desk (collect.is_down down is) = same old new _ is refl refl (λ u. told_so Says passes old.council.order _ tt tt)
   asks_collect at desk (collect.is_full question up asks_ full is) = same old new _ is refl refl (λ u. told_so Says passes old.council.order _ tt tt)
   asks_collect at desk (collect.no_memory up is) = same old new _ is refl refl (λ u. told_so Says passes old.council.order _ tt tt)
 
-  gathers_collect : (at : CollectingAt old.council) (exchange : ExchangeView) → collect.GathersCollect old at exchange new → Adds Says old new
+  gathers_collect : (at : CollectingAt old.council) (exchange : ExchangeView) → collect.GathersCollect old at exchange new → AddsMarks Says old new
   gathers_collect at exchange (collect.crashed crashed is) = same old new _ is refl refl (λ u. told_so Says passes old.council.order _ tt tt)
   gathers_collect at exchange (collect.all running all_ is) = same old new _ is refl refl (λ u. tt)
   gathers_collect at exchange (collect.is_absent acceptor running least is) = same old new _ is refl refl (λ u. told_so Says passes old.council.order _ tt tt)
 
 -- every step makes plain marks alone and tells the open call of no end, but one that ends that call
-pub adds_by : {S V : Type 0} (Says : OpAnswer → Type 0) (passes : (answer : OpAnswer) → IsPassing answer → StopsUndone answer → Says answer) (m : Meaning S V) (old : View S V) (event : Event) (new : View S V) → ((answer : OpAnswer) → event ≡ step.Tell answer → ⊥) → Step m old event new → Adds Says old new
+pub adds_by : {S V : Type 0} (Says : OpAnswer → Type 0) (passes : (answer : OpAnswer) → IsPassing answer → StopsUndone answer → Says answer) (m : Meaning S V) (old : View S V) (event : Event) (new : View S V) → ((answer : OpAnswer) → event ≡ step.Tell answer → ⊥) → Step m old event new → AddsMarks Says old new
 adds_by Says passes m old (step.Begin caller key program) new untold by = begins Says passes m old new caller key program new by
 adds_by Says passes m old (step.RefuseBegin caller key) new untold by = refuses Says passes m old new caller key new by
 adds_by Says passes m old (step.Turn proposer verdict) new untold by = turns Says passes m old new proposer verdict by.front by.of_call.caller by.of_call.call by.turn

@@ -50,7 +50,7 @@ use Rattle.cas_model.proofs.Exchanges.Steps as council
 use Rattle.cas_model.proofs.Eras.CourseSteps.{welcome_course, enters_course}
 use Rattle.cas_model.proofs.Eras.Courses.{AtSettle, course, at_settle, settle_enters, path_settles, course_relisted, course_stepped, leads, era_set, era_kept, stays_on, course_finished, course_entered}
 use Rattle.cas_model.proofs.Calls.Draws.{Lasts, lasts}
-use Rattle.cas_model.proofs.Calls.Ends.{IsQuiet, quiet_true}
+use Rattle.cas_model.proofs.Calls.Ends.{IsDeskQuiet, quiet_true}
 use Rattle.cas_protocol.proofs.Events.{keeps as happens}
 use Rattle.cas_model.proofs.Frames.Steps.{marked}
 use Rattle.cas_model.specs.Collection.Logged.{AreRenewed}
@@ -218,13 +218,13 @@ entry_around m old id plan next at in_base =
 entry_quiet : {S V : Type 0} (m : Meaning S V) (old : View S V) (id : ℕ) (plan : PlanView) (next : Era) → (at : GoesNext m old id plan next) → era_at old id ≡ plan.progress.era
     → (now : DeskView V) → now.id ≡ at.desk.id → now.cache ≡ [] → now.round ≡ None
     → Lasts m.disks at.desk.vault now.vault
-    → IsQuiet m at.is.cluster (after_entry m old id plan next at).log (after_entry m old id plan next at).made id (era_in (slice_set old.eras id next) id).number now
+    → IsDeskQuiet m at.is.cluster (after_entry m old id plan next at).log (after_entry m old id plan next at).made id (era_in (slice_set old.eras id next) id).number now
 entry_quiet m old id plan next at in_base now same_id none idle still =
     let of = at.is.logged.agrees.desks id at.desk at.caller at.at_desk at.at_caller in
     let number = (follows_next m old id plan next at).number ∙ sym (ap (λ (e : Era). suc e.number) in_base) in
     let there = era_set old.eras id next (omega (arith, known_in m old id plan next at, at.is.course.is_course.few, at.is.course.is_course.places)) in
-    subst (λ (e : Era). IsQuiet m at.is.cluster (Entered id next.number ∷ at.is.logged.global.log) at.is.logged.global.made id e.number now) (sym there)
-    (subst (λ (n : ℕ). IsQuiet m at.is.cluster (Entered id n ∷ at.is.logged.global.log) at.is.logged.global.made id n now) (sym number)
+    subst (λ (e : Era). IsDeskQuiet m at.is.cluster (Entered id next.number ∷ at.is.logged.global.log) at.is.logged.global.made id e.number now) (sym there)
+    (subst (λ (n : ℕ). IsDeskQuiet m at.is.cluster (Entered id n ∷ at.is.logged.global.log) at.is.logged.global.made id n now) (sym number)
     (quiet_entered m at.is.cluster at.is.logged.global.log at.is.logged.global.made id (era_at old id).number at.desk now same_id none idle still
     (subst (λ (n : ℕ). Stands (Entered id (suc n)) at.is.logged.global.log → ⊥) number (none_beyond_next m old id plan next at)) of.same_id of.known of.vault))
 
@@ -350,7 +350,7 @@ record EntersLog {S V : Type 0} (m : Meaning S V) (cluster : Cluster) (old : Vie
   own : AreMessagesTrue after.log (queue_at old.flow id).messages
   late : AreMessagesTrue after.log old.flow.late
   quiet : (now : DeskView V) (desk : DeskView V) → IsAt old.desks id desk → EntersEra m.disks next desk now
-      → IsQuiet m cluster after.log after.made id (era_in (slice_set old.eras id next) id).number now
+      → IsDeskQuiet m cluster after.log after.made id (era_in (slice_set old.eras id next) id).number now
   entered : Stands (Entered id next.number) after.log
   same_marks : marks_of after.log ≡ marks_of before.log
 
@@ -381,7 +381,7 @@ enters_log {S} {V} m old id plan next at disks (entered there) = record {
   late = whole.parties.late;
   quiet = λ now desk at_d enters.
       let of = at.is.logged.agrees.desks id desk at.caller at_d at.at_caller in
-      subst (λ (e : Era). IsQuiet m at.is.cluster at.is.logged.global.log at.is.logged.global.made id e.number now) (in_next ∙ sym is_set) (record {
+      subst (λ (e : Era). IsDeskQuiet m at.is.cluster at.is.logged.global.log at.is.logged.global.made id e.number now) (in_next ∙ sym is_set) (record {
         same_id = ap (λ (x : DeskView V). x.id) enters.desk ∙ of.same_id;
         known = of.known;
         vault = vault_past m at.is.logged.global.log id (era_at old id).number (record { still_past = enters.still_past disks; ages = enters.ages disks }) of.vault;

@@ -24,7 +24,7 @@ use Rattle.cas_record.proofs.LegalLemmas.{counted, is_numbered}
 use Rattle.cas_record.proofs.Tests.{nat_same, nat_is}
 use Rattle.cas_record.proofs.Histories.Calls.{begun_low}
 use Rattle.cas_record.proofs.Histories.Chains.{chain_zero, top_cases}
-use Rattle.cas_record.proofs.Logs.Lemmas.{Begins, acked_at, acked_proposed, chain_whole, link_begins, mark_at}
+use Rattle.cas_record.proofs.Logs.Lemmas.{BeginsHistory, acked_at, acked_proposed, chain_whole, link_begins, mark_at}
 use Rattle.cas_record.proofs.Logs.Agreement.{Settles, settles_begins, settles_deeper, settles_top, agree}
 use Rattle.cas_record.proofs.Logs.Eras.{seam_of}
 use Rattle.cas_record.proofs.Logs.Slots.{may_promise}
@@ -76,7 +76,7 @@ floor_at (past {y = mark} {rest = rest} at) = omega (arith, floor_at at, makes_m
 
 -- ---- what one acceptor may promise
 -- It may promise each ballot of the key above some counter, and tell this one.
-pub record MayTell (log : List Happening) (id : ℕ) (key : List ℕ) (told : Ballot) : Type 0 where
+pub record MayPromiseAbove (log : List Happening) (id : ℕ) (key : List ℕ) (told : Ballot) : Type 0 where
   pub above : ℕ
   pub may : (ballot : Ballot) → above < ballot.counter → MayPromise log id key ballot told
 
@@ -88,7 +88,7 @@ seen_later done (in_ride taken stands) = in_ride taken (stands_later done stands
 -- that of what it may have left
 pub left_tells : (cluster : Cluster) (done log : List Happening) (id : ℕ) (left : Contents) (key : List ℕ) → LogTellsKept cluster (done ++ log) id left
     → marks_of (done ++ log) ≡ marks_of log
-    → MayTell log id key (accepted_ballot (accepted_at left key))
+    → MayPromiseAbove log id key (accepted_ballot (accepted_at left key))
 left_tells cluster done log id left key on marks = record {
   above = max (drops (done ++ log)) (max (promise_of (kept_at left key)).counter (accepted_ballot (accepted_of (kept_at left key))).counter);
   may = λ ballot high.
@@ -124,7 +124,7 @@ member_here x xs = or_left (x == x) (has_member xs x) (nat_is {a = x} refl)
 member_past : (x : ℕ) (xs : List ℕ) (id : ℕ) → has_member xs id ≡ true → has_member (x ∷ xs) id ≡ true
 member_past x xs id member = or_right (x == id) (has_member xs id) member
 
-pub all_may_tell : (log : List Happening) (key : List ℕ) (told : ℕ → Ballot) (by : List ℕ) → ((id : ℕ) → has_member by id ≡ true → MayTell log id key (told id))
+pub all_may_tell : (log : List Happening) (key : List ℕ) (told : ℕ → Ballot) (by : List ℕ) → ((id : ℕ) → has_member by id ≡ true → MayPromiseAbove log id key (told id))
     → AllMayTell log key told by
 all_may_tell log key told [] each = record { above = 0; may = λ id member. absurd (cc member) }
 all_may_tell log key told (x ∷ xs) each =
@@ -370,7 +370,7 @@ module _ (cluster : Cluster) (meets : ClusterMeets cluster) (log : List Happenin
   proposed_lawful = (promised_lawful, may_propose)
 
   -- the same history before it
-  chain_before : (ballot : Ballot) → Begins key ballot promised → chain_of key ballot (marks_of log) ≡ chain_of key ballot (marks_of proposed)
+  chain_before : (ballot : Ballot) → BeginsHistory key ballot promised → chain_of key ballot (marks_of log) ≡ chain_of key ballot (marks_of proposed)
   chain_before ballot begins = sym (ap (λ (m : List Mark). chain_of key ballot m) promised_marks) ∙ chain_whole cluster {happening = Marked (Proposed made)} proposed_lawful here begins
 
   link : link_of (marks_of promised) made ≡ greater_of read (floor_below key high (marks_of log))

@@ -33,7 +33,7 @@ use Rattle.cas_record.proofs.Tests.{key_refl, key_same, nat_is, step_left}
 use Rattle.cas_protocol.specs.Acceptors.{IsAcceptedState, IsLeft, done_log}
 use Rattle.cas_protocol.specs.Laws.{LogTellsKept}
 use Rattle.cas_protocol.specs.Protocol.{GlobalState, HasHistory, IsFloorClear, StopsWithin, kept_but}
-use Rattle.cas_protocol.proofs.Answered.{deeds_marks}
+use Rattle.cas_protocol.proofs.Answered.{events_marks}
 use Rattle.cas_protocol.proofs.Events.{keeps}
 use Rattle.cas_protocol.proofs.Proposes.{all_in_low}
 use Rattle.cas_protocol.proofs.Staying.{goes_on_from}
@@ -114,7 +114,7 @@ clear_left {S} {V} m view proposer id key floor contents safe is known member le
         let row : Handles (is.followed.logged.global.kept to) h.request h.answer half.0 =
         subst (λ (n : ℕ). Handles (is.followed.logged.global.kept n) h.request h.answer half.0) (sym h.was_asked.to) h.row in
         let marks : marks_of (done_log to (is.followed.logged.global.kept to) h.request h.answer is.followed.logged.global.log) ≡ marks_of is.followed.logged.global.log =
-        deeds_marks to (is.followed.logged.global.kept to) is.followed.logged.global.log h.request.ask h.answer in
+        events_marks to (is.followed.logged.global.kept to) is.followed.logged.global.log h.request.ask h.answer in
         let now : GlobalState =
         record {
           log = done_log to (is.followed.logged.global.kept to) h.request h.answer is.followed.logged.global.log;

@@ -15,7 +15,7 @@ use Rattle.cas_record.specs.declared.mark.Mark.TheVariants.{Voted}
 use Rattle.cas_record.specs.Logs.Happening.{Happening, Marked, Promised, Took, Dropped, Raised}
 use Rattle.cas_record.specs.Logs.Lawful.{Cluster, Lawful}
 use Rattle.cas_record.specs.Logs.Orderly.{Orderly}
-use Rattle.cas_protocol.specs.Acceptors.{deeds_of, votes_of}
+use Rattle.cas_protocol.specs.Acceptors.{events_of, votes_of}
 
 abbrev pub EachOf : (Happening → Type 0) → List Happening → Type 0
 EachOf Q [] = ⊤
@@ -35,27 +35,27 @@ pub orderly_front : (cluster : Cluster) (front log : List Happening) → Orderly
 orderly_front cluster [] log orderly = orderly
 orderly_front cluster (h ∷ front) log orderly = orderly_front cluster front log orderly.0
 
--- what is so of all deeds of an acceptor
+-- what is so of all events of an acceptor
 pub record IsOfDeeds (Q : Happening → Type 0) (to : ℕ) : Type 0 where
   pub promised : (key : List ℕ) (ballot told : Ballot) → Q (Promised to key ballot told)
   pub took : (key : List ℕ) (ballot ride : Ballot) → Q (Took to key ballot ride)
   pub dropped : (key : List ℕ) (tomb : Ballot) → Q (Dropped to key tomb)
   pub raised : (least : Ages) → Q (Raised to least)
 
-pub deeds_each : (Q : Happening → Type 0) (to : ℕ) (old : Contents) (question : Ask) (answer : Tell) → IsOfDeeds Q to → EachOf Q (deeds_of to old question answer)
-deeds_each Q to old (ask.Prepare key ballot) (tell.Promised accepted) of = (of.promised key ballot _, tt)
-deeds_each Q to old (ask.Accept key ballot era ride state) tell.Accepted of = by_test (is_accepted_at (accepted_at old key) ballot)
+pub events_each : (Q : Happening → Type 0) (to : ℕ) (old : Contents) (question : Ask) (answer : Tell) → IsOfDeeds Q to → EachOf Q (events_of to old question answer)
+events_each Q to old (ask.Prepare key ballot) (tell.Promised accepted) of = (of.promised key ballot _, tt)
+events_each Q to old (ask.Accept key ballot era ride state) tell.Accepted of = by_test (is_accepted_at (accepted_at old key) ballot)
   where
     by_test : (b : Bool) → EachOf Q (cond b [] (Took to key ballot (unwrap_or ride zero_ballot) ∷ []))
     by_test true = tt
     by_test false = (of.took key ballot (unwrap_or ride zero_ballot), tt)
-deeds_each Q to old (ask.Ages tag least) tell.AgesSet of = (of.raised least, tt)
-deeds_each Q to old (ask.Remove key tomb) tell.Removed of = by_test (is_some (kept_at old key))
+events_each Q to old (ask.Ages tag least) tell.AgesSet of = (of.raised least, tt)
+events_each Q to old (ask.Remove key tomb) tell.Removed of = by_test (is_some (kept_at old key))
   where
     by_test : (b : Bool) → EachOf Q (cond b (Dropped to key tomb ∷ []) [])
     by_test true = (of.dropped key tomb, tt)
     by_test false = tt
-deeds_each Q to old question answer of = tt
+events_each Q to old question answer of = tt
 
 pub votes_each : (Q : Happening → Type 0) (to : ℕ) (question : Ask) (answer : Tell) → ((key : List ℕ) (ballot : Ballot) → Q (Marked (Voted to key ballot))) → EachOf Q (votes_of to question answer)
 votes_each Q to (ask.Accept key ballot era ride state) tell.Accepted of = (of key ballot, tt)

@@ -34,7 +34,7 @@ use Rattle.cas_record.specs.Histories.Replay.{replay_from, opening_state}
 use Rattle.cas_record.specs.Logs.Orderly.{WasAsked, IsTold, IsTombstoneTold}
 use Rattle.cas_record.specs.Places.{Stands, here, past}
 use Rattle.cas_record.proofs.Tests.{ballot_same}
-use Rattle.cas_protocol.specs.Acceptors.{told_of, LogTells, IsMadeState, IsOpeningState, IsAcceptedState, IsAskState, IsEmptyAt, deeds_of, votes_of, done_log, answered_log}
+use Rattle.cas_protocol.specs.Acceptors.{told_of, LogTells, IsMadeState, IsOpeningState, IsAcceptedState, IsAskState, IsEmptyAt, events_of, votes_of, done_log, answered_log}
 use Rattle.cas_protocol.specs.Laws.{LogTellsKept}
 use Rattle.cas_protocol.proofs.Pages.{absent_unlisted}
 use Rattle.cas_protocol.proofs.Deeds.{own_age, promises, tells_again, tells_promise, takes, raises, drops}
@@ -73,7 +73,7 @@ repeat_not (Some a) ballot h = false_of_not _ (λ e. h (ballot_same {a = a.ballo
 -- an accept is confirmed: again, or for the first time
 accepts : (cluster : Cluster) {log : List Happening} (request : Request) (old new : Contents) (key : List ℕ) (ballot : Ballot) (era : ℕ) (ride : Option Ballot) (state : State)
     → request.ask ≡ ask.Accept key ballot era ride state → LogTellsKept cluster log request.to old → WasAsked log request.to request → IsMadeState (marks_of log) key ballot era state
-    → Answers old (ask.Accept key ballot era ride state) tell.Accepted new → LogTellsKept cluster (deeds_of request.to old (ask.Accept key ballot era ride state) tell.Accepted ++ log) request.to new
+    → Answers old (ask.Accept key ballot era ride state) tell.Accepted new → LogTellsKept cluster (events_of request.to old (ask.Accept key ballot era ride state) tell.Accepted ++ log) request.to new
 accepts cluster {log} request old new key ballot era ride state is on was made row = elim row [
   | inl again ↦
       subst (λ (b : Bool). LogTellsKept cluster (cond b [] (Took request.to key ballot (unwrap_or ride zero_ballot) ∷ []) ++ log) request.to new) (sym (repeat_is (accepted_at old key) ballot again.0))
@@ -94,7 +94,7 @@ tombstone_there (Some slot) tomb h = (refl, held slot.accepted h)
 
 removes : (cluster : Cluster) {log : List Happening} (request : Request) (old new : Contents) (key : List ℕ) (tomb : Ballot) → request.ask ≡ ask.Remove key tomb
     → LogTellsKept cluster log request.to old → WasAsked log request.to request → Answers old (ask.Remove key tomb) tell.Removed new
-    → LogTellsKept cluster (deeds_of request.to old (ask.Remove key tomb) tell.Removed ++ log) request.to new
+    → LogTellsKept cluster (events_of request.to old (ask.Remove key tomb) tell.Removed ++ log) request.to new
 removes cluster {log} request old new key tomb is on was row = elim row [
   | inl absent ↦
       subst (λ (s : Option Slot). LogTellsKept cluster (cond (is_some s) (Dropped request.to key tomb ∷ []) [] ++ log) request.to new) (sym absent.0) (kept_still absent.1 on)
@@ -105,25 +105,26 @@ removes cluster {log} request old new key tomb is on was row = elim row [
 ]
 
 -- the log and the contents after whatever the acceptor did
-pub deeds : (cluster : Cluster) {log : List Happening} (request : Request) (old new : Contents) (question : Ask) (answer : Tell) → request.ask ≡ question
+pub events_kept : (cluster : Cluster) {log : List Happening} (request : Request) (old new : Contents) (question : Ask) (answer : Tell) → request.ask ≡ question
     → LogTellsKept cluster log request.to old → Stands (Asked request) log → IsAskState (marks_of log) question → request.from ≤ 16
-    → Handles old (record request { ask = question }) answer new → LogTellsKept cluster (deeds_of request.to old question answer ++ log) request.to new
-deeds cluster {log} request old new (ask.Prepare key ballot) (tell.Promised accepted) is on asked state known row =
+    → Handles old (record request { ask = question }) answer new → LogTellsKept cluster (events_of request.to old question answer ++ log) request.to new
+events_kept cluster {log} request old new (ask.Prepare key ballot) (tell.Promised accepted) is on asked state known row =
     promises cluster request old new key ballot accepted is on (was_asked cluster request old on asked known row.0) row.1.0 (promise_low old new key ballot accepted row.1) (promise_tells log request.to old new key ballot accepted on.tells row.1)
-deeds cluster request old new (ask.Prepare key ballot) (tell.Met seen) is on asked state known row = kept_still row.1.2 on
-deeds cluster request old new (ask.Prepare key ballot) tell.Full is on asked state known row = kept_still row.1.2 on
-deeds cluster request old new (ask.Accept key ballot era ride state) tell.Accepted is on asked made known row =
+events_kept cluster request old new (ask.Prepare key ballot) (tell.Met seen) is on asked state known row = kept_still row.1.2 on
+events_kept cluster request old new (ask.Prepare key ballot) tell.Full is on asked state known row = kept_still row.1.2 on
+events_kept cluster request old new (ask.Accept key ballot era ride state) tell.Accepted is on asked made known row =
     accepts cluster request old new key ballot era ride state is on (was_asked cluster request old on asked known row.0) made row.1
-deeds cluster request old new (ask.Accept key ballot era ride state) (tell.Met seen) is on asked made known row = kept_still row.1.3 on
-deeds cluster request old new (ask.Accept key ballot era ride state) tell.Full is on asked made known row = kept_still row.1.2 on
-deeds cluster request old new (ask.Ages tag least) tell.AgesSet is on asked state known row = subst (LogTellsKept cluster _ request.to) (sym row.1) (raises cluster request.to old least on)
-deeds cluster request old new (ask.Remove key tomb) tell.Removed is on asked state known row = removes cluster request old new key tomb is on (was_asked cluster request old on asked known row.0) row.1
-deeds cluster request old new (ask.Remove key tomb) tell.Kept is on asked state known row = kept_still row.1.2 on
-deeds cluster request old new (ask.List tag after) (tell.Listed told keys more) is on asked state known row = kept_still row.1.3 on
-deeds cluster request old new (ask.Probe tag key) (tell.Probed promise accepted) is on asked state known row = kept_still row.1.2 on
-deeds cluster request old new question (tell.Aged least) is on asked state known row = kept_still row.2 on
+events_kept cluster request old new (ask.Accept key ballot era ride state) (tell.Met seen) is on asked made known row = kept_still row.1.3 on
+events_kept cluster request old new (ask.Accept key ballot era ride state) tell.Full is on asked made known row = kept_still row.1.2 on
+events_kept cluster request old new (ask.Ages tag least) tell.AgesSet is on asked state known row = subst (LogTellsKept cluster _ request.to) (sym row.1) (raises cluster request.to old least on)
+events_kept cluster request old new (ask.Remove key tomb) tell.Removed is on asked state known row = removes cluster request old new key tomb is on
+    (was_asked cluster request old on asked known row.0) row.1
+events_kept cluster request old new (ask.Remove key tomb) tell.Kept is on asked state known row = kept_still row.1.2 on
+events_kept cluster request old new (ask.List tag after) (tell.Listed told keys more) is on asked state known row = kept_still row.1.3 on
+events_kept cluster request old new (ask.Probe tag key) (tell.Probed promise accepted) is on asked state known row = kept_still row.1.2 on
+events_kept cluster request old new question (tell.Aged least) is on asked state known row = kept_still row.2 on
 -- nothing else is told
-deeds cluster request old new question answer is on asked state known row = absurd row.1
+events_kept cluster request old new question answer is on asked state known row = absurd row.1
 
 -- ---- its vote
 -- what was accepted is what was asked, be it for the first time or again
@@ -180,26 +181,26 @@ votes cluster {log} id kept key ballot on holds some =
     }
 
 -- no deed is a mark
-pub deeds_marks : (id : ℕ) (old : Contents) (log : List Happening) (question : Ask) (answer : Tell) → marks_of (deeds_of id old question answer ++ log) ≡ marks_of log
-deeds_marks id old log (ask.Prepare key ballot) (tell.Promised accepted) = refl
-deeds_marks id old log (ask.Accept key ballot era ride state) tell.Accepted = by_test (is_accepted_at (accepted_at old key) ballot)
+pub events_marks : (id : ℕ) (old : Contents) (log : List Happening) (question : Ask) (answer : Tell) → marks_of (events_of id old question answer ++ log) ≡ marks_of log
+events_marks id old log (ask.Prepare key ballot) (tell.Promised accepted) = refl
+events_marks id old log (ask.Accept key ballot era ride state) tell.Accepted = by_test (is_accepted_at (accepted_at old key) ballot)
   where
     by_test : (b : Bool) → marks_of (cond b [] (Took id key ballot (unwrap_or ride zero_ballot) ∷ []) ++ log) ≡ marks_of log
     by_test true = refl
     by_test false = refl
-deeds_marks id old log (ask.Ages tag least) tell.AgesSet = refl
-deeds_marks id old log (ask.Remove key tomb) tell.Removed = by_test (is_some (kept_at old key))
+events_marks id old log (ask.Ages tag least) tell.AgesSet = refl
+events_marks id old log (ask.Remove key tomb) tell.Removed = by_test (is_some (kept_at old key))
   where
     by_test : (b : Bool) → marks_of (cond b (Dropped id key tomb ∷ []) [] ++ log) ≡ marks_of log
     by_test true = refl
     by_test false = refl
-deeds_marks id old log question answer = refl
+events_marks id old log question answer = refl
 
 -- the log with what the acceptor did and its vote
 pub voted : (cluster : Cluster) {log : List Happening} (request : Request) (old new : Contents) (question : Ask) (answer : Tell)
-    → LogTellsKept cluster log request.to old → LogTellsKept cluster (deeds_of request.to old question answer ++ log) request.to new → IsAskState (marks_of log) question
+    → LogTellsKept cluster log request.to old → LogTellsKept cluster (events_of request.to old question answer ++ log) request.to new → IsAskState (marks_of log) question
     → Handles old (record request { ask = question }) answer new
-    → LogTellsKept cluster (votes_of request.to question answer ++ (deeds_of request.to old question answer ++ log)) request.to new
+    → LogTellsKept cluster (votes_of request.to question answer ++ (events_of request.to old question answer ++ log)) request.to new
 voted cluster {log} request old new (ask.Accept key ballot era ride state) tell.Accepted on did made row =
     votes cluster request.to new key ballot did (accepted_is old new key ballot era ride state row.1) (made_not_zero cluster log on.lawful made)
 voted cluster request old new question answer on did state row = did
@@ -229,14 +230,14 @@ not_tombstone cluster {log} id old key tomb on empty other held =
 
 -- what the acceptor answers is so in the log with what it did and its vote
 told_so : (cluster : Cluster) {log : List Happening} (request : Request) (old new : Contents) (question : Ask) (answer : Tell) → LogTellsKept cluster log request.to old
-    → LogTellsKept cluster (deeds_of request.to old question answer ++ log) request.to new → IsAskState (marks_of log) question
+    → LogTellsKept cluster (events_of request.to old question answer ++ log) request.to new → IsAskState (marks_of log) question
     → Handles old (record request { ask = question }) answer new
-    → IsTold (votes_of request.to question answer ++ (deeds_of request.to old question answer ++ log)) request.to question answer
+    → IsTold (votes_of request.to question answer ++ (events_of request.to old question answer ++ log)) request.to question answer
 told_so cluster {log} request old new (ask.Prepare key ballot) (tell.Promised accepted) on did state row =
     (record { older = log; at = here }, at_most_trans (subst (λ (a : Option Accepted). BallotAtMost (accepted_ballot a) (seen_at old key)) (sym row.1.0) (accepted_low (kept_at old key))) (promise_low old new key ballot accepted row.1))
 told_so cluster request old new (ask.Prepare key ballot) (tell.Met seen) on did state row = row.1.1
 told_so cluster request old new (ask.Prepare key ballot) tell.Full on did state row = tt
-told_so cluster {log} request old new (ask.Accept key ballot era ride state) tell.Accepted on did made row = record { older = marks_of (deeds_of request.to old (ask.Accept key ballot era ride state) tell.Accepted ++ log); at = here }
+told_so cluster {log} request old new (ask.Accept key ballot era ride state) tell.Accepted on did made row = record { older = marks_of (events_of request.to old (ask.Accept key ballot era ride state) tell.Accepted ++ log); at = here }
 told_so cluster request old new (ask.Accept key ballot era ride state) (tell.Met seen) on did made row = row.1.2
 told_so cluster request old new (ask.Accept key ballot era ride state) tell.Full on did made row = tt
 told_so cluster {log} request old new (ask.Ages tag least) tell.AgesSet on did state row = λ proposer known. omega (arith, own_age request.to proposer least log)
@@ -264,16 +265,16 @@ pub answers : (cluster : Cluster) {log : List Happening} (old new : Contents) (r
     → IsAskState (marks_of log) request.ask → request.from ≤ 16 → IsReplyByTable request.to old request reply new
     → LogTellsKept cluster (done_log request.to old request reply.tell log) request.to new × LogTellsKept cluster (answered_log request.to old request reply log) request.to new
 answers cluster {log} old new request reply on asked state known is =
-    let did = deeds cluster request old new request.ask reply.tell refl on asked state known is.row in
+    let did = events_kept cluster request old new request.ask reply.tell refl on asked state known is.row in
     let vote = voted cluster request old new request.ask reply.tell on did state is.row in
-    let log' = votes_of request.to request.ask reply.tell ++ (deeds_of request.to old request.ask reply.tell ++ log) in (
+    let log' = votes_of request.to request.ask reply.tell ++ (events_of request.to old request.ask reply.tell ++ log) in (
       did,
       record {
         lawful = (vote.lawful, tt);
         orderly = (
           vote.orderly,
           record {
-            asked = stands_later (votes_of request.to request.ask reply.tell) (stands_later (deeds_of request.to old request.ask reply.tell) asked);
+            asked = stands_later (votes_of request.to request.ask reply.tell) (stands_later (events_of request.to old request.ask reply.tell) asked);
             from = is.from;
             to = is.to;
             phase = is.phase;

@@ -45,13 +45,13 @@ use Rattle.cas_record.proofs.Logs.Openings.{first_at, first_taken, has_opening_d
 use Rattle.cas_record.proofs.PlaceLemmas.{newest_or, none_at_nil, stands_at, stands_part}
 use Rattle.cas_record.proofs.Tests.{nat_same, nat_is}
 use Rattle.cas_record.proofs.LawLemmas.{lawful_is_legal}
-use Rattle.cas_protocol.specs.Acceptors.{told_of, IsAcceptedState, LogTells, IsMadeState, IsEmptyAt, IsAskState, IsElsewhere, deeds_of, votes_of, done_log, answered_log}
+use Rattle.cas_protocol.specs.Acceptors.{told_of, IsAcceptedState, LogTells, IsMadeState, IsEmptyAt, IsAskState, IsElsewhere, events_of, votes_of, done_log, answered_log}
 use Rattle.cas_protocol.specs.Desks.{IsRiding}
 use Rattle.cas_protocol.specs.Laws.{LogTellsKept}
 use Rattle.cas_protocol.specs.Proposers.{IsReplyTrue, AreRepliesTrue, AreFloorsClear, state_read}
 use Rattle.cas_protocol.specs.Protocol.{Made, GlobalState, kept_but, AllReplied, HasMade, IsMadeAsk, IsPrepared, IsPreparedByRide, is_done, IsLeaving, Begins, Draws, Asks, Answers, StopsWithin, Proposes, ProposesByRide, Counts, SeesVote, CountsSeen, EndsDone, EndsElse, Harms, TellsOperator, MakesFloor, Enters, MarksEra, Run, opened, then, IsMadeOf, IsFloorClear, Knows, HasHistory, EventsKeepHistory, RunsAreLegal, HasEnded, IsEndedAsk}
-use Rattle.cas_protocol.proofs.Along.{EachOf, along, deeds_each, votes_each}
-use Rattle.cas_protocol.proofs.Answered.{answers, deeds}
+use Rattle.cas_protocol.proofs.Along.{EachOf, along, events_each, votes_each}
+use Rattle.cas_protocol.proofs.Answered.{answers, events_kept}
 use Rattle.cas_protocol.proofs.Growing.{made_grows, ask_grows}
 use Rattle.cas_protocol.proofs.Known as known
 use Rattle.cas_protocol.proofs.Probes.{may_vote, may_ack}
@@ -260,12 +260,12 @@ knows_front cluster front log all = along cluster IsPlain (λ l. Knows cluster l
 pub tells_front : (cluster : Cluster) (front log : List Happening) (id : ℕ) (kept : Contents) → EachOf (IsElsewhere id) front → Lawful cluster (front ++ log) → Orderly cluster (front ++ log) → LogTells log id kept → LogTells (front ++ log) id kept
 tells_front cluster front log id kept = along cluster (IsElsewhere id) (λ l. LogTells l id kept) (λ h l lawful orderly elsewhere. tells_still cluster h l id kept lawful elsewhere) front log
 
-deeds_plain : (to : ℕ) (old : Contents) (question : Ask) (answer : Tell) → EachOf IsPlain (deeds_of to old question answer)
-deeds_plain to old question answer = deeds_each IsPlain to old question answer (record { promised = λ key ballot told c log. tt; took = λ key ballot ride c log. tt; dropped = λ key tomb c log. tt; raised = λ least c log. tt })
+events_plain : (to : ℕ) (old : Contents) (question : Ask) (answer : Tell) → EachOf IsPlain (events_of to old question answer)
+events_plain to old question answer = events_each IsPlain to old question answer (record { promised = λ key ballot told c log. tt; took = λ key ballot ride c log. tt; dropped = λ key tomb c log. tt; raised = λ least c log. tt })
 
-pub deeds_elsewhere : (id to : ℕ) (old : Contents) (question : Ask) (answer : Tell) → (to ≡ id → ⊥) → EachOf (IsElsewhere id) (deeds_of to old question answer)
-deeds_elsewhere id to old question answer other =
-    deeds_each (IsElsewhere id) to old question answer (record { promised = λ key ballot told. other; took = λ key ballot ride. other; dropped = λ key tomb. other; raised = λ least. other })
+pub events_elsewhere : (id to : ℕ) (old : Contents) (question : Ask) (answer : Tell) → (to ≡ id → ⊥) → EachOf (IsElsewhere id) (events_of to old question answer)
+events_elsewhere id to old question answer other =
+    events_each (IsElsewhere id) to old question answer (record { promised = λ key ballot told. other; took = λ key ballot ride. other; dropped = λ key tomb. other; raised = λ least. other })
 
 -- what the log tells of each acceptor, where one keeps something new
 pub tells_but : (log : List Happening) (kept : ℕ → Contents) (to : ℕ) (new : Contents) → LogTells log to new → ((id : ℕ) → (to ≡ id → ⊥) → LogTells log id (kept id)) → (id : ℕ) → LogTells log id (kept_but kept to new id)
@@ -281,13 +281,13 @@ stops_within cluster global request tell new history asked row =
     let to = request.to in
     let old = global.kept to in
     let on : LogTellsKept cluster global.log to old = record { lawful = history.lawful; orderly = history.orderly; tells = history.tells to } in
-    let did = deeds cluster request old new request.ask tell refl on asked (history.knows.asked request asked) (history.knows.known request asked).0 row in
+    let did = events_kept cluster request old new request.ask tell refl on asked (history.knows.asked request asked) (history.knows.known request asked).0 row in
     record {
       lawful = did.lawful;
       orderly = did.orderly;
       tells = tells_but (done_log to old request tell global.log) global.kept to new did.tells
-          (λ id other. tells_front cluster (deeds_of to old request.ask tell) global.log id (global.kept id) (deeds_elsewhere id to old request.ask tell other) did.lawful did.orderly (history.tells id));
-      knows = knows_front cluster (deeds_of to old request.ask tell) global.log global.made (deeds_plain to old request.ask tell) did.lawful did.orderly history.knows;
+          (λ id other. tells_front cluster (events_of to old request.ask tell) global.log id (global.kept id) (events_elsewhere id to old request.ask tell other) did.lawful did.orderly (history.tells id));
+      knows = knows_front cluster (events_of to old request.ask tell) global.log global.made (events_plain to old request.ask tell) did.lawful did.orderly history.knows;
     }
 
 -- an acceptor answers
@@ -301,7 +301,7 @@ answers_on cluster global request reply new history asked answered =
     let bounds = history.knows.known request asked in
     let did = answers cluster old new request reply on asked state bounds.0 answered in
     let votes = votes_of to request.ask reply.tell in
-    let acts = deeds_of to old request.ask reply.tell in
+    let acts = events_of to old request.ask reply.tell in
     let true_ = known.replies cluster global.log old new request reply on asked state bounds.0 bounds.1 answered in
     record {
       lawful = did.1.lawful;
@@ -309,10 +309,10 @@ answers_on cluster global request reply new history asked answered =
       tells = tells_but (answered_log to old request reply global.log) global.kept to new did.1.tells
           (λ id other. tells_still cluster (Replied request reply) (votes ++ (acts ++ global.log)) id (global.kept id) did.1.lawful tt
           (tells_front cluster votes (acts ++ global.log) id (global.kept id) (votes_each (IsElsewhere id) to request.ask reply.tell (λ key ballot. tt)) did.1.lawful.0 did.1.orderly.0
-          (tells_front cluster acts global.log id (global.kept id) (deeds_elsewhere id to old request.ask reply.tell other) did.0.lawful did.0.orderly (history.tells id))));
+          (tells_front cluster acts global.log id (global.kept id) (events_elsewhere id to old request.ask reply.tell other) did.0.lawful did.0.orderly (history.tells id))));
       knows = knows_more cluster (Replied request reply) (votes ++ (acts ++ global.log)) global.made did.1.lawful did.1.orderly true_
           (knows_front cluster votes (acts ++ global.log) global.made (votes_each IsPlain to request.ask reply.tell (λ key ballot c log. tt)) did.1.lawful.0 did.1.orderly.0
-          (knows_front cluster acts global.log global.made (deeds_plain to old request.ask reply.tell) did.0.lawful did.0.orderly history.knows));
+          (knows_front cluster acts global.log global.made (events_plain to old request.ask reply.tell) did.0.lawful did.0.orderly history.knows));
     }
 
 -- ---- proposals

@@ -33,7 +33,7 @@ use Rattle.cas_record.proofs.Logs.Openings.{has_opening_deeper, never_proposed}
 use Rattle.cas_record.proofs.Logs.Orders.{reason}
 use Rattle.cas_record.proofs.PlaceLemmas.{stands_deeper, newest_or}
 use Rattle.cas_record.proofs.Histories.Replays.{replay_of_proposal}
-use Rattle.cas_protocol.specs.Acceptors.{IsAcceptedState, IsTellState, deeds_of, votes_of}
+use Rattle.cas_protocol.specs.Acceptors.{IsAcceptedState, IsTellState, events_of, votes_of}
 use Rattle.cas_protocol.specs.Desks.{IsRiding}
 use Rattle.cas_protocol.specs.Laws.{LogTellsKept, RepliesAreTrue, WhatIsKnownStays, ProposalsMakeStates, PromisesRideLawfully, TombstonesAreFloors}
 use Rattle.cas_protocol.specs.Proposers.{IsReplyTrue}
@@ -45,7 +45,7 @@ use Rattle.cas_protocol.proofs.Proposing.{vote_heard}
 -- what is told of a state was accepted, and so is the state of a proposal
 tell_made : (cluster : Cluster) {log : List Happening} (request : Request) (old new : Contents) (question : Ask) (answer : Tell) → LogTellsKept cluster log request.to old
     → Handles old (record request { ask = question }) answer new
-    → IsTellState (marks_of (votes_of request.to question answer ++ (deeds_of request.to old question answer ++ log))) question answer
+    → IsTellState (marks_of (votes_of request.to question answer ++ (events_of request.to old question answer ++ log))) question answer
 tell_made cluster {log} request old new (ask.Prepare key ballot) (tell.Promised accepted) on row = subst (IsAcceptedState (marks_of log) key) (sym row.1.0) (on.tells.states key)
 tell_made cluster {log} request old new (ask.Probe tag key) (tell.Probed promise accepted) on row = subst (IsAcceptedState (marks_of log) key) (sym row.1.1) (on.tells.states key)
 tell_made cluster request old new (ask.Accept key ballot era ride state) answer on row = tt
@@ -62,7 +62,7 @@ pub replies : RepliesAreTrue
 replies cluster log old new request reply on asked state known small is = record {
   from = subst (λ i. i < 64) (sym is.from) small;
   request = request;
-  replied = record { older = votes_of request.to request.ask reply.tell ++ (deeds_of request.to old request.ask reply.tell ++ log); at = here };
+  replied = record { older = votes_of request.to request.ask reply.tell ++ (events_of request.to old request.ask reply.tell ++ log); at = here };
   state = tell_made cluster request old new request.ask reply.tell on is.row;
 }
 

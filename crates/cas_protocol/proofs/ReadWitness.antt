@@ -28,19 +28,19 @@ use Rattle.cas_record.proofs.Logs.Checks.{le_tells}
 use Rattle.cas_record.proofs.Logs.Lemmas.{mark_stands}
 use Rattle.cas_record.proofs.Logs.Quorums.{small_meet}
 use Rattle.cas_record.proofs.Tests.{neither, nat_same}
-use Rattle.cas_protocol.specs.Acceptors.{IsAcceptedState, deeds_of}
+use Rattle.cas_protocol.specs.Acceptors.{IsAcceptedState, events_of}
 use Rattle.cas_protocol.specs.Desks.{IsPastAll}
 use Rattle.cas_protocol.specs.Proposers.{WasProbed, by_probe, HasVotesSeen}
 use Rattle.cas_protocol.specs.Protocol.{GlobalState, HasHistory, ProtocolEvent, Draws, Asks, Answers, StopsWithin, SeesVote, CountsSeen, after, Run, then}
 use Rattle.cas_protocol.specs.Reads.{IsQuorumRead, HasToldBallot, SomeReadIsCounted}
-use Rattle.cas_protocol.proofs.Answered.{deeds_marks}
+use Rattle.cas_protocol.proofs.Answered.{events_marks}
 use Rattle.cas_protocol.proofs.Events.{has_history}
 use Rattle.cas_protocol.proofs.Handling.{accepted_kept, reply_to, answered}
 use Rattle.cas_protocol.proofs.Witness.{none, is_floor, one, two, five, promised, accepted, ask_accept, takes, begun, asks_for, drawn_stands, promised_second, proposal, proposed, asked_to_accept, accepts, made_five, stopped, stopped_has, run_stopped, two_are_enough, two_suffice, acknowledgment, wrote_none, wrote_at}
 
 -- ---- the second acceptor stops within its write as the first did
 marks_stopped : marks_of stopped.log ≡ marks_of asked_to_accept.log
-marks_stopped = deeds_marks 1 promised asked_to_accept.log (ask_accept 1).ask tell.Accepted
+marks_stopped = events_marks 1 promised asked_to_accept.log (ask_accept 1).ask tell.Accepted
 
 drawn_still : Stands (Drew one key_a 0) stopped.log
 drawn_still = stopped_has (record { older = begun.log; at = past (past (past drawn_stands.at)) })
@@ -70,13 +70,13 @@ abbrev silent : GlobalState
 silent = after small_cluster asked_second second_stops
 
 abbrev wrote_second : List Happening
-wrote_second = deeds_of 2 promised (ask_accept 2).ask tell.Accepted
+wrote_second = events_of 2 promised (ask_accept 2).ask tell.Accepted
 
 silent_has : {x : Happening} → Stands x stopped.log → Stands x silent.log
 silent_has stands = stands_later wrote_second {all = asked_second.log} (record { older = stands.older; at = past stands.at })
 
 marks_silent : marks_of silent.log ≡ marks_of asked_to_accept.log
-marks_silent = deeds_marks 2 promised asked_second.log (ask_accept 2).ask tell.Accepted ∙ marks_stopped
+marks_silent = events_marks 2 promised asked_second.log (ask_accept 2).ask tell.Accepted ∙ marks_stopped
 
 -- what passes a test that none passed before, and that neither the request nor what was taken does, stands nowhere
 silent_none : (test : Happening → Bool) → test (Took 1 key_a one two) ≡ false → test (Took 2 key_a one two) ≡ false → test (Asked (ask_accept 2)) ≡ false → list_any test asked_to_accept.log ≡ false

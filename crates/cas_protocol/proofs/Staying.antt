@@ -19,9 +19,9 @@ use Rattle.cas_record.specs.Logs.Orderly.{WasAsked, age_told}
 use Rattle.cas_record.specs.Places.{Stands, past}
 use Rattle.cas_record.proofs.Logs.Slots.{slot_bounds}
 use Rattle.cas_record.proofs.Tests.{slot_same, nat_same}
-use Rattle.cas_protocol.specs.Acceptors.{LogTells, IsElsewhere, IsLeft, IsAskState, deeds_of}
+use Rattle.cas_protocol.specs.Acceptors.{LogTells, IsElsewhere, IsLeft, IsAskState, events_of}
 use Rattle.cas_protocol.specs.Laws.{LogTellsKept, OthersChangeNothing, AcceptorsStopLawfully, WhatWasTakenStays}
-use Rattle.cas_protocol.proofs.Answered.{deeds, deeds_marks}
+use Rattle.cas_protocol.proofs.Answered.{events_kept, events_marks}
 use Rattle.cas_protocol.proofs.Growing.{accepted_grows, ask_grows}
 
 -- ---- what others do
@@ -113,11 +113,11 @@ goes_on_from cluster log id kept on new (inl same) = ([], subst (LogTellsKept cl
 goes_on_from cluster log id kept on new (inr half) =
     let h = half.1 in
     let on_to : LogTellsKept cluster log h.request.to kept = subst (λ i. LogTellsKept cluster log i kept) (sym h.was_asked.to) on in
-    let did = deeds cluster h.request kept half.0 h.request.ask h.answer refl on_to h.was_asked.asked h.state h.known h.row in (
-      deeds_of h.request.to kept h.request.ask h.answer,
-      subst (λ i. LogTellsKept cluster (deeds_of h.request.to kept h.request.ask h.answer ++ log) i new) h.was_asked.to
-          (subst (LogTellsKept cluster (deeds_of h.request.to kept h.request.ask h.answer ++ log) h.request.to) (left_is half.0 new (sym half.2)) did),
-      deeds_marks h.request.to kept log h.request.ask h.answer,
+    let did = events_kept cluster h.request kept half.0 h.request.ask h.answer refl on_to h.was_asked.asked h.state h.known h.row in (
+      events_of h.request.to kept h.request.ask h.answer,
+      subst (λ i. LogTellsKept cluster (events_of h.request.to kept h.request.ask h.answer ++ log) i new) h.was_asked.to
+          (subst (LogTellsKept cluster (events_of h.request.to kept h.request.ask h.answer ++ log) h.request.to) (left_is half.0 new (sym half.2)) did),
+      events_marks h.request.to kept log h.request.ask h.answer,
     )
 
 pub stop : AcceptorsStopLawfully

@@ -45,11 +45,11 @@ use Rattle.cas_record.proofs.Logs.Checks.{le_tells}
 use Rattle.cas_change.specs.declared.outcome.Took.TheVariants.{Clause as ByClause}
 use Rattle.cas_cache.specs.declared.ready.Ready.{Ready}
 use Rattle.cas_slot.specs.declared.message.Ask.{Ask}
-use Rattle.cas_protocol.specs.Acceptors.{deeds_of}
+use Rattle.cas_protocol.specs.Acceptors.{events_of}
 use Rattle.cas_protocol.specs.Desks.{IsPastAll}
 use Rattle.cas_protocol.specs.Proposers.{AllRide}
 use Rattle.cas_protocol.specs.Protocol.{Made, GlobalState, opening, AllReplied, HasMade, IsPrepared, IsAccepted, ProtocolEvent, Begins, Draws, Asks, Answers, StopsWithin, Proposes, Counts, EndsDone, after, opened, then, SomeRunIsDone, IsPreparedByRide, ProposesByRide, Run}
-use Rattle.cas_protocol.proofs.Answered.{deeds_marks}
+use Rattle.cas_protocol.proofs.Answered.{events_marks}
 use Rattle.cas_protocol.proofs.Handling as handling
 use Rattle.cas_protocol.proofs.Handling.{none_kept, accepted_kept, room, reply_to, answered}
 
@@ -310,7 +310,7 @@ run_stopped =
     asks_to_accept) stops_within
 
 abbrev wrote : List Happening
-wrote = deeds_of 1 promised (ask_accept 1).ask tell.Accepted
+wrote = events_of 1 promised (ask_accept 1).ask tell.Accepted
 
 asked_before : Stands (Asked (ask_accept 1)) stopped.log
 asked_before = stands_later wrote (record { older = drawn_ride.log; at = here })
@@ -330,7 +330,7 @@ pub stopped_has : {x : Happening} → Stands x asked_to_accept.log → Stands x 
 stopped_has stands = stands_later wrote stands
 
 abbrev wrote_again : List Happening
-wrote_again = deeds_of 1 accepted (ask_accept 1).ask tell.Accepted
+wrote_again = events_of 1 accepted (ask_accept 1).ask tell.Accepted
 
 again_has : {x : Happening} → Stands x stopped.log → Stands x accepted_again.log
 again_has stands = let deeper = stands_later wrote_again stands in record { older = deeper.older; at = past (past deeper.at) }
@@ -346,7 +346,7 @@ ride_still = again_has (stopped_has (record { older = proposed.log; at = past he
 
 marks_again : marks_of accepted_again.log ≡ Voted 1 key_a one ∷ marks_of asked_to_accept.log
 marks_again = ap (λ (marks : List Mark). Voted 1 key_a one ∷ marks)
-    (deeds_marks 1 accepted stopped.log (ask_accept 1).ask tell.Accepted ∙ deeds_marks 1 promised asked_to_accept.log (ask_accept 1).ask tell.Accepted)
+    (events_marks 1 accepted stopped.log (ask_accept 1).ask tell.Accepted ∙ events_marks 1 promised asked_to_accept.log (ask_accept 1).ask tell.Accepted)
 
 abbrev asks_other : ProtocolEvent small_cluster accepted_again
 asks_other = Asks (ask_accept 2) (record {
@@ -370,13 +370,13 @@ abbrev accepted_by_other : GlobalState
 accepted_by_other = after small_cluster asked_other other_accepts
 
 abbrev wrote_other : List Happening
-wrote_other = deeds_of 2 promised (ask_accept 2).ask tell.Accepted
+wrote_other = events_of 2 promised (ask_accept 2).ask tell.Accepted
 
 other_has : {x : Happening} → Stands x accepted_again.log → Stands x accepted_by_other.log
 other_has stands = let deeper = stands_later wrote_other {all = asked_other.log} (record { older = stands.older; at = past stands.at }) in record { older = deeper.older; at = past (past deeper.at) }
 
 marks_other : marks_of accepted_by_other.log ≡ Voted 2 key_a one ∷ Voted 1 key_a one ∷ marks_of asked_to_accept.log
-marks_other = ap (λ (marks : List Mark). Voted 2 key_a one ∷ marks) (deeds_marks 2 promised asked_other.log (ask_accept 2).ask tell.Accepted ∙ marks_again)
+marks_other = ap (λ (marks : List Mark). Voted 2 key_a one ∷ marks) (events_marks 2 promised asked_other.log (ask_accept 2).ask tell.Accepted ∙ marks_again)
 
 accepts_replied : AllReplied accepted_by_other.log (third ∷ fourth ∷ [])
 accepts_replied reply stands = by_place (has reply (third ∷ fourth ∷ []) stands)
@@ -570,7 +570,7 @@ abbrev answers_late : ProtocolEvent small_cluster proposed_next
 answers_late = Answers (ask_accept 3) (reply_to (ask_accept 3) tell.Accepted) late late_asked (answered (ask_accept 3) tell.Accepted refl (takes_late 3))
 
 abbrev wrote_late : List Happening
-wrote_late = deeds_of 3 nothing (ask_accept 3).ask tell.Accepted
+wrote_late = events_of 3 nothing (ask_accept 3).ask tell.Accepted
 
 abbrev all_over : GlobalState
 all_over = after small_cluster proposed_next answers_late
@@ -592,7 +592,7 @@ none_by_other = wrote_none drew_by_other (wrote_at nothing) (Took 3 key_a one tw
     (wrote_none drew_by_other (wrote_at accepted) (Took 1 key_a one two) stopped.log refl (wrote_none drew_by_other (wrote_at promised) (Took 1 key_a one two) asked_to_accept.log refl refl)))
 
 no_floor_over : list_any is_floor (marks_of all_over.log) ≡ false
-no_floor_over = ap (list_any is_floor) (deeds_marks 3 nothing proposed_next.log (ask_accept 3).ask tell.Accepted) ∙ marks_next is_floor
+no_floor_over = ap (list_any is_floor) (events_marks 3 nothing proposed_next.log (ask_accept 3).ask tell.Accepted) ∙ marks_next is_floor
 
 past_none : IsPastAll small_cluster all_over.log 1 0 0 key_a
 past_none = record {

@@ -102,13 +102,13 @@ IsElsewhere id other = ⊤
 
 -- ---- what an answer adds to the log
 -- what the acceptor does: it promises, takes, raises its least ages, removes a slot, or none of these
-abbrev pub deeds_of : ℕ → Contents → Ask → Tell → List Happening
-deeds_of id kept (ask.Prepare key ballot) (tell.Promised accepted) = Promised id key ballot (accepted_ballot accepted) ∷ []
-deeds_of id kept (ask.Accept key ballot era ride state) tell.Accepted =
+abbrev pub events_of : ℕ → Contents → Ask → Tell → List Happening
+events_of id kept (ask.Prepare key ballot) (tell.Promised accepted) = Promised id key ballot (accepted_ballot accepted) ∷ []
+events_of id kept (ask.Accept key ballot era ride state) tell.Accepted =
     if is_accepted_at (accepted_at kept key) ballot then [] else Took id key ballot (unwrap_or ride zero_ballot) ∷ []
-deeds_of id kept (ask.Ages tag least) tell.AgesSet = Raised id least ∷ []
-deeds_of id kept (ask.Remove key tomb) tell.Removed = if is_some (kept_at kept key) then Dropped id key tomb ∷ [] else []
-deeds_of id kept question answer = []
+events_of id kept (ask.Ages tag least) tell.AgesSet = Raised id least ∷ []
+events_of id kept (ask.Remove key tomb) tell.Removed = if is_some (kept_at kept key) then Dropped id key tomb ∷ [] else []
+events_of id kept question answer = []
 
 -- the mark of a vote, for an accept that is confirmed
 abbrev pub votes_of : ℕ → Ask → Tell → List Happening
@@ -117,7 +117,7 @@ votes_of id question answer = []
 
 -- the log once the acceptor did it, and once it also voted and answered
 abbrev pub done_log : ℕ → Contents → Request → Tell → List Happening → List Happening
-done_log id kept request answer log = deeds_of id kept request.ask answer ++ log
+done_log id kept request answer log = events_of id kept request.ask answer ++ log
 
 abbrev pub answered_log : ℕ → Contents → Request → Reply → List Happening → List Happening
 answered_log id kept request reply log = Replied request reply ∷ (votes_of id request.ask reply.tell ++ done_log id kept request reply.tell log)

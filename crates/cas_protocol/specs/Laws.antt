@@ -80,7 +80,7 @@ abbrev pub AcceptorsStopLawfully : Type 0
 AcceptorsStopLawfully = (cluster : Cluster) (log : List Happening) (id : ℕ) (kept : Contents) → LogTellsKept cluster log id kept
     → ((request : Request) (left : Left) → Stands (Asked request) log → request.to ≡ id → IsAskState (marks_of log) request.ask → request.from ≤ 16
     → LeavesByTable kept request left → IsLeft log id kept left)
-    × ((new : Contents) → IsLeft log id kept (Ok new) → (deeds : List Happening) × LogTellsKept cluster (deeds ++ log) id new × (marks_of (deeds ++ log) ≡ marks_of log))
+    × ((new : Contents) → IsLeft log id kept (Ok new) → (events_kept : List Happening) × LogTellsKept cluster (events_kept ++ log) id new × (marks_of (events_kept ++ log) ≡ marks_of log))
 
 -- What an acceptor took for a key stays: as long as it did not remove the slot at a tombstone at or above it, the key's accepted ballot
 -- is at least that.

@@ -23,7 +23,7 @@ use Rattle.cas_base.proofs.Bools.{false_of_not}
 use Rattle.cas_record.proofs.Histories.Chains.{chain-none, chain-at, has_proposal_tells, entry_place, acked_at_most_top}
 use Rattle.cas_record.proofs.Logs.Lemmas.{law, lawful_older, mark_at, in_log, InLog, part_of, proposal_law, ack_law, floor_law, not_zero, proposal_placed, not_opened, AckedAt, acked_at, proposal_of_acked, above_opening, opening_deeper, has_none_zero, chain_whole, link_begins}
 use Rattle.cas_record.proofs.Logs.Agreement.{Seam, Settles, by_ack, by_opening, settles_deeper, settles_begins, settles_top, agree, grows, settled_begins, overtake}
-use Rattle.cas_record.proofs.Histories.Calls.{IsCounted, counted_part, begun_once, program_of_begun}
+use Rattle.cas_record.proofs.Histories.Calls.{AreCallsCounted, counted_part, begun_once, program_of_begun}
 
 -- ---- older parts of logs
 pub record LogPart (part : List Mark) (log : List Happening) : Type 0 where
@@ -65,7 +65,7 @@ lawful_part cluster lawful whole = lawful
 lawful_part cluster lawful (later q) = lawful_part cluster lawful.0 q
 
 -- ---- calls
-pub counted : (cluster : Cluster) (log : List Happening) → Lawful cluster log → IsCounted (marks_of log)
+pub counted : (cluster : Cluster) (log : List Happening) → Lawful cluster log → AreCallsCounted (marks_of log)
 counted cluster log lawful = record {
   begun = λ {caller} {call} {key} {program} {older} at.
       let found = in_log log at in
@@ -250,11 +250,11 @@ after_seen cluster log {caller} {call} {key = key} {program = program} {earlier 
     (subst (λ k. length (settled_of k (marks_of early.older)) ≤ length (chain_of p.key (link_of (marks_of found.older) p) (marks_of log))) place.same_key bound))
 
 -- ---- what is settled was begun
-record Split {A : Type 0} (x : A) (older all : List A) : Type 0 where
-  front : List A
-  joins : all ≡ front ++ x ∷ older
+pub record Split {A : Type 0} (x : A) (older all : List A) : Type 0 where
+  pub front : List A
+  pub joins : all ≡ front ++ x ∷ older
 
-split_at : {A : Type 0} {x : A} {older all : List A} → At x older all → Split x older all
+pub split_at : {A : Type 0} {x : A} {older all : List A} → At x older all → Split x older all
 split_at here = record { front = []; joins = refl }
 split_at (past {y = y} at) = let s = split_at at in record { front = y ∷ s.front; joins = ap (λ rest. y ∷ rest) s.joins }
 

@@ -24,7 +24,7 @@ use Rattle.cas_survey.specs.Survey.{found_slot, kept_of, kept_on, AreFindings, I
 use Rattle.cas_slot.specs.declared.fault.ShelfFault.{ShelfFault}
 use Rattle.cas_slot.specs.declared.fault.ShelfFault.TheVariants as shelf
 use Rattle.cas_restore.specs.declared.members.RestoreFault.{RestoreFault}
-use Rattle.cas_restore.specs.Members.{MembersBecome, GoesTowards, OneFails}
+use Rattle.cas_restore.specs.Members.{MembersBecome, GoesTowards, OneMemberFails}
 use Rattle.cas_restore.specs.Restored.{HoldsJust, LeftBetween}
 use Rattle.cas_restore.proofs.Placing.{there_too}
 use Rattle.cas_reopen.specs.Faults.{fault_on, fault_of_member, IsWhyNotSettled}
@@ -116,7 +116,7 @@ module _ {S : Type 0} (tells : Type 0) (is_up : S → Type 0) (contents : S → 
 
 -- ---- faults
 not_settled_by : {S : Type 0} (contents : S → Contents) (is_up : S → Type 0) (fault_count : S → ℕ) (members : List ℕ) (old new : List S) (fault : RestoreFault) (kind : ShelfFault) → fault.fault ≡ kind
-    → OneFails is_up fault_count members fault old new → IsWhyNotSettled contents fault_count members old new (fault_on fault.member kind)
+    → OneMemberFails is_up fault_count members fault old new → IsWhyNotSettled contents fault_count members old new (fault_on fault.member kind)
 not_settled_by contents is_up fault_count members old new fault shelf.DiskFault is fails = (fails.member, λ was now at at_now. (fails.fails was now at at_now).cause is)
 not_settled_by contents is_up fault_count members old new fault shelf.NoMemory is fails = tt
 not_settled_by contents is_up fault_count members old new fault shelf.Full is fails = tt
@@ -129,7 +129,7 @@ not_settled_by contents is_up fault_count members old new fault (shelf.Foreign a
 )
 
 pub not_settled : {S : Type 0} (contents : S → Contents) (is_up : S → Type 0) (fault_count : S → ℕ) (members : List ℕ) (old new : List S) (fault : RestoreFault)
-    → OneFails is_up fault_count members fault old new → IsWhyNotSettled contents fault_count members old new (fault_of_member fault)
+    → OneMemberFails is_up fault_count members fault old new → IsWhyNotSettled contents fault_count members old new (fault_of_member fault)
 not_settled contents is_up fault_count members old new fault fails = not_settled_by contents is_up fault_count members old new fault fault.fault refl fails
 
 -- a number as a `u32`, or the greatest of these

@@ -9,15 +9,15 @@ use Rattle.cas_model.specs.Openings.{Opening}
 use Rattle.cas_survey.specs.Survey.{kept_of, kept_on, AreUp}
 use Rattle.cas_restore.specs.declared.members.RestoreFault.{RestoreFault}
 use Rattle.cas_restore.specs.Members.{MembersBecome}
-use Rattle.cas_restore.specs.TakingUp.{IsTakenUp, LeavesNoMore, OneIsRefused}
+use Rattle.cas_restore.specs.TakingUp.{IsShelfTakenUp, LeavesNoMore, OneIsRefused}
 use Rattle.cas_restore.proofs.Faults.{rose_since}
 use Rattle.cas_restore.proofs.Placing.{there_too}
 use Rattle.cas_reopen.specs.declared.fault.ReopenFault.{ReopenFault}
 use Rattle.cas_reopen.specs.declared.fault.ReopenFault.TheVariants as reopen
 use Rattle.cas_reopen.specs.Faults.{fault_on, fault_of_member, MayBeLeft, IsWhyNotSettled, IsWhyNotRestored}
-use Rattle.cas_reopen.specs.Shelves.{AreSettled, AreRestored, StaysWithin, StopsWithin}
+use Rattle.cas_reopen.specs.Shelves.{AreSettled, AreRestored, StaysWithin, StopsWithinGiving}
 use Rattle.cas_reopen.specs.Shelves.StaysWithin.{untouched, between}
-use Rattle.cas_reopen.specs.Shelves.StopsWithin.{before_giving, in_giving}
+use Rattle.cas_reopen.specs.Shelves.StopsWithinGiving.{before_giving, in_giving}
 
 pub if_ok : {T F : Type 0} (P Q : T → Type 0) (result : Result T F) → ((value : T) → P value → Q value) → IfOk result P → IfOk result Q
 if_ok P Q (Ok value) turn holds = turn value holds
@@ -28,7 +28,7 @@ if_err P Q (Ok value) turn holds = tt
 if_err P Q (Err fault) turn holds = turn fault holds
 
 module _ {S : Type 0} (tells : Type 0) (is_up : S → Type 0) (contents : S → Contents) (may_leave : S → Left → Type 0) (fault_count : S → ℕ) (members : List ℕ) (old mid : List S)
-    (leaves : MembersBecome members (LeavesNoMore tells may_leave fault_count) old mid) (taken : MembersBecome members (IsTakenUp tells contents is_up may_leave) old mid) where
+    (leaves : MembersBecome members (LeavesNoMore tells may_leave fault_count) old mid) (taken : MembersBecome members (IsShelfTakenUp tells contents is_up may_leave) old mid) where
   pub up_then : AreUp is_up members mid
   up_then id now member at = let was = there_too old mid taken.places id now at in (taken.each id was.0 now member was.1 at).up
 
@@ -52,7 +52,7 @@ module _ {S : Type 0} (tells : Type 0) (is_up : S → Type 0) (contents : S → 
     };
   }
 
-  pub stops_then : (new : List S) → tells → StaysWithin contents may_leave members mid new → StopsWithin may_leave members old new
+  pub stops_then : (new : List S) → tells → StaysWithin contents may_leave members mid new → StopsWithinGiving may_leave members old new
   stops_then new told (untouched same) = before_giving (λ id was now l member at at_now may.
       (leaves.each id was now member at (ap (λ (all : List S). slice_get all id) (sym same) ∙ at_now)).left told l may)
   stops_then new told (between given) = in_giving (kept_on contents mid) (may_be told) given

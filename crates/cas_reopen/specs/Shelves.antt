@@ -49,9 +49,9 @@ abbrev pub LeaveNoMore : {S : Type 0} → (S → Left → Type 0) → List ℕ �
 LeaveNoMore {S} may_leave members old new = (id : ℕ) (was now : S) (l : Left) → has_member members id ≡ true → slice_get old id ≡ Some was → slice_get new id ≡ Some now → may_leave now l → may_leave was l
 
 -- Wherever this stops, a crash leaves of members' shelves nothing that it might not have left before, or what is between that and its floors.
-pub data StopsWithin {S : Type 0} (may_leave : S → Left → Type 0) (members : List ℕ) (old new : List S) : Type 0 where
-  before_giving : LeaveNoMore may_leave members old new → StopsWithin may_leave members old new
-  in_giving : (left : ℕ → Contents) → MayBeLeft may_leave members old left → AreLeftBetween may_leave members left new → StopsWithin may_leave members old new
+pub data StopsWithinGiving {S : Type 0} (may_leave : S → Left → Type 0) (members : List ℕ) (old new : List S) : Type 0 where
+  before_giving : LeaveNoMore may_leave members old new → StopsWithinGiving may_leave members old new
+  in_giving : (left : ℕ → Contents) → MayBeLeft may_leave members old left → AreLeftBetween may_leave members left new → StopsWithinGiving may_leave members old new
 
 -- the same of shelves that are up
 pub data StaysWithin {S : Type 0} (contents : S → Contents) (may_leave : S → Left → Type 0) (members : List ℕ) (old new : List S) : Type 0 where

@@ -2,7 +2,7 @@
 
 ghost use Rattle.std.specs.Prelude.{◌≡◌, ◌≤◌, vec_len, IfOk, IfErr};
 ghost use Rattle.cas_reopen.specs.Faults.{IsWhyNotRestored, IsWhyNotSettled};
-ghost use Rattle.cas_reopen.specs.Shelves.{AreFoundOn, AreRestored, AreSettled, StopsWithin, StaysWithin};
+ghost use Rattle.cas_reopen.specs.Shelves.{AreFoundOn, AreRestored, AreSettled, StopsWithinGiving, StaysWithin};
 ghost use Rattle.cas_restore.specs.Restored.{slots_of};
 ghost use Rattle.cas_survey.specs.Survey.{kept_on, AreUp};
 ghost use Rattle.cas_world.specs.Openings.OpeningOn.{openings_of, greatest_counter};
@@ -44,7 +44,7 @@ pub fn restore_shelves<S: Shelf>(
         (λ restored. greatest_counter restored.floors.items ≤ restored.past) }
     ensures err { IfErr result (λ fault. IsWhyNotRestored S.tells S.contents S.may_leave
         S.fault_count members shelves.old.items shelves.new.items fault) }
-    ensures stops { S.tells → StopsWithin S.may_leave members
+    ensures stops { S.tells → StopsWithinGiving S.may_leave members
         shelves.old.items shelves.new.items }
     ensures places { vec_len shelves.new ≡ vec_len shelves.old }
 {

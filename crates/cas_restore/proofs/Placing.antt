@@ -10,7 +10,7 @@ use Rattle.cas_slot.specs.Shelf.{Left, OnlyLeaves}
 use Rattle.cas_slot.specs.Slots.{Slots}
 use Rattle.cas_restore.specs.declared.members.RestoreFault.{RestoreFault}
 use Rattle.cas_restore.specs.Restored.{HoldsJust}
-use Rattle.cas_restore.specs.Members.{MembersBecome, GoesTowards, FailsAt, OneFails, ChangesAt}
+use Rattle.cas_restore.specs.Members.{MembersBecome, GoesTowards, FailsAt, OneMemberFails, ChangesAt}
 use Rattle.cas_restore.proofs.Towards.{towards_itself, towards_then}
 
 -- ---- numbers and places
@@ -120,7 +120,7 @@ module _ {S : Type 0} (contents : S → Contents) (is_up : S → Type 0) (slots 
   pub one_fails : (fault_count : S → ℕ) (number : ℕ) (mid new : List S) (fault : RestoreFault) → has_member members number ≡ true → fault.member ≡ number
       → ((id : ℕ) (shelf : S) → has_member members id ≡ true → slice_get old id ≡ Some shelf → is_up shelf)
       → ((id : ℕ) (now : S) → slice_get mid id ≡ Some now → (was : S) × (slice_get old id ≡ Some was))
-      → ChangesAt number (FailsAt is_up fault_count fault) mid new → BecameBelow Holds members old number mid → OneFails is_up fault_count members fault old new
+      → ChangesAt number (FailsAt is_up fault_count fault) mid new → BecameBelow Holds members old number mid → OneMemberFails is_up fault_count members fault old new
   one_fails fault_count number mid new fault member is up there change before = record {
     member = ap (has_member members) is ∙ member;
     fails = λ was now at at_now. next_becomes Holds members old (FailsAt is_up fault_count fault) number mid new change before was now (ap (slice_get old) (sym is) ∙ at)

@@ -28,7 +28,7 @@ pub record FailsAt {S : Type 0} (is_up : S → Type 0) (fault_count : S → ℕ)
   pub nothing_else : (fault.fault ≡ DiskFault) ⊎ (fault.fault ≡ NoMemory)
 
 -- The shelf of one member failed, and those of all others are up.
-pub record OneFails {S : Type 0} (is_up : S → Type 0) (fault_count : S → ℕ) (members : List ℕ) (fault : RestoreFault) (old new : List S) : Type 0 where
+pub record OneMemberFails {S : Type 0} (is_up : S → Type 0) (fault_count : S → ℕ) (members : List ℕ) (fault : RestoreFault) (old new : List S) : Type 0 where
   pub member : has_member members fault.member ≡ true
   pub fails : (was now : S) → slice_get old fault.member ≡ Some was → slice_get new fault.member ≡ Some now → FailsAt is_up fault_count fault was now
   pub others : (id : ℕ) (now : S) → has_member members id ≡ true → (id ≡ fault.member → ⊥) → slice_get new id ≡ Some now → is_up now

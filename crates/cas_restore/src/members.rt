@@ -4,7 +4,7 @@ ghost use Rattle.std.specs.Prelude.{◌≡◌, ◌≤◌, ◌<◌, ℕ, true, So
 ghost use Rattle.std.specs.BTreeMap.{btree_map_len};
 ghost use Rattle.cas_ballot.specs.Members.{has_member};
 ghost use Rattle.cas_restore.specs.Restored.{slots_of, EachSlotFits, HoldsJust};
-ghost use Rattle.cas_restore.specs.Members.{MembersBecome, GoesTowards, OneFails, FailsAt, ChangesAt};
+ghost use Rattle.cas_restore.specs.Members.{MembersBecome, GoesTowards, OneMemberFails, FailsAt, ChangesAt};
 
 use crate::shelf::restore;
 use cas_ballot::{AcceptorId, Members};
@@ -43,7 +43,7 @@ pub fn restore_members<S: Shelf>(
     requires few { btree_map_len slots.now ≤ MOST_SLOTS }
     ensures ok { OnOk result (MembersBecome members
         (HoldsJust S.contents S.is_up (slots_of slots.now)) shelves.old.items shelves.new.items) }
-    ensures err { IfErr result (λ fault. OneFails
+    ensures err { IfErr result (λ fault. OneMemberFails
         S.is_up S.fault_count members fault shelves.old.items shelves.new.items) }
     ensures towards { MembersBecome members (GoesTowards S.tells S.contents S.may_leave
         S.fault_count (slots_of slots.now)) shelves.old.items shelves.new.items }

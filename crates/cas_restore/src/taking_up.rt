@@ -2,7 +2,7 @@
 
 ghost use Rattle.std.specs.Prelude.{◌≡◌, ◌<◌, vec_len, OnOk, IfErr};
 ghost use Rattle.cas_restore.specs.Members.{MembersBecome, ChangesAt};
-ghost use Rattle.cas_restore.specs.TakingUp.{IsTakenUp, LeavesNoMore, IsRefused, OneIsRefused};
+ghost use Rattle.cas_restore.specs.TakingUp.{IsShelfTakenUp, LeavesNoMore, IsNotTakenUp, OneIsRefused};
 
 use crate::members::{ACCEPTORS, RestoreFault};
 use cas_ballot::{AcceptorId, Members};
@@ -21,7 +21,8 @@ use cas_slot::Shelf;
 pub fn take_up_members<S: Shelf>(shelves: &mut Vec<S>, members: Members) -> Result<(), RestoreFault>
     requires all { vec_len shelves.old ≡ ACCEPTORS }
     ensures ok { OnOk result (MembersBecome members
-        (IsTakenUp S.tells S.contents S.is_up S.may_leave) shelves.old.items shelves.new.items) }
+        (IsShelfTakenUp S.tells S.contents S.is_up S.may_leave)
+        shelves.old.items shelves.new.items) }
     ensures err { IfErr result (λ fault. OneIsRefused S.tells S.may_leave
         S.fault_count members fault shelves.old.items shelves.new.items) }
     ensures leaves { MembersBecome members (LeavesNoMore S.tells S.may_leave
@@ -40,9 +41,11 @@ pub fn take_up_members<S: Shelf>(shelves: &mut Vec<S>, members: Members) -> Resu
 fn take_up_at<S: Shelf>(shelves: &mut Vec<S>, number: u8) -> Result<(), RestoreFault>
     requires within { number < vec_len shelves.old }
     ensures ok { OnOk result (ChangesAt number
-        (IsTakenUp S.tells S.contents S.is_up S.may_leave) shelves.old.items shelves.new.items) }
+        (IsShelfTakenUp S.tells S.contents S.is_up S.may_leave)
+        shelves.old.items shelves.new.items) }
     ensures err { IfErr result (λ fault. (fault.member ≡ number) × ChangesAt number
-        (IsRefused S.tells S.may_leave S.fault_count fault) shelves.old.items shelves.new.items) }
+        (IsNotTakenUp S.tells S.may_leave S.fault_count fault)
+        shelves.old.items shelves.new.items) }
     ensures leaves { ChangesAt number (LeavesNoMore S.tells S.may_leave
         S.fault_count) shelves.old.items shelves.new.items }
 {

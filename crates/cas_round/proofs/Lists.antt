@@ -41,17 +41,17 @@ has_filter p x (y ∷ ys) (inl same) e = first x y (p y) (filter p ys) (ap p sam
 has_filter p x (y ∷ ys) (inr h) e = kept x y (p y) (filter p ys) (has_filter p x ys h e)
 
 -- it stands in the whole list, and passes
-pub record Passes {X : Type 0} (p : X → Bool) (x : X) (xs : List X) : Type 0 where
+pub record PassesIn {X : Type 0} (p : X → Bool) (x : X) (xs : List X) : Type 0 where
   pub stands : Has x xs
   pub passes : p x ≡ true
 
-passed : {X : Type 0} (p : X → Bool) (x y : X) (b : Bool) (ys : List X) → p y ≡ b → (Has x (filter p ys) → Passes p x ys)
-    → Has x (cond b (y ∷ filter p ys) (filter p ys)) → Passes p x (y ∷ ys)
+passed : {X : Type 0} (p : X → Bool) (x y : X) (b : Bool) (ys : List X) → p y ≡ b → (Has x (filter p ys) → PassesIn p x ys)
+    → Has x (cond b (y ∷ filter p ys) (filter p ys)) → PassesIn p x (y ∷ ys)
 passed p x y true ys e rest (inl same) = record { stands = inl same; passes = sym (ap p same) ∙ e }
 passed p x y true ys e rest (inr h) = record { stands = inr (rest h).stands; passes = (rest h).passes }
 passed p x y false ys e rest h = record { stands = inr (rest h).stands; passes = (rest h).passes }
 
-pub filter_has : {X : Type 0} (p : X → Bool) (x : X) (xs : List X) → Has x (filter p xs) → Passes p x xs
+pub filter_has : {X : Type 0} (p : X → Bool) (x : X) (xs : List X) → Has x (filter p xs) → PassesIn p x xs
 filter_has p x [] h = absurd h
 filter_has p x (y ∷ ys) h = passed p x y (p y) ys refl (filter_has p x ys) h
 
@@ -102,20 +102,20 @@ any_has p [] h = absurd (cc h)
 any_has p (y ∷ ys) h = some_passes p y (p y) ys refl (any_has p ys) h
 
 -- ---- lists with the same elements
-pub record IsWithin {X : Type 0} (xs ys : List X) : Type 0 where
+pub record IsListWithin {X : Type 0} (xs ys : List X) : Type 0 where
   pub all : (x : X) → Has x xs → Has x ys
 
-pub within_filter : {X : Type 0} (p : X → Bool) (xs ys : List X) → IsWithin xs ys → IsWithin (filter p xs) (filter p ys)
+pub within_filter : {X : Type 0} (p : X → Bool) (xs ys : List X) → IsListWithin xs ys → IsListWithin (filter p xs) (filter p ys)
 within_filter p xs ys w = record {
   all = λ x h. has_filter p x ys (w.all x (filter_has p x xs h).stands) (filter_has p x xs h).passes;
 }
 
-pub within_map : {X Y : Type 0} (f : X → Option Y) (xs ys : List X) → IsWithin xs ys → IsWithin (filter_map f xs) (filter_map f ys)
+pub within_map : {X Y : Type 0} (f : X → Option Y) (xs ys : List X) → IsListWithin xs ys → IsListWithin (filter_map f xs) (filter_map f ys)
 within_map f xs ys w = record {
   all = λ y h. has_map f (map_has f y xs h).source y ys (w.all (map_has f y xs h).source (map_has f y xs h).stands) (map_has f y xs h).gives;
 }
 
-any_within : {X : Type 0} (p : X → Bool) (xs ys : List X) → IsWithin xs ys → list_any p xs ≡ true → list_any p ys ≡ true
+any_within : {X : Type 0} (p : X → Bool) (xs ys : List X) → IsListWithin xs ys → list_any p xs ≡ true → list_any p ys ≡ true
 any_within p xs ys w h = has_any p (any_has p xs h).one ys (w.all (any_has p xs h).one (any_has p xs h).stands) (any_has p xs h).passes
 
 both_ways : (a b : Bool) → (a ≡ true → b ≡ true) → (b ≡ true → a ≡ true) → a ≡ b
@@ -123,9 +123,9 @@ both_ways true b f g = sym (f refl)
 both_ways false true f g = g refl
 both_ways false false f g = refl
 
-pub same_any : {X : Type 0} (p : X → Bool) (xs ys : List X) → IsWithin xs ys → IsWithin ys xs → list_any p xs ≡ list_any p ys
+pub same_any : {X : Type 0} (p : X → Bool) (xs ys : List X) → IsListWithin xs ys → IsListWithin ys xs → list_any p xs ≡ list_any p ys
 same_any p xs ys there back = both_ways (list_any p xs) (list_any p ys) (any_within p xs ys there) (any_within p ys xs back)
 
-pub nothing_within : {X : Type 0} (xs ys : List X) (x : X) → IsWithin xs ys → ys ≡ [] → Has x xs → ⊥
+pub nothing_within : {X : Type 0} (xs ys : List X) (x : X) → IsListWithin xs ys → ys ≡ [] → Has x xs → ⊥
 nothing_within xs [] x w e h = w.all x h
 nothing_within xs (y ∷ ys) x w e h = absurd (cc e)

@@ -16,7 +16,7 @@ use Rattle.cas_round.specs.Replies.{heard, is_prepare, is_accept, is_promise, is
 use Rattle.cas_round.specs.Round.{IsGreatest, AgeAtMost, IsNoLess, AcceptedAtMost, GreatestOf, IsRoundVerdict}
 use Rattle.cas_base.proofs.Bools.{some_is}
 use Rattle.cas_round.specs.Laws.{SameReplies, OneVerdict, OneRead}
-use Rattle.cas_round.proofs.Lists.{Has, has, contains, IsWithin, within_filter, within_map, same_any, nothing_within}
+use Rattle.cas_round.proofs.Lists.{Has, has, contains, IsListWithin, within_filter, within_map, same_any, nothing_within}
 
 -- ---- the greatest of lists with the same elements
 -- what stands in a list is at most its greatest
@@ -25,23 +25,23 @@ below R xs most x h stands =
     let place : Contains xs x = contains x xs stands in
     subst (λ y. R y most) place.2 (h.above place.0 x place.1)
 
-most_there : {X : Type 0} (R : X → X → Type 0) (xs ys : List X) (a b : X) → IsWithin xs ys → IsGreatest R xs a → IsGreatest R ys b → R a b
+most_there : {X : Type 0} (R : X → X → Type 0) (xs ys : List X) (a b : X) → IsListWithin xs ys → IsGreatest R xs a → IsGreatest R ys b → R a b
 most_there R xs ys a b w p q = below R ys b a q (w.all a (has a xs p.stands))
 
-none_there : {X : Type 0} (R : X → X → Type 0) (xs ys : List X) (a : X) → IsWithin xs ys → IsGreatest R xs a → ys ≡ [] → ⊥
+none_there : {X : Type 0} (R : X → X → Type 0) (xs ys : List X) (a : X) → IsListWithin xs ys → IsGreatest R xs a → ys ≡ [] → ⊥
 none_there R xs ys a w p e = nothing_within xs ys a w e (has a xs p.stands)
 
 -- ---- what both lists tell
 record SameTold (confirms : Tell → Bool) (xs ys : List Reply) : Type 0 where
   confirmed : confirmers_of confirms xs ≡ confirmers_of confirms ys
-  mets : IsWithin (mets_of xs) (mets_of ys)
-  mets_back : IsWithin (mets_of ys) (mets_of xs)
-  ages : IsWithin (ages_of xs) (ages_of ys)
-  ages_back : IsWithin (ages_of ys) (ages_of xs)
-  fulls : IsWithin (fulls_of xs) (fulls_of ys)
-  fulls_back : IsWithin (fulls_of ys) (fulls_of xs)
+  mets : IsListWithin (mets_of xs) (mets_of ys)
+  mets_back : IsListWithin (mets_of ys) (mets_of xs)
+  ages : IsListWithin (ages_of xs) (ages_of ys)
+  ages_back : IsListWithin (ages_of ys) (ages_of xs)
+  fulls : IsListWithin (fulls_of xs) (fulls_of ys)
+  fulls_back : IsListWithin (fulls_of ys) (fulls_of xs)
 
-same_told : (confirms : Tell → Bool) (xs ys : List Reply) → IsWithin xs ys → IsWithin ys xs → SameTold confirms xs ys
+same_told : (confirms : Tell → Bool) (xs ys : List Reply) → IsListWithin xs ys → IsListWithin ys xs → SameTold confirms xs ys
 same_told confirms xs ys there back = record {
   confirmed = members_where_same _ _ (λ n small. same_any (λ reply. (reply.from == n) && confirms reply.tell) xs ys there back);
   mets = within_map (λ reply. met_by reply.tell) xs ys there;
@@ -91,10 +91,10 @@ one members need confirms xs ys same (Short got needed) (Short got' needed') p q
     let needs : needed ≡ needed' = p.5 ∙ sym q.5 in
     ap (λ n. Short n needed) counts ∙ ap (λ n. Short got' n) needs
 
-there_of : (xs ys : List Reply) → SameReplies xs ys → IsWithin xs ys
+there_of : (xs ys : List Reply) → SameReplies xs ys → IsListWithin xs ys
 there_of xs ys same = record { all = λ reply h. has reply ys (same.forth reply (contains reply xs h)) }
 
-back_of : (xs ys : List Reply) → SameReplies xs ys → IsWithin ys xs
+back_of : (xs ys : List Reply) → SameReplies xs ys → IsListWithin ys xs
 back_of xs ys same = record { all = λ reply h. has reply xs (same.back reply (contains reply ys h)) }
 
 heard_same : (confirms : Tell → Bool) (is_phase : Phase → Bool) (ballot : Ballot) (xs ys : List Reply) → SameReplies xs ys
@@ -111,7 +111,7 @@ one_verdict era ballot xs ys same v w = (
 )
 
 -- ---- what is read
-read_same : (xs ys : List Accepted) → IsWithin xs ys → IsWithin ys xs → (a b : Option Accepted) → GreatestOf AcceptedAtMost xs a → GreatestOf AcceptedAtMost ys b
+read_same : (xs ys : List Accepted) → IsListWithin xs ys → IsListWithin ys xs → (a b : Option Accepted) → GreatestOf AcceptedAtMost xs a → GreatestOf AcceptedAtMost ys b
     → option_map (λ (read : Accepted). read.ballot) a ≡ option_map (λ (read : Accepted). read.ballot) b
 read_same xs ys there back None None p q = refl
 read_same xs ys there back None (Some b) p q = absurd (none_there AcceptedAtMost ys xs b back q p)
@@ -119,7 +119,7 @@ read_same xs ys there back (Some a) None p q = absurd (none_there AcceptedAtMost
 read_same xs ys there back (Some a) (Some b) p q =
     ap Some (at_most_antisym (most_there AcceptedAtMost xs ys a b there p q) (most_there AcceptedAtMost ys xs b a back q p))
 
-state_same : (xs ys : List Accepted) → IsWithin ys xs → (a b : Option Accepted) → GreatestOf AcceptedAtMost xs a → GreatestOf AcceptedAtMost ys b
+state_same : (xs ys : List Accepted) → IsListWithin ys xs → (a b : Option Accepted) → GreatestOf AcceptedAtMost xs a → GreatestOf AcceptedAtMost ys b
     → option_map (λ (read : Accepted). read.ballot) a ≡ option_map (λ (read : Accepted). read.ballot) b
     → ((p q : Accepted) → Contains xs p → Contains xs q → p.ballot ≡ q.ballot → p ≡ q) → a ≡ b
 state_same xs ys back None None p q same one = refl
@@ -132,7 +132,7 @@ pub one_read : OneRead
 one_read ballot xs ys same a b p q =
     let told = accepteds_of (heard is_prepare ballot xs) in
     let told' = accepteds_of (heard is_prepare ballot ys) in
-    let there : IsWithin told told' = within_map _ (heard is_prepare ballot xs) (heard is_prepare ballot ys) (within_filter _ xs ys (there_of xs ys same)) in
-    let back : IsWithin told' told = within_map _ (heard is_prepare ballot ys) (heard is_prepare ballot xs) (within_filter _ ys xs (back_of xs ys same)) in
+    let there : IsListWithin told told' = within_map _ (heard is_prepare ballot xs) (heard is_prepare ballot ys) (within_filter _ xs ys (there_of xs ys same)) in
+    let back : IsListWithin told' told = within_map _ (heard is_prepare ballot ys) (heard is_prepare ballot xs) (within_filter _ ys xs (back_of xs ys same)) in
     let ballots : option_map (λ (read : Accepted). read.ballot) a ≡ option_map (λ (read : Accepted). read.ballot) b = read_same told told' there back a b p q in
     (ballots, λ one. state_same told told' back a b p q ballots one)

@@ -21,7 +21,7 @@ use Rattle.cas_record.specs.Histories.Chain.{keep_always, settled_of}
 use Rattle.cas_record.specs.Histories.Replay.{replay_from, opening_state}
 use Rattle.cas_record.specs.Legal.{IsLegal, DoesStand, WasBegun, IsBegun, tells_unsettled}
 use Rattle.cas_record.proofs.PlaceLemmas.{stands_deeper, stands_later, stands_at, at_part, part_at}
-use Rattle.cas_record.proofs.Histories.Calls.{IsCounted, begun_once}
+use Rattle.cas_record.proofs.Histories.Calls.{AreCallsCounted, begun_once}
 use Rattle.cas_session_text.specs.declared.reply.LastReply.{LastReply}
 use Rattle.cas_session_text.specs.Contents.{SessionContents, StandsFor, no_requests, reply_of, after_reply}
 use Rattle.cas_session.specs.declared.request.SessionAct.{SessionAct}
@@ -36,7 +36,7 @@ use Rattle.cas_session.specs.Request.{Request, value_after, decided, decided_by,
 use Rattle.cas_session.specs.Serving.{may_follow, ends_by, ends_with, without_memory, AttemptGoesOn, finds_no_memory, finds_no_session, finds_answer, changes, Attempts, has_no_memory, reads_nothing, reads_state, ServesRequest, is_answered as answers, is_tired, tries_again, WasServed}
 use Rattle.cas_session_laws.specs.History.{IsRequest, IsOfSession, IsSessionKey, ActsFor, HasActed, Acting}
 use Rattle.cas_session_laws.specs.Laws.{OpensWith, IsDone}
-use Rattle.cas_session_laws.proofs.Histories.{Found, found, Explained, was_told, has_acted, explained, reply_of-caller}
+use Rattle.cas_session_laws.proofs.Histories.{FoundRequests, found, Explained, was_told, has_acted, explained, reply_of-caller}
 use Rattle.cas_session_laws.proofs.Steps.{acts_where_taken}
 
 -- ---- how an attempt ends
@@ -102,14 +102,14 @@ new-answered request value last reply fresh e = elim (cases_Bool (request.number
       absurd (cc (step))
 ]
 
-record IsLast (request : Request) (o : Option LastReply) (reply : ℤ) (fresh : Bool) : Type 0 where
+record IsLastReplyOf (request : Request) (o : Option LastReply) (reply : ℤ) (fresh : Bool) : Type 0 where
   last : LastReply
   is_last : o ≡ Some last
   number : request.number ≡ last.number
   same : last.reply ≡ reply
   not_fresh : fresh ≡ false
 
-by-answered : (request : Request) (value : ℤ) (o : Option LastReply) (reply : ℤ) (fresh : Bool) → decided_by request value o ≡ Answered (Done reply fresh) → IsLast request o reply fresh
+by-answered : (request : Request) (value : ℤ) (o : Option LastReply) (reply : ℤ) (fresh : Bool) → decided_by request value o ≡ Answered (Done reply fresh) → IsLastReplyOf request o reply fresh
 by-answered request value None reply fresh e = absurd (new-answered request value 0 reply fresh e)
 by-answered request value (Some last) reply fresh e =
     let older : Decision = cond (nat_lt request.number last.number) (Answered (Stale last.number)) (decided_new request value last.number) in
@@ -211,7 +211,7 @@ pub record HasStood (caller : ℕ) (key : List ℕ) (program : List Clause) (sta
   pub place : settled_of key marks ≡ before ++ record { caller = caller; call = call; program = program } ∷ after
   pub outcome : outcome_of program (replay_from (opening_state key marks) before) ≡ record { state = state; took = took }
 
-counted : {marks : List Mark} → IsLegal marks → IsCounted marks
+counted : {marks : List Mark} → IsLegal marks → AreCallsCounted marks
 counted legal = record { begun = legal.numbered.begun }
 
 stood : (caller call rounds : ℕ) (key : List ℕ) (program : List Clause) (state : State) (took : Took) (ballot : Ballot) (older before : List Mark)

@@ -15,14 +15,14 @@ use Rattle.cas_session_text.specs.Contents.{SessionContents, StandsFor, reply_of
 use Rattle.cas_session_text.proofs.Replies.{reply_of-told, reply_of-other}
 use Rattle.cas_session.specs.Request.{Request, value_after, last_number, reply_to}
 use Rattle.cas_session_laws.specs.History.{IsOfSession, ActsFor, Acting, none, stays, acts, IsSameRequest, AreApart, value_by, HasActed}
-use Rattle.cas_session_laws.proofs.Steps.{stands_once, IsNext, is_next, HasLeft, left_by, Step, kept, acted, step_of}
+use Rattle.cas_session_laws.proofs.Steps.{stands_once, IsNextNumber, is_next, HasLeftContents, left_by, Step, kept, acted, step_of}
 
 -- ---- they are found
-pub record Found (state : State) (history : List Entry) : Type 0 where
+pub record FoundRequests (state : State) (history : List Entry) : Type 0 where
   pub requests : List Request
   pub acting : Acting state history requests
 
-pub found : (state : State) (history : List Entry) → AllByRecursion IsOfSession history → Found state history
+pub found : (state : State) (history : List Entry) → AllByRecursion IsOfSession history → FoundRequests state history
 found state [] each = record { requests = []; acting = none }
 found state (entry ∷ later) each =
     let rest = found (outcome_of entry.program state).state later each.1 in

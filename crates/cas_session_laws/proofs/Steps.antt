@@ -46,7 +46,7 @@ stands_once (Held version (Number number)) a b p q = absurd p
 
 -- ---- what is decided of the request that is next
 -- it is one above the last, and leaves the value that its act gives
-pub record IsNext (request : Request) (contents : SessionContents) (left : ℤ) : Type 0 where
+pub record IsNextNumber (request : Request) (contents : SessionContents) (left : ℤ) : Type 0 where
   pub number : request.number ≡ last_number (reply_of request.caller contents.replies) + 1
   pub value : value_after request.act contents.value ≡ Some left
 
@@ -82,7 +82,7 @@ next-by request value (Some last) left e =
           ]
     ]
 
-pub is_next : (request : Request) (contents : SessionContents) (left : ℤ) → decided request contents ≡ Proposes left → IsNext request contents left
+pub is_next : (request : Request) (contents : SessionContents) (left : ℤ) → decided request contents ≡ Proposes left → IsNextNumber request contents left
 is_next request contents left e =
     let parts = next-by request contents.value (reply_of request.caller contents.replies) left e in
     record { number = parts.0; value = parts.1 }
@@ -104,7 +104,7 @@ left_fits (Add addend) value left fits e = elim (cases_Bool (fits_i64 (value +�
 ]
 left_fits (Put number) value left fits e = let same : number ≡ left = cc (e) in subst (FitsSigned w64) same fits
 
-pub lawful-reply : (request : Request) (contents : SessionContents) (left : ℤ) → IsRequest request → IsNext request contents left → IsLastReply (reply_to request left)
+pub lawful-reply : (request : Request) (contents : SessionContents) (left : ℤ) → IsRequest request → IsNextNumber request contents left → IsLastReply (reply_to request left)
 lawful-reply request contents left lawful next = record {
   caller = lawful.caller;
   numbered = lawful.numbered;
@@ -114,13 +114,13 @@ lawful-reply request contents left lawful next = record {
 
 -- ---- what a change makes of a state
 -- the state stays, and the clause was not taken; or it stands where the guard holds, and the text is put
-pub data Makes (made : State) (text : List ℕ) (state : State) (outcome : Outcome) : Type 0 where
-  stays : outcome.state ≡ state → ((n : ℕ) → outcome.took ≡ ByClause n → ⊥) → Makes made text state outcome
+pub data MakesOfState (made : State) (text : List ℕ) (state : State) (outcome : Outcome) : Type 0 where
+  stays : outcome.state ≡ state → ((n : ℕ) → outcome.took ≡ ByClause n → ⊥) → MakesOfState made text state outcome
   puts : holds (guard_for made) state ≡ true → (after : State) → after_put (Text text) state ≡ Some after
-      → outcome ≡ record { state = after; took = ByClause 0 } → Makes made text state outcome
+      → outcome ≡ record { state = after; took = ByClause 0 } → MakesOfState made text state outcome
 
 by_put : (made : State) (text : List ℕ) (state : State) → holds (guard_for made) state ≡ true → (o : Option State) → after_put (Text text) state ≡ o
-    → Makes made text state (outcome_by 0 state o)
+    → MakesOfState made text state (outcome_by 0 state o)
 by_put made text state guard (Some after) e = puts guard after e refl
 by_put made text state guard None e = stays refl (λ n took. absurd (cc (took)))
 
@@ -140,10 +140,10 @@ outcome_other made text state f =
     let by : Bool → Outcome = λ b. outcome_at program state (cond (nat_lt (cond (not b) (1 + 0) 0) 1) (Some (cond (not b) (1 + 0) 0)) None) in
     ap by f
 
-pub makes-change : (made : State) (text : List ℕ) (state : State) → Makes made text state (outcome_of (one_clause (guard_for made) (PutText text)) state)
+pub makes-change : (made : State) (text : List ℕ) (state : State) → MakesOfState made text state (outcome_of (one_clause (guard_for made) (PutText text)) state)
 makes-change made text state = elim (cases_Bool (holds (guard_for made) state)) [
-  | inl t ↦ subst (Makes made text state) (sym (outcome_held made text state t)) (by_put made text state t (after_put (Text text) state) refl)
-  | inr f ↦ subst (Makes made text state) (sym (outcome_other made text state f)) (stays refl (λ n took. absurd (cc (took))))
+  | inl t ↦ subst (MakesOfState made text state) (sym (outcome_held made text state t)) (by_put made text state t (after_put (Text text) state) refl)
+  | inr f ↦ subst (MakesOfState made text state) (sym (outcome_other made text state f)) (stays refl (λ n took. absurd (cc (took))))
 ]
 
 -- the guard holds of a state that stands for what it was made for
@@ -178,7 +178,7 @@ put_stands (Held v body) after contents lawful e =
 
 -- ---- one entry
 -- the entry acted, and left a state that stands for the contents with the reply
-pub record HasLeft (request : Request) (state : State) (left : ℤ) (contents : SessionContents) (entry : Entry) : Type 0 where
+pub record HasLeftContents (request : Request) (state : State) (left : ℤ) (contents : SessionContents) (entry : Entry) : Type 0 where
   pub after : State
   pub outcome : outcome_of entry.program state ≡ record { state = after; took = ByClause 0 }
   pub stands_for : StandsFor after (after_reply (reply_to request left) contents)
@@ -188,7 +188,7 @@ lawful-after : (request : Request) (state : State) (contents : SessionContents) 
 lawful-after request state contents left program change =
     IsContents-after (reply_to request left) contents (lawful-reply request contents left change.lawful (is_next request contents left change.next)) (lawful-stands state contents change.stands_for)
 
-pub left_by : {request : Request} {state : State} {left : ℤ} {entry : Entry} (acts : ActsFor request state left entry) → HasLeft request state left acts.contents entry
+pub left_by : {request : Request} {state : State} {left : ℤ} {entry : Entry} (acts : ActsFor request state left entry) → HasLeftContents request state left acts.contents entry
 left_by {request} {state} {left} {entry} acts = by_outcome (makes-change state text state)
   where
     told : SessionContents
@@ -197,8 +197,8 @@ left_by {request} {state} {left} {entry} acts = by_outcome (makes-change state t
     text : List ℕ
     text = contents_text (after_reply (reply_to request left) acts.contents)
 
-    by_outcome : Makes state (contents_text (after_reply (reply_to request left) acts.contents)) state (outcome_of (change_to state (after_reply (reply_to request left) acts.contents)) state)
-        → HasLeft request state left acts.contents entry
+    by_outcome : MakesOfState state (contents_text (after_reply (reply_to request left) acts.contents)) state (outcome_of (change_to state (after_reply (reply_to request left) acts.contents)) state)
+        → HasLeftContents request state left acts.contents entry
     by_outcome (stays same none) = absurd (none 0 (ap (λ (p : List Clause). (outcome_of p state).took) (sym acts.change.change) ∙ acts.took))
     by_outcome (puts guard after put outcome) = record {
       after = after;
@@ -232,7 +232,8 @@ pub step_of : (state : State) (entry : Entry) → IsOfSession entry → Step sta
 step_of state entry (keeps e) = kept (ap (λ (p : List Clause). (outcome_of p state).state) e)
 step_of state entry (changes {request = request} {state = made} {contents = contents} {left = left} same change) = by_outcome (makes-change made (contents_text (after_reply (reply_to request left) contents)) state)
   where
-    by_outcome : Makes made (contents_text (after_reply (reply_to request left) contents)) state (outcome_of (change_to made (after_reply (reply_to request left) contents)) state) → Step state entry
+    by_outcome : MakesOfState made (contents_text (after_reply (reply_to request left) contents)) state (outcome_of (change_to made (after_reply (reply_to request left) contents)) state)
+        → Step state entry
     by_outcome (stays same_state none) = kept (ap (λ (p : List Clause). (outcome_of p state).state) change.change ∙ same_state)
     by_outcome (puts guard after put outcome) = acted {request = request} {left = left}
         (acts_put state entry same change guard (ap (λ (p : List Clause). (outcome_of p state).took) change.change ∙ ap (λ (o : Outcome). o.took) outcome))
@@ -242,7 +243,7 @@ pub acts_where_taken : (request : Request) (made state : State) (contents : Sess
     → IsChangeFor request made contents left entry.program → (outcome_of entry.program state).took ≡ ByClause clause → ActsFor request state left entry
 acts_where_taken request made state contents left entry clause same change took = by_outcome (makes-change made (contents_text (after_reply (reply_to request left) contents)) state)
   where
-    by_outcome : Makes made (contents_text (after_reply (reply_to request left) contents)) state (outcome_of (change_to made (after_reply (reply_to request left) contents)) state) → ActsFor request state left entry
+    by_outcome : MakesOfState made (contents_text (after_reply (reply_to request left) contents)) state (outcome_of (change_to made (after_reply (reply_to request left) contents)) state) → ActsFor request state left entry
     by_outcome (stays same_state none) = absurd (none clause (ap (λ (p : List Clause). (outcome_of p state).took) (sym change.change) ∙ took))
     by_outcome (puts guard after put outcome) =
         acts_put state entry same change guard (ap (λ (p : List Clause). (outcome_of p state).took) change.change ∙ ap (λ (o : Outcome). o.took) outcome)

@@ -45,7 +45,7 @@ may_put (Held version body) text may =
 acts_on_own : (state : State) (contents : SessionContents) (text : List ℕ) → StandsFor state contents → MayPut state → (outcome_of (one_clause (guard_for state) (PutText text)) state).took ≡ ByClause 0
 acts_on_own state contents text s may = ap (λ (o : Outcome). o.took) (outcome_held state text state (own_guard state contents s)) ∙ may_put state text may
 
-pub record IsOver (left : ℤ) (ending : Ending) : Type 0 where
+pub record IsRequestOver (left : ℤ) (ending : Ending) : Type 0 where
   pub told : SessionAnswer
   pub ends : ending ≡ Ends told
   pub done : RequestIsDoneOrNoMemory left told
@@ -54,7 +54,7 @@ with_done : (left : ℤ) (state : State) (took : Took) (ballot : Ballot) (pendin
 with_done left state took ballot pending e = ap (λ (t : Took). ends_with left (answer.Done state t ballot) pending) e
 
 changed : (left : ℤ) (state : State) (program : List Clause) (told : Answer) (pending : Bool) → (outcome_of program state).took ≡ ByClause 0 → IsDoneOn state (record { program = program; answer = told })
-    → IsOver left (ends_with left told pending)
+    → IsRequestOver left (ends_with left told pending)
 changed left state program told pending took (done_on {ballot} e) =
     record {
       told = Done left true;
@@ -69,7 +69,7 @@ changed left state program told pending took (no_memory {proposed} e) =
     }
 
 goes_on : (request : Request) (pending : Bool) (state : State) (contents : SessionContents) (left : ℤ) {more : List Call} {ending : Ending} → StandsFor state contents → MayPut state → decided request contents ≡ Proposes left
-    → AttemptGoesOn request pending state more ending → ((front back : List Call) (call : Call) → more ≡ front ++ call ∷ back → IsDoneOn state call) → IsOver left ending
+    → AttemptGoesOn request pending state more ending → ((front back : List Call) (call : Call) → more ≡ front ++ call ∷ back → IsDoneOn state call) → IsRequestOver left ending
 goes_on request pending state contents left s may d finds_no_memory each = record { told = Stopped (answer.NoMemory false) pending; ends = refl; done = has_none refl }
 goes_on request pending state contents left s may d (finds_no_session n) each = absurd (n contents s)
 goes_on request pending state contents left s may d (finds_answer other {told} t e) each =
@@ -81,22 +81,22 @@ goes_on request pending state contents left s may d (changes other {left = l} {t
     let both : Proposes left ≡ Proposes l = sym d ∙ ap (decided request) same ∙ e in
     let value : l ≡ left = cc (both) in
     let program : List Clause = change_to state (after_reply (reply_to request l) other) in
-    subst (λ (v : ℤ). IsOver v (ends_with l told pending)) value
+    subst (λ (v : ℤ). IsRequestOver v (ends_with l told pending)) value
     (changed l state program told pending (acts_on_own state contents (contents_text (after_reply (reply_to request l) other)) s may) (each [] [] (proposes program told) refl))
 
 tried : (request : Request) (pending : Bool) (state : State) (contents : SessionContents) (left : ℤ) {calls : List Call} {ending : Ending} → StandsFor state contents → MayPut state → decided request contents ≡ Proposes left
-    → Attempts request pending calls ending → ((front back : List Call) (call : Call) → calls ≡ front ++ call ∷ back → IsDoneOn state call) → IsOver left ending
+    → Attempts request pending calls ending → ((front back : List Call) (call : Call) → calls ≡ front ++ call ∷ back → IsDoneOn state call) → IsRequestOver left ending
 tried request pending state contents left s may d has_no_memory each = record { told = Stopped (answer.NoMemory false) pending; ends = refl; done = has_none refl }
 tried request pending state contents left s may d (reads_nothing {told} n) each = by_call (each [] [] (reads told) refl)
   where
-    by_call : IsDoneOn state (reads told) → IsOver left (ends_by told pending)
+    by_call : IsDoneOn state (reads told) → IsRequestOver left (ends_by told pending)
     by_call (done_on e) =
         let clash : false ≡ true = sym n ∙ ap is_done e in
         absurd (cc (clash))
     by_call (no_memory {proposed} e) = record { told = Stopped (answer.NoMemory proposed) pending; ends = ap (λ (a : Answer). ends_by a pending) e; done = has_none refl }
 tried request pending state contents left s may d (reads_state {state = seen} {took} {ballot} {more} {ending} g) each = by_call (each [] more (reads (answer.Done seen took ballot)) refl)
   where
-    by_call : IsDoneOn state (reads (answer.Done seen took ballot)) → IsOver left ending
+    by_call : IsDoneOn state (reads (answer.Done seen took ballot)) → IsRequestOver left ending
     by_call (done_on e) =
         let same : seen ≡ state = cc (e) in
         goes_on request pending state contents left s may d (subst (λ (t : State). AttemptGoesOn request pending t more ending) same g)

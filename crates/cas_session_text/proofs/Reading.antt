@@ -93,13 +93,13 @@ all_told start now all rest is none = by_left is.left is.parts is.text
 
 -- ---- one reply
 -- the numbers that the parts of a reply's word say
-pub record Says (reply : LastReply) (first second third : List ℕ) : Type 0 where
+pub record SaysReply (reply : LastReply) (first second third : List ℕ) : Type 0 where
   pub caller : u64_of first ≡ Some reply.caller
   pub number : u64_of second ≡ Some reply.number
   pub value : i64_of third ≡ Some reply.reply
 
 pub says : (reply : LastReply) (caller number value : List ℕ) → IsLastReply reply → caller ≡ decimal reply.caller → number ≡ decimal reply.number → value ≡ signed_decimal reply.reply
-    → Says reply caller number value
+    → SaysReply reply caller number value
 says reply caller number value is c n v = record {
   caller = ap u64_of c ∙ u64_of-decimal reply.caller (omega (arith, is.caller.known));
   number = ap u64_of n ∙ u64_of-decimal reply.number is.number_fits;

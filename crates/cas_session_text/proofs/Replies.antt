@@ -19,12 +19,12 @@ with-same told reply replies same = rw (le-ltb reply.caller told.caller (omega a
 with-above : (told reply : LastReply) (replies : List LastReply) → told.caller < reply.caller → with_reply told (reply ∷ replies) ≡ told ∷ reply ∷ replies
 with-above told reply replies above = rw (le-ltb reply.caller told.caller (omega arith), ne_eqb reply.caller told.caller (λ e. omega arith)) refl
 
-pub data Place (told reply : LastReply) : Type 0 where
-  below : reply.caller < told.caller → Place told reply
-  same : reply.caller ≡ told.caller → Place told reply
-  above : told.caller < reply.caller → Place told reply
+pub data PlaceOfReply (told reply : LastReply) : Type 0 where
+  below : reply.caller < told.caller → PlaceOfReply told reply
+  same : reply.caller ≡ told.caller → PlaceOfReply told reply
+  above : told.caller < reply.caller → PlaceOfReply told reply
 
-pub place_of : (told reply : LastReply) → Place told reply
+pub place_of : (told reply : LastReply) → PlaceOfReply told reply
 place_of told reply = elim (cases_lt reply.caller told.caller) [
   | inl lt ↦ below lt
   | inr ge ↦ elim (cases_eq reply.caller told.caller) [ inl e ↦ same e | inr ne ↦ above (omega arith) ]

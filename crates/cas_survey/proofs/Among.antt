@@ -15,7 +15,7 @@ use Rattle.cas_slot.specs.declared.message.Tell.TheVariants as tell
 use Rattle.cas_slot.specs.Limits.{SlotBallotsFit, AllBallotsFit}
 use Rattle.cas_slot.specs.Slots.{Slots, slot_at}
 use Rattle.cas_slot.specs.Table.{seen_at}
-use Rattle.cas_survey.specs.Survey.{kept_of, kept_on, AreUp, GoesOnFrom, IsFinding, AreFindings, IsGreatestAmong, IsGreatestCounter, Gathers, CountsOn}
+use Rattle.cas_survey.specs.Survey.{kept_of, kept_on, AreUp, GoesOnFromAccepted, IsFinding, AreFindings, IsGreatestAmong, IsGreatestCounter, FindsMore, CountsOn}
 
 -- a member with a lower number than this
 abbrev pub IsLower : ℕ → List ℕ → ℕ → Type 0
@@ -45,11 +45,11 @@ later : (number : ℕ) (members : List ℕ) (id : ℕ) → IsLower number member
 later number members id lower = (omega (arith, lower.0), lower.1)
 
 pub found_below_more : (number : ℕ) (members : List ℕ) (kept : ℕ → Contents) (contents : Contents) (old new : Slots) → has_member members number ≡ true → kept number ≡ contents
-    → FoundBelow number members kept old → Gathers contents old new → FoundBelow (number + 1) members kept new
+    → FoundBelow number members kept old → FindsMore contents old new → FoundBelow (number + 1) members kept new
 found_below_more number members kept contents old new member is before gathers key = record {
   from = λ slot at. elim (gathers.from key slot at) [
     | inl old_one ↦ let found = (before key).from slot old_one in (found.0, later number members found.0 found.1, found.2)
-    | inr goes ↦ (number, (omega arith, member), subst (λ (c : Contents). GoesOnFrom c key slot) (sym is) goes)
+    | inr goes ↦ (number, (omega arith, member), subst (λ (c : Contents). GoesOnFromAccepted c key slot) (sym is) goes)
   ];
   greatest = λ id lower. elim (lower_or_this number members id lower) [
     | inl low ↦ at_most_trans ((before key).greatest id low) (gathers.grows key)
@@ -138,7 +138,7 @@ pub kept_fits : {S : Type 0} (is_up : S → Type 0) (contents : S → Contents) 
     → AreUp is_up members shelves → (id : ℕ) → has_member members id ≡ true → AllBallotsFit (kept_on contents shelves id)
 kept_fits is_up contents members shelves fit up id member = kept_fits_of contents (slice_get shelves id) (λ shelf at. fit shelf (up id shelf member at))
 
-goes_fits : (contents : Contents) (key : List ℕ) (slot : Slot) → AllBallotsFit contents → GoesOnFrom contents key slot → SlotBallotsFit slot
+goes_fits : (contents : Contents) (key : List ℕ) (slot : Slot) → AllBallotsFit contents → GoesOnFromAccepted contents key slot → SlotBallotsFit slot
 goes_fits contents key slot fits goes = rw goes.is (record {
   promise = zero_fits;
   accepted = subst (λ (a : Option Accepted). IfSome a (λ it. FitsBallot it.ballot)) goes.at (accepted_fits (kept_at contents key) (fits key));

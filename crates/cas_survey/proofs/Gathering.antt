@@ -16,13 +16,13 @@ use Rattle.cas_slot.specs.Slot.{accepted_ballot}
 use Rattle.cas_slot.specs.Slots.{Slots, slot_at, with_slot, keys_above}
 use Rattle.cas_slot.specs.Table.{accepted_at, seen_at}
 use Rattle.cas_slot.proofs.SlotsLemmas.{slot_at-with_slot, slot_at-with_slot_same}
-use Rattle.cas_survey.specs.Survey.{found_slot, found_ballot, noted, GoesOnFrom, Gathers, GathersKey, CountsOn}
+use Rattle.cas_survey.specs.Survey.{found_slot, found_ballot, noted, GoesOnFromAccepted, FindsMore, GathersKey, CountsOn}
 use Rattle.cas_survey.proofs.Keys.{is_one_of, same_key, all_keys, kept_is_one, some_or_none}
 use Rattle.cas_survey.proofs.Noting.{noted_greater, noted_no_greater}
 
 -- what was found before, with what these contents hold of some keys
 pub record GathersOf (looked : List (List ℕ)) (kept : Contents) (old new : Slots) : Type 0 where
-  pub from : (key : List ℕ) (slot : Slot) → slot_at new key ≡ Some slot → (slot_at old key ≡ Some slot) ⊎ GoesOnFrom kept key slot
+  pub from : (key : List ℕ) (slot : Slot) → slot_at new key ≡ Some slot → (slot_at old key ≡ Some slot) ⊎ GoesOnFromAccepted kept key slot
   pub grows : (key : List ℕ) → BallotAtMost (found_ballot (slot_at old key)) (found_ballot (slot_at new key))
   pub reaches : (key : List ℕ) → is_one_of looked key ≡ true → BallotAtMost (accepted_ballot (accepted_at kept key)) (found_ballot (slot_at new key))
 
@@ -124,7 +124,7 @@ all_one most at keys kept key is few all some =
     ap (λ (looked : List (List ℕ)). is_one_of looked key) (take_all at keys all) ∙ kept_is_one kept.slots keys key (all_keys most kept.slots keys is few) some
 
 pub gathers_all : (most at : ℕ) (keys : List (List ℕ)) (kept : Contents) (old new : Slots) → keys ≡ take most (keys_above kept.slots None) → length keys < most → length keys ≤ at
-    → GathersOf (take at keys) kept old new → Gathers kept old new
+    → GathersOf (take at keys) kept old new → FindsMore kept old new
 gathers_all most at keys kept old new is few all gathers = record {
   from = gathers.from;
   grows = gathers.grows;

@@ -34,7 +34,7 @@ abbrev pub found_ballot : Option Slot → Ballot
 found_ballot found = accepted_ballot (accepted_of found)
 
 -- the slot goes on from what is accepted there, above ballot zero
-pub record GoesOnFrom (kept : Contents) (key : List ℕ) (slot : Slot) : Type 0 where
+pub record GoesOnFromAccepted (kept : Contents) (key : List ℕ) (slot : Slot) : Type 0 where
   pub accepted : Accepted
   pub at : accepted_at kept key ≡ Some accepted
   pub above : BallotLess zero_ballot accepted.ballot
@@ -43,7 +43,7 @@ pub record GoesOnFrom (kept : Contents) (key : List ℕ) (slot : Slot) : Type 0 
 -- What was found of a key goes on from what one of these members accepted, and none of them accepted anything at a greater ballot. Where
 -- nothing was found, none of them accepted anything above ballot zero.
 pub record IsFinding (In : ℕ → Type 0) (kept : ℕ → Contents) (key : List ℕ) (found : Option Slot) : Type 0 where
-  pub from : (slot : Slot) → found ≡ Some slot → (id : ℕ) × In id × GoesOnFrom (kept id) key slot
+  pub from : (slot : Slot) → found ≡ Some slot → (id : ℕ) × In id × GoesOnFromAccepted (kept id) key slot
   pub greatest : (id : ℕ) → In id → BallotAtMost (accepted_ballot (accepted_at (kept id) key)) (found_ballot found)
 
 abbrev pub AreFindings : List ℕ → (ℕ → Contents) → Slots → Type 0
@@ -64,14 +64,14 @@ noted found key None = found
 noted found key (Some accepted) = if is_lt (ballot_cmp (found_ballot (slot_at found key)) accepted.ballot) then with_slot found key (found_slot accepted) else found
 
 -- what was found before, with what these contents hold
-pub record Gathers (kept : Contents) (old new : Slots) : Type 0 where
-  pub from : (key : List ℕ) (slot : Slot) → slot_at new key ≡ Some slot → (slot_at old key ≡ Some slot) ⊎ GoesOnFrom kept key slot
+pub record FindsMore (kept : Contents) (old new : Slots) : Type 0 where
+  pub from : (key : List ℕ) (slot : Slot) → slot_at new key ≡ Some slot → (slot_at old key ≡ Some slot) ⊎ GoesOnFromAccepted kept key slot
   pub grows : (key : List ℕ) → BallotAtMost (found_ballot (slot_at old key)) (found_ballot (slot_at new key))
   pub reaches : (key : List ℕ) → BallotAtMost (accepted_ballot (accepted_at kept key)) (found_ballot (slot_at new key))
 
 -- what was found before, with what these contents hold of this key
 pub record GathersKey (kept : Contents) (key : List ℕ) (old new : Slots) : Type 0 where
-  pub from : (q : List ℕ) (slot : Slot) → slot_at new q ≡ Some slot → (slot_at old q ≡ Some slot) ⊎ GoesOnFrom kept q slot
+  pub from : (q : List ℕ) (slot : Slot) → slot_at new q ≡ Some slot → (slot_at old q ≡ Some slot) ⊎ GoesOnFromAccepted kept q slot
   pub grows : (q : List ℕ) → BallotAtMost (found_ballot (slot_at old q)) (found_ballot (slot_at new q))
   pub reaches : BallotAtMost (accepted_ballot (accepted_at kept key)) (found_ballot (slot_at new key))
 

@@ -8,7 +8,7 @@ ghost use Rattle.cas_slot.specs.Limits.{SlotBallotsFit};
 ghost use Rattle.cas_slot.specs.Slot.{accepted_ballot, accepted_of};
 ghost use Rattle.cas_slot.specs.Slots.{slot_at};
 ghost use Rattle.cas_slot.specs.Table.{seen_at};
-ghost use Rattle.cas_survey.specs.Survey.{found_slot, noted, kept_on, AreUp, AreFindings, IsGreatestCounter, Gathers, GathersKey, CountsOn};
+ghost use Rattle.cas_survey.specs.Survey.{found_slot, noted, kept_on, AreUp, AreFindings, IsGreatestCounter, FindsMore, GathersKey, CountsOn};
 
 use cas_ballot::{AcceptorId, Ballot, Members};
 use cas_change::Key;
@@ -58,7 +58,7 @@ pub fn survey<S: Shelf>(
 impl Findings {
     /// Adds what a shelf holds. After an `Err` some of it is added.
     fn add<S: Shelf>(&mut self, shelf: &S) -> Result<(), AllocError>
-        ensures slots { OnOk result (Gathers (S.contents shelf.now)
+        ensures slots { OnOk result (FindsMore (S.contents shelf.now)
             (from_entries self.old.slots.entries) (from_entries self.new.slots.entries)) }
         ensures past { OnOk result (CountsOn (S.contents shelf.now) self.old.past self.new.past) }
     {

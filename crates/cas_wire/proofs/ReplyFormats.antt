@@ -197,7 +197,7 @@ kind_back kind.Probed = refl
 kind_format : IsFormat (λ k. kind_byte k ∷ []) (λ k. Unit {0}) (named_at kinds)
 kind_format = named_format kind_byte kinds (refl, (refl, (refl, (refl, (refl, (refl, (refl, (refl, (refl, (refl, tt)))))))))) kind_back
 
-record FitsHead (head : ReplyHead) : Type 0 where
+record FitsReplyHead (head : ReplyHead) : Type 0 where
   from : head.from ≤ 63
   to : head.to ≤ 16
   tag : FitsBallot head.tag
@@ -209,7 +209,7 @@ head_parts head = (2, (head.kind, (head.from, (head.to, (head.phase, head.tag)))
 abbrev head_spelling : ReplyHead → List ℕ
 head_spelling head = 2 ∷ kind_byte head.kind ∷ head.from ∷ head.to ∷ phase_byte head.phase ∷ ballot_spelling head.tag
 
-head_format : IsFormat head_spelling FitsHead reply_head_at
+head_format : IsFormat head_spelling FitsReplyHead reply_head_at
 unfolding reply_head_at head_parts
 head_format =
     let format = where_format is_head (made_format reply_head_of head_parts (λ p fits. ap (λ (n : ℕ). (n, p.1)) (sym (eqb-true p.0 2 fits.0.0))) (λ head. refl)
@@ -225,7 +225,7 @@ head_format =
 reply_parts : Reply → ReplyHead × Tell
 reply_parts reply = (record { kind = kind_of reply.tell; from = reply.from; to = reply.to; phase = reply.phase; tag = reply.tag }, reply.tell)
 
-parts_back : (p : ReplyHead × Tell) → FitsHead p.0 × FitsTellOf p.0.kind p.1 → reply_parts (reply_of p) ≡ p
+parts_back : (p : ReplyHead × Tell) → FitsReplyHead p.0 × FitsTellOf p.0.kind p.1 → reply_parts (reply_of p) ≡ p
 unfolding reply_parts
 parts_back p fits = ap (λ (k : TellKind). let head : ReplyHead = record { kind = k; from = p.0.from; to = p.0.to; phase = p.0.phase; tag = p.0.tag } in (head, p.1)) fits.1.1
 

@@ -96,7 +96,7 @@ phase_back phase.Probe = refl
 pub phase_format : IsFormat (λ p. phase_byte p ∷ []) (λ p. Unit {0}) (named_at phases)
 phase_format = named_format phase_byte phases (refl, (refl, (refl, (refl, (refl, (refl, tt)))))) phase_back
 
-record FitsHead (head : RequestHead) : Type 0 where
+record FitsRequestHead (head : RequestHead) : Type 0 where
   to : head.to ≤ 63
   from : head.from ≤ 16
   age : head.age < 2 ^ 64
@@ -107,7 +107,7 @@ head_parts head = (2, (head.phase, (head.to, (head.from, head.age))))
 abbrev head_spelling : RequestHead → List ℕ
 head_spelling head = 2 ∷ phase_byte head.phase ∷ head.to ∷ head.from ∷ to_be_bytes w64 head.age
 
-head_format : IsFormat head_spelling FitsHead request_head_at
+head_format : IsFormat head_spelling FitsRequestHead request_head_at
 unfolding request_head_at head_parts
 head_format =
     let format = made_format request_head_of head_parts (λ p fits. ap (λ (n : ℕ). (n, p.1)) (sym (eqb-true p.0 2 fits.0.0))) (λ head. refl)
@@ -123,7 +123,7 @@ head_format =
 request_parts : Request → RequestHead × Ask
 request_parts request = (record { phase = phase_of request.ask; to = request.to; from = request.from; age = request.age }, request.ask)
 
-parts_back : (p : RequestHead × Ask) → FitsHead p.0 × FitsAskOf p.0.phase p.1 → request_parts (request_of p) ≡ p
+parts_back : (p : RequestHead × Ask) → FitsRequestHead p.0 × FitsAskOf p.0.phase p.1 → request_parts (request_of p) ≡ p
 unfolding request_parts
 parts_back p fits = ap (λ (asked : Phase). let head : RequestHead = record { phase = asked; to = p.0.to; from = p.0.from; age = p.0.age } in (head, p.1)) fits.1.1
 

@@ -19,18 +19,19 @@ use Rattle.cas_world_calls.specs.Council as council
 use Rattle.cas_world_calls.specs.declared.council.Gathered.{Gathered}
 
 -- it is the first of a complete listing of the era that is to be settled
-pub record IsFirst (step : PlanStep) (listed : Option ListingView) (key : List ℕ) : Type 0 where
+pub record IsFirstListed (step : PlanStep) (listed : Option ListingView) (key : List ℕ) : Type 0 where
   pub settles : step ≡ Settle
   pub listing : ListingView
   pub is_listing : listed ≡ Some listing
   pub complete : listing.complete ≡ true
   pub first : slice_get listing.keys 0 ≡ Some key
 
-first_is : (listing : ListingView) (complete : Bool) (key : List ℕ) → listing.complete ≡ complete → (if complete then slice_get listing.keys 0 else None) ≡ Some key → IsFirst Settle (Some listing) key
+first_is : (listing : ListingView) (complete : Bool) (key : List ℕ) → listing.complete ≡ complete → (if complete then slice_get listing.keys 0 else None) ≡ Some key
+    → IsFirstListed Settle (Some listing) key
 first_is listing true key whole is = record { settles = refl; listing = listing; is_listing = refl; complete = whole; first = is }
 first_is listing false key whole is = absurd (cc is)
 
-pub due_first : (step : PlanStep) (listed : Option ListingView) (key : List ℕ) → first_where step listed ≡ Some key → IsFirst step listed key
+pub due_first : (step : PlanStep) (listed : Option ListingView) (key : List ℕ) → first_where step listed ≡ Some key → IsFirstListed step listed key
 due_first Settle None key is = absurd (cc is)
 due_first Settle (Some listing) key is = first_is listing listing.complete key refl is
 due_first (Enter era) listed key is = absurd (cc is)

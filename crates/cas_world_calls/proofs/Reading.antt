@@ -31,36 +31,38 @@ ok_then Q (Ok x) is then_ = then_ x is
 ok_then Q (Err e) is then_ = tt
 
 -- ---- one that agrees
-record Told (era : Era) (found : List Answered) (above : Ballot) (told : Option Tell) (accepted : Accepted) : Type 0 where
+record ToldAgreeing (era : Era) (found : List Answered) (above : Ballot) (told : Option Tell) (accepted : Accepted) : Type 0 where
   promise : Ballot
   is : told ≡ Some (tell.Probed promise (Some accepted))
   agree : agrees era found above accepted ≡ true
 
 told_if : (era : Era) (found : List Answered) (above : Ballot) (promise : Ballot) (a accepted : Accepted) (b : Bool) → agrees era found above a ≡ b → (if b then Some a else None) ≡ Some accepted
-    → Told era found above (Some (tell.Probed promise (Some a))) accepted
+    → ToldAgreeing era found above (Some (tell.Probed promise (Some a))) accepted
 told_if era found above promise a accepted true agree is =
     let same : a ≡ accepted = some_is is in
     record { promise = promise; is = ap (λ (x : Accepted). Some (tell.Probed promise (Some x))) same; agree = subst (λ (x : Accepted). agrees era found above x ≡ true) same agree }
 told_if era found above promise a accepted false agree is = absurd (cc is)
 
-agreed_told : (era : Era) (found : List Answered) (above : Ballot) (told : Option Tell) (accepted : Accepted) → agreed_by era found above told ≡ Some accepted → Told era found above told accepted
+agreed_told : (era : Era) (found : List Answered) (above : Ballot) (told : Option Tell) (accepted : Accepted) → agreed_by era found above told ≡ Some accepted
+    → ToldAgreeing era found above told accepted
 agreed_told era found above (Some (tell.Probed promise (Some a))) accepted is = told_if era found above promise a accepted (agrees era found above a) refl is
 agreed_told era found above told accepted is = absurd (cc is)
 
 -- ---- the first of them
-record First (era : Era) (found : List Answered) (above : Ballot) (rest : List Answered) (accepted : Accepted) : Type 0 where
+record FirstAgreeing (era : Era) (found : List Answered) (above : Ballot) (rest : List Answered) (accepted : Accepted) : Type 0 where
   place : ℕ
   one : Answered
   at : IsAt rest place one
-  told : Told era found above one.told accepted
+  told : ToldAgreeing era found above one.told accepted
 
 first_by : (era : Era) (found : List Answered) (above : Ballot) (one : Answered) (later : List Answered) (accepted : Accepted) (o : Option Accepted) → agreed_by era found above one.told ≡ o
     → or_next o (first_agreed era found above later) ≡ Some accepted
-    → (first_agreed era found above later ≡ Some accepted → First era found above later accepted) → First era found above (one ∷ later) accepted
+    → (first_agreed era found above later ≡ Some accepted → FirstAgreeing era found above later accepted) → FirstAgreeing era found above (one ∷ later) accepted
 first_by era found above one later accepted None e is rest = let it = rest is in record { place = suc it.place; one = it.one; at = it.at; told = it.told }
 first_by era found above one later accepted (Some a) e is rest = record { place = zero; one = one; at = refl; told = agreed_told era found above one.told accepted (e ∙ is) }
 
-first_of : (era : Era) (found : List Answered) (above : Ballot) (rest : List Answered) (accepted : Accepted) → first_agreed era found above rest ≡ Some accepted → First era found above rest accepted
+first_of : (era : Era) (found : List Answered) (above : Ballot) (rest : List Answered) (accepted : Accepted) → first_agreed era found above rest ≡ Some accepted
+    → FirstAgreeing era found above rest accepted
 first_of era found above [] accepted is = absurd (cc is)
 first_of era found above (one ∷ later) accepted is = first_by era found above one later accepted (agreed_by era found above one.told) refl is (first_of era found above later accepted)
 
@@ -76,7 +78,7 @@ none_of era found above (first ∷ later) is zero one at =
 none_of era found above (first ∷ later) is (suc place) one at = none_of era found above later (none_by (agreed_by era found above first.told) (first_agreed era found above later) is).1 place one at
 
 -- ---- what is marked
-agree_on : (era : Era) (found : List Answered) (above : Ballot) (accepted : Accepted) → First era found above found accepted → AgreeOn era found accepted
+agree_on : (era : Era) (found : List Answered) (above : Ballot) (accepted : Accepted) → FirstAgreeing era found above found accepted → AgreeOn era found accepted
 agree_on era found above accepted first =
     let rest = and_right (is_lt (ballot_cmp above accepted.ballot)) _ first.told.agree in
     let quorums = and_right (accepted.era == era.number) _ rest in

@@ -13,7 +13,7 @@ use Rattle.casreg_script.specs.Stage.{Stage}
 use Rattle.casreg_script.specs.Script.{State, IsInState, LineAnswer, IsAnswered, ScriptRun, none, one_more, text_of, transcript_of}
 
 -- some lines of the input were handed out, and as many were counted, run and answered
-pub record IsMidway {S H V : Type 0} (gives : S → Taken → S → Type 0) (meant : Meaning H V) (tries : ℕ) (first : State H V) (start source : S) (input : Option (List ℕ)) (reader : LinesState) (left old new : Option (List ℕ)) (world : State H V) : Type 0 where
+pub record IsScriptMidway {S H V : Type 0} (gives : S → Taken → S → Type 0) (meant : Meaning H V) (tries : ℕ) (first : State H V) (start source : S) (input : Option (List ℕ)) (reader : LinesState) (left old new : Option (List ℕ)) (world : State H V) : Type 0 where
   pub lines : List (List ℕ)
   pub handed_out : HasHandedOut input lines reader left
   pub told : HandsOutTold gives start lines reader.held source
@@ -26,7 +26,7 @@ pub record IsMidway {S H V : Type 0} (gives : S → Taken → S → Type 0) (mea
 pub record IsMidwayIn {S H V : Type 0} (gives : S → Taken → S → Type 0) (meant : Meaning H V) (tries : ℕ) (first : State H V) (start source : S) (input : Option (List ℕ)) (reader : LinesState) (left old new : Option (List ℕ)) (stage : Stage H V) : Type 0 where
   pub state : State H V
   pub is_in : IsInState stage state
-  pub midway : IsMidway gives meant tries first start source input reader left old new state
+  pub midway : IsScriptMidway gives meant tries first start source input reader left old new state
 
 -- ---- transcripts
 -- each line has one answer
@@ -62,7 +62,7 @@ appends_both (Some xs) (Some ys) (Some zs) first second p q = q ∙ ap (λ front
 
 -- ---- midway
 pub midway-nothing : {S H V : Type 0} (gives : S → Taken → S → Type 0) (meant : Meaning H V) (tries : ℕ) (first : State H V) (start : S) (input : Option (List ℕ)) (reader : LinesState) (held : Option (List ℕ)) (world : State H V) → reader.held ≡ [] → reader.handed ≡ 0 → world ≡ first
-    → IsMidway gives meant tries first start start input reader input held held world
+    → IsScriptMidway gives meant tries first start start input reader input held held world
 midway-nothing gives meant tries first start input reader held world empty handed new = record {
   lines = [];
   handed_out = HasHandedOut-nothing input reader empty;
@@ -85,7 +85,7 @@ pub record IsNextLine {S H V : Type 0} (gives : S → Taken → S → Type 0) (m
   pub written : Appends old held (transcript_of 1 answers)
 
 pub midway-next : {S H V : Type 0} (gives : S → Taken → S → Type 0) (meant : Meaning H V) (tries : ℕ) (first : State H V) (start source new_source : S) (input left new_left held_old held : Option (List ℕ)) (old new : LinesState) (world : State H V) (line : LineState)
-    → IsMidway gives meant tries first start source input old left held_old held world
+    → IsScriptMidway gives meant tries first start source input old left held_old held world
     → HandsOut old new left new_left line.bytes → TellsAtOnce gives old source (Ok (Some line)) new new_source → old.handed < MOST_LINES → line.number ≡ old.handed + 1 → new.handed ≡ line.number
     → IsNextLine gives meant tries first start new_source input new new_left held_old held world line.bytes line.number
 midway-next gives meant tries first start source new_source input left new_left held_old held old new world line at out at_once few number_is handed = record {
@@ -101,7 +101,7 @@ midway-next gives meant tries first start source new_source input left new_left 
 
 pub midway-line : {S H V : Type 0} (gives : S → Taken → S → Type 0) (meant : Meaning H V) (tries : ℕ) (first : State H V) (start source : S) (input left old held new : Option (List ℕ)) (reader : LinesState) (world after : State H V) (line : List ℕ) (number : ℕ) (answer : LineAnswer) (text : List ℕ)
     → IsNextLine gives meant tries first start source input reader left old held world line number → IsAnswered meant tries world line answer after → text ≡ text_of number answer → Appends held new text
-    → IsMidway gives meant tries first start source input reader left old new after
+    → IsScriptMidway gives meant tries first start source input reader left old new after
 midway-line gives meant tries first start source input left old held new reader world after line number answer text n is text_is appended = record {
   lines = n.lines ++ line ∷ [];
   handed_out = n.handed_out;
@@ -113,17 +113,17 @@ midway-line gives meant tries first start source input left old held new reader 
       (appends_both old held new (transcript_of 1 n.answers) text n.written appended);
 }
 
-pub midway-end : {S H V : Type 0} (gives : S → Taken → S → Type 0) (meant : Meaning H V) (tries : ℕ) (first : State H V) (start source : S) (input left old new : Option (List ℕ)) (reader : LinesState) (world : State H V) → IsMidway gives meant tries first start source input reader left old new world → IsAtEnd (ahead reader left)
+pub midway-end : {S H V : Type 0} (gives : S → Taken → S → Type 0) (meant : Meaning H V) (tries : ℕ) (first : State H V) (start source : S) (input left old new : Option (List ℕ)) (reader : LinesState) (world : State H V) → IsScriptMidway gives meant tries first start source input reader left old new world → IsAtEnd (ahead reader left)
     → IfSome input (λ bytes. ending_of bytes ≡ Whole)
 midway-end gives meant tries first start source None left old new reader world at end = tt
 midway-end gives meant tries first start source (Some bytes) left old new reader world at end = (HasHandedOut-end (Some bytes) left at.lines reader at.handed_out end).0
 
-pub midway-too_many : {S H V : Type 0} (gives : S → Taken → S → Type 0) (meant : Meaning H V) (tries : ℕ) (first : State H V) (start source : S) (input left old new : Option (List ℕ)) (reader : LinesState) (world : State H V) → IsMidway gives meant tries first start source input reader left old new world → (reader.handed ≡ MOST_LINES) × HasMore reader left
+pub midway-too_many : {S H V : Type 0} (gives : S → Taken → S → Type 0) (meant : Meaning H V) (tries : ℕ) (first : State H V) (start source : S) (input left old new : Option (List ℕ)) (reader : LinesState) (world : State H V) → IsScriptMidway gives meant tries first start source input reader left old new world → (reader.handed ≡ MOST_LINES) × HasMore reader left
     → IfSome input (λ bytes. ending_of bytes ≡ TooMany)
 midway-too_many gives meant tries first start source input left old new reader world at full =
     HasHandedOut-too_many input left at.lines reader at.handed_out (omega (arith, at.counted, full.0)) full.1
 
-pub midway-endless : {S H V : Type 0} (gives : S → Taken → S → Type 0) (meant : Meaning H V) (tries : ℕ) (first : State H V) (start source : S) (input left old new : Option (List ℕ)) (reader : LinesState) (world : State H V) (number : ℕ) → IsMidway gives meant tries first start source input reader left old new world
+pub midway-endless : {S H V : Type 0} (gives : S → Taken → S → Type 0) (meant : Meaning H V) (tries : ℕ) (first : State H V) (start source : S) (input left old new : Option (List ℕ)) (reader : LinesState) (world : State H V) (number : ℕ) → IsScriptMidway gives meant tries first start source input reader left old new world
     → (number ≡ reader.handed + 1) × (reader.handed < MOST_LINES) × IsLongLine reader left → IfSome input (λ bytes. ending_of bytes ≡ TooLong number)
 midway-endless gives meant tries first start source input left old new reader world number at long =
     HasHandedOut-endless input left at.lines reader number at.handed_out (omega (arith, long.1, at.counted)) long.2 (omega (arith, long.0, at.counted))

@@ -9,7 +9,7 @@ use Rattle.clap.specs.Walk.{Rule, Row, Text, Waiting, walk, walk_from, nothing_h
 use Rattle.clap.specs.Walk.Waiting.{idle, option, positional}
 use Rattle.clap.specs.Faults.{level_fault, entered_fault, walk_fault, settle_fault, defaults_fault, check_fault}
 use Rattle.casreg_command.specs.Words.{casreg, command_line, faults_of, HasOptions, HasMarks, HasDrawing, HasCommand}
-use Rattle.casreg_command.proofs.Taken.{Each, IsOption, IsKnown, Passes, IsNamed, by_test, neither, found_each, walk_each, settled_each, default_each, default_there, default_stays, read_passes, reads_first, walk_named}
+use Rattle.casreg_command.proofs.Taken.{Each, IsOption, IsKnown, PassesAsOption, IsNamed, by_test, neither, found_each, walk_each, settled_each, default_each, default_there, default_stays, read_passes, reads_first, walk_named}
 
 -- the subcommand as clap builds it, and its rules
 abbrev taken : Shape
@@ -67,7 +67,7 @@ default_none a rows is =
     (λ off. ap (λ (vs : List Text). default_rows a.id (reading_by a) vs rows) is)
 
 -- ---- the subcommand
-module _ (rows : List Row) (each : Each (Passes rules) rows) where
+module _ (rows : List Row) (each : Each (PassesAsOption rules) rows) where
   abbrev first : List Row
   first = with_default rows acceptors
 
@@ -80,7 +80,7 @@ module _ (rows : List Row) (each : Each (Passes rules) rows) where
   abbrev fourth : List Row
   fourth = with_default third marks
 
-  all_pass : Each (Passes rules) fourth
+  all_pass : Each (PassesAsOption rules) fourth
   unfolding clap_on_literals
   all_pass =
       default_each rules marks is_marks (codes "no") refl refl third (default_each rules tries is_tries (codes "1") refl refl second
@@ -210,7 +210,7 @@ no_load_places : (place : ℕ) → arg_by_index load_rules place ≡ None
 unfolding clap_on_literals
 no_load_places place = refl
 
-module _ (rows : List Row) (each : Each (Passes load_rules) rows) where
+module _ (rows : List Row) (each : Each (PassesAsOption load_rules) rows) where
   abbrev with_one : List Row
   with_one = with_default rows load_acceptors
 
@@ -229,7 +229,7 @@ module _ (rows : List Row) (each : Each (Passes load_rules) rows) where
   abbrev with_six : List Row
   with_six = with_default with_five load_lines
 
-  loads_pass : Each (Passes load_rules) with_six
+  loads_pass : Each (PassesAsOption load_rules) with_six
   unfolding clap_on_literals
   loads_pass =
       default_each load_rules load_lines is_load_lines (codes "1000") refl refl with_five

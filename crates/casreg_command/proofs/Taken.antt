@@ -134,7 +134,7 @@ abbrev pub IsKnown : List Rule → Rule → Type 0
 IsKnown c a = IsOption c a ⊎ (action_of a ≡ Help)
 
 -- the row is of an option, and its values pass
-pub record Passes (c : List Rule) (r : Row) : Type 0 where
+pub record PassesAsOption (c : List Rule) (r : Row) : Type 0 where
   pub rule : Rule
   pub known : IsOption c rule
   pub id : r.id ≡ rule.id
@@ -152,9 +152,9 @@ longer : {X : Type 0} (xs ys : List X) → 0 < length xs → 0 < length (xs ++ y
 longer [] ys lt = absurd (omega (arith, lt))
 longer (x ∷ xs) ys lt = omega arith
 
-pub with_values_each : (c : List Rule) (a : Rule) (s : ValueSource) (vs : List Text) (rows : List Row) → IsOption c a → values_fault a vs ≡ [] → 0 < length vs → Each (Passes c) rows → Each (Passes c) (with_values a.id (reading_by a) s vs rows)
+pub with_values_each : (c : List Rule) (a : Rule) (s : ValueSource) (vs : List Text) (rows : List Row) → IsOption c a → values_fault a vs ≡ [] → 0 < length vs → Each (PassesAsOption c) rows → Each (PassesAsOption c) (with_values a.id (reading_by a) s vs rows)
 with_values_each c a s vs rows known pass some each =
-    at_row_each (Passes c) a.id (more_values s vs) _ rows
+    at_row_each (PassesAsOption c) a.id (more_values s vs) _ rows
     (λ r is passed. (
       record {
         rule = passed.rule;
@@ -170,8 +170,8 @@ with_values_each c a s vs rows known pass some each =
     (record { rule = a; known = known; id = refl; values = pass; some = some; reading = known.reading }, tt)
     each
 
-without_each : (c : List Rule) (id : Text) (rows : List Row) → Each (Passes c) rows → Each (Passes c) (without id rows)
-without_each c id rows each = at_row_each (Passes c) id (λ r. []) [] rows (λ r is passed. tt) tt each
+without_each : (c : List Rule) (id : Text) (rows : List Row) → Each (PassesAsOption c) rows → Each (PassesAsOption c) (without id rows)
+without_each c id rows each = at_row_each (PassesAsOption c) id (λ r. []) [] rows (λ r is passed. tt) tt each
 
 -- ---- a use of an option
 one_value : (least most n : ℕ) → least ≡ 1 → most ≡ 1 → range_kinds least most n ≡ [] → n ≡ 1
@@ -190,69 +190,72 @@ alone (x ∷ y ∷ xs) e = absurd (omega (arith, e))
 
 module _ (c : List Rule) where
   -- a use of an option
-  set_each : (again : Bool) (a : Rule) (v : Text) (rows : List Row) → IsOption c a → action_fault Set again a (v ∷ []) rows ≡ [] → Each (Passes c) rows → Each (Passes c) (used_as Set a.id (reading_by a) (v ∷ []) rows)
+  set_each : (again : Bool) (a : Rule) (v : Text) (rows : List Row) → IsOption c a → action_fault Set again a (v ∷ []) rows ≡ [] → Each (PassesAsOption c) rows → Each (PassesAsOption c) (used_as Set a.id (reading_by a) (v ∷ []) rows)
   set_each again a v rows known none each =
       with_values_each c a CommandLine (v ∷ []) (without a.id rows) known ((neither (repeat_fault again a.id rows) (values_fault a (v ∷ [])) none).1) (let e : 0 < 1 = omega arith in e) (without_each c a.id rows each)
 
-  used_each : (again : Bool) (a : Rule) (values : List Text) (rows : List Row) → IsKnown c a → use_fault again a values rows ≡ [] → Each (Passes c) rows → Each (Passes c) (used a values rows)
+  used_each : (again : Bool) (a : Rule) (values : List Text) (rows : List Row) → IsKnown c a → use_fault again a values rows ≡ [] → Each (PassesAsOption c) rows
+      → Each (PassesAsOption c) (used a values rows)
   used_each again a values rows (inr help) none each =
-      subst (λ (x : ArgAction). Each (Passes c) (used_as x a.id (reading_by a) (values_or_missing a values) rows)) (sym help) each
+      subst (λ (x : ArgAction). Each (PassesAsOption c) (used_as x a.id (reading_by a) (values_or_missing a values) rows)) (sym help) each
   used_each again a values rows (inl known) none each =
       let parts = neither (range_kinds (unwrap_or_range a.range).start_inclusive (most_values a) (length values)) (action_fault (action_of a) again a (values_or_missing a values) rows) none in
       let one = alone values (one_value (unwrap_or_range a.range).start_inclusive (most_values a) (length values) known.least known.most parts.0) in
       let same : values_or_missing a values ≡ one.0 ∷ [] = ap (values_or_missing a) one.1 in
-      subst (λ (x : ArgAction). Each (Passes c) (used_as x a.id (reading_by a) (values_or_missing a values) rows)) (sym known.action)
-      (subst (λ (vs : List Text). Each (Passes c) (used_as Set a.id (reading_by a) vs rows)) (sym same)
+      subst (λ (x : ArgAction). Each (PassesAsOption c) (used_as x a.id (reading_by a) (values_or_missing a values) rows)) (sym known.action)
+      (subst (λ (vs : List Text). Each (PassesAsOption c) (used_as Set a.id (reading_by a) vs rows)) (sym same)
       (set_each again a one.0 rows known (subst (λ (x : ArgAction). action_fault x again a (one.0 ∷ []) rows ≡ []) known.action (subst (λ (vs : List Text). action_fault (action_of a) again a vs rows ≡ []) same parts.1)) each))
 
 module _ (c : List Rule) (rules : (test : Rule → Bool) (a : Rule) → find test c ≡ Some a → IsKnown c a) where
-  used_found : (again : Bool) (o : Option Rule) (values : List Text) (rows : List Row) → ((a : Rule) → o ≡ Some a → IsKnown c a) → option_map_or (λ (a : Rule). use_fault again a values rows) o [] ≡ [] → Each (Passes c) rows
-      → Each (Passes c) (used_by_id o values rows)
+  used_found : (again : Bool) (o : Option Rule) (values : List Text) (rows : List Row) → ((a : Rule) → o ≡ Some a → IsKnown c a) → option_map_or (λ (a : Rule). use_fault again a values rows) o [] ≡ [] → Each (PassesAsOption c) rows
+      → Each (PassesAsOption c) (used_by_id o values rows)
   used_found again None values rows known none each = each
   used_found again (Some a) values rows known none each = used_each c again a values rows (known a refl) none each
 
   settled_rows_each : (again : Bool) (pending : Option (Text × List Text)) (rows : List Row) → option_map_or (λ (p : Text × List Text). option_map_or (λ (a : Rule). use_fault again a p.1 rows) (arg_by_id c p.0) []) pending [] ≡ []
-      → Each (Passes c) rows → Each (Passes c) (settled_rows c pending rows)
+      → Each (PassesAsOption c) rows → Each (PassesAsOption c) (settled_rows c pending rows)
   settled_rows_each again None rows none each = each
   settled_rows_each again (Some p) rows none each = used_found again (arg_by_id c p.0) p.1 rows (λ a is. rules (λ a. bytes_eq a.id p.0) a is) none each
 
-  pub settled_each : (again : Bool) (h : Held) → settle_fault c again h ≡ [] → Each (Passes c) h.rows → Each (Passes c) (settled c h).rows
+  pub settled_each : (again : Bool) (h : Held) → settle_fault c again h ≡ [] → Each (PassesAsOption c) h.rows → Each (PassesAsOption c) (settled c h).rows
   settled_each again h none each = settled_rows_each again h.pending h.rows none each
 
-  reacted_each : (again : Bool) (a : Rule) (values : List Text) (h : Held) → IsKnown c a → react_fault c again a values h ≡ [] → Each (Passes c) h.rows → Each (Passes c) (reacted c a values h).rows
+  reacted_each : (again : Bool) (a : Rule) (values : List Text) (h : Held) → IsKnown c a → react_fault c again a values h ≡ [] → Each (PassesAsOption c) h.rows
+      → Each (PassesAsOption c) (reacted c a values h).rows
   reacted_each again a values h known none each =
       let parts = neither (settle_fault c again h) (use_fault again a values (settled c h).rows) none in
       used_each c again a values (settled c h).rows known parts.1 (settled_each again h parts.0 each)
 
-  option_met_each : (again : Bool) (a : Rule) (v : Option Text) (h : Held) → IsKnown c a → option_fault c again a v h ≡ [] → Each (Passes c) h.rows → Each (Passes c) (option_met c a v h).0.rows
+  option_met_each : (again : Bool) (a : Rule) (v : Option Text) (h : Held) → IsKnown c a → option_fault c again a v h ≡ [] → Each (PassesAsOption c) h.rows
+      → Each (PassesAsOption c) (option_met c a v h).0.rows
   option_met_each again a (Some v) h known none each = reacted_each again a (v ∷ []) h known none each
   option_met_each again a None h known none each = settled_each again h none each
 
-  flag_met_each : (again : Bool) (a : Rule) (v : Option Text) (h : Held) → IsKnown c a → (if is_some v then kind.TooManyValues ∷ [] else react_fault c again a [] h) ≡ [] → Each (Passes c) h.rows → Each (Passes c) (flag_met c a v h).0.rows
+  flag_met_each : (again : Bool) (a : Rule) (v : Option Text) (h : Held) → IsKnown c a → (if is_some v then kind.TooManyValues ∷ [] else react_fault c again a [] h) ≡ [] → Each (PassesAsOption c) h.rows → Each (PassesAsOption c) (flag_met c a v h).0.rows
   flag_met_each again a (Some v) h known none each = each
   flag_met_each again a None h known none each = reacted_each again a [] h known none each
 
-  long_met_each : (again : Bool) (o : Option Rule) (v : Option Text) (h : Held) → ((a : Rule) → o ≡ Some a → IsKnown c a) → long_fault c again o v h ≡ [] → Each (Passes c) h.rows → Each (Passes c) (long_met c o v h).0.rows
+  long_met_each : (again : Bool) (o : Option Rule) (v : Option Text) (h : Held) → ((a : Rule) → o ≡ Some a → IsKnown c a) → long_fault c again o v h ≡ [] → Each (PassesAsOption c) h.rows → Each (PassesAsOption c) (long_met c o v h).0.rows
   long_met_each again None v h known none each = each
   long_met_each again (Some a) v h known none each =
-      by_test (takes_values a) (λ b. cond b (option_fault c again a v h) (if is_some v then kind.TooManyValues ∷ [] else react_fault c again a [] h) ≡ [] → Each (Passes c) (cond b (option_met c a v h) (flag_met c a v h)).0.rows)
+      by_test (takes_values a) (λ b. cond b (option_fault c again a v h) (if is_some v then kind.TooManyValues ∷ [] else react_fault c again a [] h) ≡ [] → Each (PassesAsOption c) (cond b (option_met c a v h) (flag_met c a v h)).0.rows)
       (λ yes e. option_met_each again a v h (known a refl) e each)
       (λ other e. flag_met_each again a v h (known a refl) e each) none
 
   -- ---- bundles of short flags
   abbrev Reads : Bool → (Text → ℕ → Outcome → Held → Held × Outcome) → (Text → ℕ → Held → Kinds) → Type 0
-  Reads again met fault = (flags : Text) (skip : ℕ) (so_far : Outcome) (h : Held) → fault flags skip h ≡ [] → Each (Passes c) h.rows → Each (Passes c) (met flags skip so_far h).0.rows
+  Reads again met fault = (flags : Text) (skip : ℕ) (so_far : Outcome) (h : Held) → fault flags skip h ≡ [] → Each (PassesAsOption c) h.rows → Each (PassesAsOption c) (met flags skip so_far h).0.rows
 
   short_met_each : (again : Bool) (o : Option Rule) (rest : Text) (h : Held) (met : Held → Held × Outcome) (fault : Held → Kinds) → ((a : Rule) → o ≡ Some a → IsKnown c a)
-      → ((h : Held) → fault h ≡ [] → Each (Passes c) h.rows → Each (Passes c) (met h).0.rows) → short_fault c again o rest h fault ≡ [] → Each (Passes c) h.rows → Each (Passes c) (short_met c o rest h met).0.rows
+      → ((h : Held) → fault h ≡ [] → Each (PassesAsOption c) h.rows → Each (PassesAsOption c) (met h).0.rows) → short_fault c again o rest h fault ≡ [] → Each (PassesAsOption c) h.rows → Each (PassesAsOption c) (short_met c o rest h met).0.rows
   short_met_each again None rest h met fault known reads none each = each
   short_met_each again (Some a) rest h met fault known reads none each =
-      by_test (takes_values a) (λ b. cond b (option_fault c again a (attached_value rest) h) (or_else (react_fault c again a [] h) (fault (reacted c a [] h))) ≡ [] → Each (Passes c) (cond b (option_met c a (attached_value rest) h) (met (reacted c a [] h))).0.rows)
+      by_test (takes_values a) (λ b. cond b (option_fault c again a (attached_value rest) h) (or_else (react_fault c again a [] h) (fault (reacted c a [] h))) ≡ [] → Each (PassesAsOption c) (cond b (option_met c a (attached_value rest) h) (met (reacted c a [] h))).0.rows)
       (λ yes e. option_met_each again a (attached_value rest) h (known a refl) e each)
       (λ other e. let parts = neither (react_fault c again a [] h) (fault (reacted c a [] h)) e in reads (reacted c a [] h) parts.1 (reacted_each again a [] h (known a refl) parts.0 each)) none
 
   bundle_step_each : (again : Bool) (o : Option ℕ) (flags : Text) (skip : ℕ) (so_far : Outcome) (h : Held) (met : Text → ℕ → Outcome → Held → Held × Outcome) (fault : Text → ℕ → Held → Kinds) → Reads again met fault
-      → bundle_step_fault c again o flags skip h fault ≡ [] → Each (Passes c) h.rows → Each (Passes c) (bundle_step c o flags skip so_far h met).0.rows
+      → bundle_step_fault c again o flags skip h fault ≡ [] → Each (PassesAsOption c) h.rows → Each (PassesAsOption c) (bundle_step c o flags skip so_far h met).0.rows
   bundle_step_each again None flags skip so_far h met fault reads none each = each
   bundle_step_each again (Some x) flags zero so_far h met fault reads none each =
       let rest = drop (length (encode_utf8 x)) flags in
@@ -275,50 +278,51 @@ module _ (c : List Rule) (rules : (test : Rule → Bool) (a : Rule) → find tes
       go None = refl
       go (Some a) = refl
 
-  after_flag_each : (waiting : Waiting) (word : Text) (h : Held) (o : Outcome) → Each (Passes c) h.rows → Each (Passes c) (after_flag c waiting word h o).0.rows
+  after_flag_each : (waiting : Waiting) (word : Text) (h : Held) (o : Outcome) → Each (PassesAsOption c) h.rows → Each (PassesAsOption c) (after_flag c waiting word h o).0.rows
   after_flag_each waiting word h done each = each
   after_flag_each waiting word h (waits id) each = each
-  after_flag_each waiting word h plain each = subst (Each (Passes c)) (sym (plain_word_rows waiting word h)) each
-  after_flag_each waiting word h refused each = subst (Each (Passes c)) (sym (plain_word_rows waiting word h)) each
+  after_flag_each waiting word h plain each = subst (Each (PassesAsOption c)) (sym (plain_word_rows waiting word h)) each
+  after_flag_each waiting word h refused each = subst (Each (PassesAsOption c)) (sym (plain_word_rows waiting word h)) each
 
-  short_or_plain_each : (again : Bool) (waiting : Waiting) (word : Text) (o : Option Text) (h : Held) → option_map_or (λ (flags : Text). bundle_fault c again flags h) o [] ≡ [] → Each (Passes c) h.rows → Each (Passes c) (short_or_plain c waiting word o h).0.rows
-  short_or_plain_each again waiting word None h none each = subst (Each (Passes c)) (sym (plain_word_rows waiting word h)) each
+  short_or_plain_each : (again : Bool) (waiting : Waiting) (word : Text) (o : Option Text) (h : Held) → option_map_or (λ (flags : Text). bundle_fault c again flags h) o [] ≡ [] → Each (PassesAsOption c) h.rows → Each (PassesAsOption c) (short_or_plain c waiting word o h).0.rows
+  short_or_plain_each again waiting word None h none each = subst (Each (PassesAsOption c)) (sym (plain_word_rows waiting word h)) each
   short_or_plain_each again waiting word (Some flags) h none each =
       after_flag_each waiting word (bundle c flags h).0 (bundle c flags h).1 (bundle_met_each again (length flags) flags h.skip plain (record h { skip = 0 }) none each)
 
-  long_or_other_each : (again : Bool) (waiting : Waiting) (word : Text) (o : Option (Text × Option Text)) (h : Held) → flag_word_fault c again o word h ≡ [] → Each (Passes c) h.rows → Each (Passes c) (long_or_other c waiting word o h).0.rows
+  long_or_other_each : (again : Bool) (waiting : Waiting) (word : Text) (o : Option (Text × Option Text)) (h : Held) → flag_word_fault c again o word h ≡ [] → Each (PassesAsOption c) h.rows → Each (PassesAsOption c) (long_or_other c waiting word o h).0.rows
   long_or_other_each again waiting word None h none each = short_or_plain_each again waiting word (short_of word) h none each
   long_or_other_each again waiting word (Some p) h none each =
       after_flag_each waiting word (long_met c (arg_by_long c p.0) p.1 h).0 (long_met c (arg_by_long c p.0) p.1 h).1 (long_met_each again (arg_by_long c p.0) p.1 h (λ a is. rules _ a is) none each)
 
   -- a word that is no value of a positional, of which there is none
-  subcommand_or_other_each : (s : Shape) → s.rules ≡ c → (o : Option Text) (waiting : Waiting) (position : ℕ) (word : Text) (h : Held) → other_fault s o word h ≡ [] → Each (Passes c) h.rows → Each (Passes c) (subcommand_or_other c o waiting position word h).0.rows
+  subcommand_or_other_each : (s : Shape) → s.rules ≡ c → (o : Option Text) (waiting : Waiting) (position : ℕ) (word : Text) (h : Held) → other_fault s o word h ≡ [] → Each (PassesAsOption c) h.rows → Each (PassesAsOption c) (subcommand_or_other c o waiting position word h).0.rows
   subcommand_or_other_each s same (Some name) waiting position word h none each = each
   subcommand_or_other_each s same None waiting position word h none each =
-      by_test (bytes_eq word (45 ∷ 45 ∷ [])) (λ b. cond b [] (flag_word_fault s.rules s.args_override_self (long_of word) word h) ≡ [] → Each (Passes c) (cond b (h, trailing position) (long_or_other c waiting word (long_of word) h)).0.rows)
+      by_test (bytes_eq word (45 ∷ 45 ∷ [])) (λ b. cond b [] (flag_word_fault s.rules s.args_override_self (long_of word) word h) ≡ [] → Each (PassesAsOption c) (cond b (h, trailing position) (long_or_other c waiting word (long_of word) h)).0.rows)
       (λ on e. each)
       (λ off e. long_or_other_each s.args_override_self waiting word (long_of word) h (subst (λ (x : List Rule). flag_word_fault x s.args_override_self (long_of word) word h ≡ []) same e) each) none
 
-  word_met_each : (s : Shape) → s.rules ≡ c → (names : Names) (is_trailing : Bool) (waiting : Waiting) (position : ℕ) (word : Text) (h : Held) → word_fault s names is_trailing waiting word h ≡ [] → Each (Passes c) h.rows → Each (Passes c) (word_met c names is_trailing waiting position word h).0.rows
+  word_met_each : (s : Shape) → s.rules ≡ c → (names : Names) (is_trailing : Bool) (waiting : Waiting) (position : ℕ) (word : Text) (h : Held) → word_fault s names is_trailing waiting word h ≡ [] → Each (PassesAsOption c) h.rows → Each (PassesAsOption c) (word_met c names is_trailing waiting position word h).0.rows
   word_met_each s same names true waiting position word h none each = each
   word_met_each s same names false waiting position word h none each = subcommand_or_other_each s same (subcommand_met names waiting word) waiting position word h none each
 
-  after_step_each : ((place : ℕ) → arg_by_index c place ≡ None) → (word : Text) (w : Walk) (h : Held) (step : Step) → Each (Passes c) h.rows → Each (Passes c) (after_step c word w h step).held.rows
+  after_step_each : ((place : ℕ) → arg_by_index c place ≡ None) → (word : Text) (w : Walk) (h : Held) (step : Step) → Each (PassesAsOption c) h.rows
+      → Each (PassesAsOption c) (after_step c word w h step).held.rows
   after_step_each no_places word w h (next waiting) each = each
   after_step_each no_places word w h (trailing position) each = each
   after_step_each no_places word w h (subcommand name) each = each
-  after_step_each no_places word w h value each = subst (λ (o : Option Rule). Each (Passes c) (to_positional c o word w h).held.rows) (sym (no_places w.position)) each
+  after_step_each no_places word w h value each = subst (λ (o : Option Rule). Each (PassesAsOption c) (to_positional c o word w h).held.rows) (sym (no_places w.position)) each
 
   walked_each : (s : Shape) → s.rules ≡ c → ((place : ℕ) → arg_by_index c place ≡ None) → (names : Names) (stopped : Option (Text × List Text)) (w : Walk) (word : Text)
       → (if is_some stopped then [] else or_else (word_fault s names w.is_trailing w.waiting word w.held) (step_fault s w.position (word_met s.rules names w.is_trailing w.waiting w.position word w.held).0 (word_met s.rules names w.is_trailing w.waiting w.position word w.held).1)) ≡ []
-      → Each (Passes c) w.held.rows → Each (Passes c) (walked_from c names stopped w word).held.rows
+      → Each (PassesAsOption c) w.held.rows → Each (PassesAsOption c) (walked_from c names stopped w word).held.rows
   walked_each s same no_places names (Some p) w word none each = each
   walked_each s same no_places names None w word none each =
       let met = word_met c names w.is_trailing w.waiting w.position word w.held in
       let parts = neither (word_fault s names w.is_trailing w.waiting word w.held) (step_fault s w.position (word_met s.rules names w.is_trailing w.waiting w.position word w.held).0 (word_met s.rules names w.is_trailing w.waiting w.position word w.held).1) none in
       after_step_each no_places word w met.0 met.1 (word_met_each s same names w.is_trailing w.waiting w.position word w.held parts.0 each)
 
-  pub walk_each : (s : Shape) → s.rules ≡ c → ((place : ℕ) → arg_by_index c place ≡ None) → (names : Names) (words : List Text) (w : Walk) → walk_fault s names w words ≡ [] → Each (Passes c) w.held.rows → Each (Passes c) (fold (walked c names) w words).held.rows
+  pub walk_each : (s : Shape) → s.rules ≡ c → ((place : ℕ) → arg_by_index c place ≡ None) → (names : Names) (words : List Text) (w : Walk) → walk_fault s names w words ≡ [] → Each (PassesAsOption c) w.held.rows → Each (PassesAsOption c) (fold (walked c names) w words).held.rows
   unfolding walked walk_fault
   walk_each s same no_places names [] w none each = each
   walk_each s same no_places names (word ∷ words) w none each =
@@ -327,11 +331,11 @@ module _ (c : List Rule) (rules : (test : Rule → Bool) (a : Rule) → find tes
 
 -- ---- defaults
 module _ (c : List Rule) (a : Rule) where
-  pub default_each : IsOption c a → (v : Text) → a.defaults ≡ v ∷ [] → values_fault a (v ∷ []) ≡ [] → (rows : List Row) → Each (Passes c) rows → Each (Passes c) (with_default rows a)
+  pub default_each : IsOption c a → (v : Text) → a.defaults ≡ v ∷ [] → values_fault a (v ∷ []) ≡ [] → (rows : List Row) → Each (PassesAsOption c) rows → Each (PassesAsOption c) (with_default rows a)
   default_each known v is pass rows each =
-      by_test (has_row a.id rows) (λ b. Each (Passes c) (cond b rows (default_rows a.id (reading_by a) a.defaults rows)))
+      by_test (has_row a.id rows) (λ b. Each (PassesAsOption c) (cond b rows (default_rows a.id (reading_by a) a.defaults rows)))
       (λ on. each)
-      (λ off. subst (λ (vs : List Text). Each (Passes c) (default_rows a.id (reading_by a) vs rows)) (sym is) (with_values_each c a DefaultValue (v ∷ []) rows known pass (let e : 0 < 1 = omega arith in e) each))
+      (λ off. subst (λ (vs : List Text). Each (PassesAsOption c) (default_rows a.id (reading_by a) vs rows)) (sym is) (with_values_each c a DefaultValue (v ∷ []) rows known pass (let e : 0 < 1 = omega arith in e) each))
 
   pub default_there : (v : Text) → a.defaults ≡ v ∷ [] → (rows : List Row) → has_row a.id (with_default rows a) ≡ true
   default_there v is rows =
@@ -346,24 +350,24 @@ module _ (c : List Rule) (a : Rule) where
       (λ off. subst (λ (vs : List Text). has_row wanted (default_rows a.id (reading_by a) vs rows) ≡ true) (sym is) (row_stays wanted a.id DefaultValue (v ∷ []) _ rows has))
 
 -- ---- what is read of an option
-first_passes : (c : List Rule) (a : Rule) (r : Row) → IsOption c a → r.id ≡ a.id → Passes c r → (v : Text) × (row_text r ≡ Some v) × (accepts a.ignore_case (parser_of_value a.parser) v ≡ true)
+first_passes : (c : List Rule) (a : Rule) (r : Row) → IsOption c a → r.id ≡ a.id → PassesAsOption c r → (v : Text) × (row_text r ≡ Some v) × (accepts a.ignore_case (parser_of_value a.parser) v ≡ true)
 first_passes c a r known same passed = go r.values (subst (λ (x : Rule). values_fault x r.values ≡ []) (one_rule c passed.rule a passed.known known (sym passed.id ∙ same)) passed.values) passed.some
   where
     go : (vs : List Text) → values_fault a vs ≡ [] → 0 < length vs → (v : Text) × (option_map (read_as r.reading) (slice_get vs 0) ≡ Some v) × (accepts a.ignore_case (parser_of_value a.parser) v ≡ true)
     go [] pass some = absurd (omega (arith, some))
     go (v ∷ vs) pass some = (v, ap (λ (how : Reading). Some (read_as how v)) passed.reading, accepted a.ignore_case (parser_of_value a.parser) v ((neither (value_kinds a.ignore_case (parser_of_value a.parser) v) (values_fault a vs) pass).0))
 
-pub read_passes : (c : List Rule) (a : Rule) (rows : List Row) → IsOption c a → has_row a.id rows ≡ true → Each (Passes c) rows → (v : Text) × (one_of a.id rows ≡ Some v) × (accepts a.ignore_case (parser_of_value a.parser) v ≡ true)
+pub read_passes : (c : List Rule) (a : Rule) (rows : List Row) → IsOption c a → has_row a.id rows ≡ true → Each (PassesAsOption c) rows → (v : Text) × (one_of a.id rows ≡ Some v) × (accepts a.ignore_case (parser_of_value a.parser) v ≡ true)
 read_passes c a rows known has each =
     let row = found_passes (λ (r : Row). bytes_eq r.id a.id) rows has in
-    let first = first_passes c a row.0 known (same_bytes row.0.id a.id row.2) (found_each (Passes c) (λ (r : Row). bytes_eq r.id a.id) rows row.0 each row.1) in
+    let first = first_passes c a row.0 known (same_bytes row.0.id a.id row.2) (found_each (PassesAsOption c) (λ (r : Row). bytes_eq r.id a.id) rows row.0 each row.1) in
     (first.0, ap (λ (o : Option Row). option_and_then row_text o) row.1 ∙ first.1, first.2)
 
 -- the first value of an option, as it is written
-pub reads_first : (c : List Rule) (a : Rule) (rows : List Row) → IsOption c a → has_row a.id rows ≡ true → Each (Passes c) rows → (v : Text) × (first_of a.id rows ≡ Some v)
+pub reads_first : (c : List Rule) (a : Rule) (rows : List Row) → IsOption c a → has_row a.id rows ≡ true → Each (PassesAsOption c) rows → (v : Text) × (first_of a.id rows ≡ Some v)
 reads_first c a rows known has each =
     let row = found_passes (λ (r : Row). bytes_eq r.id a.id) rows has in
-    let passed = found_each (Passes c) (λ (r : Row). bytes_eq r.id a.id) rows row.0 each row.1 in
+    let passed = found_each (PassesAsOption c) (λ (r : Row). bytes_eq r.id a.id) rows row.0 each row.1 in
     let value = there row.0.values passed.some in
     (value.0, ap (λ (o : Option Row). option_and_then (λ (r : Row). slice_get r.values 0) o) row.1 ∙ value.1)
   where

@@ -38,7 +38,7 @@ use Rattle.casreg_command.specs.declared.words.Options.{Options}
 use Rattle.casreg_command.specs.declared.words.Request.{Request}
 use Rattle.casreg_command.specs.declared.words.Request.TheVariants as request
 use Rattle.casreg_command.proofs.Marked.{behind_holds}
-use Rattle.casreg_command.proofs.Runs.{IsMidway, IsMidwayIn, IsNextLine, appends_both, transcript_more, midway-too_many, midway-endless}
+use Rattle.casreg_command.proofs.Runs.{IsScriptMidway, IsMidwayIn, IsNextLine, appends_both, transcript_more, midway-too_many, midway-endless}
 
 -- what holds of the error holds of the result that has it
 pub if_err : {T E : Type 0} (r : Result T E) (e : E) (P : E → Type 0) → r ≡ Err e → P e → IfErr r P
@@ -61,7 +61,7 @@ handed_all None left lines reader h end = tt
 handed_all (Some bytes) left lines reader h end = (HasHandedOut-end (Some bytes) left lines reader h end).1
 
 -- ---- ends
-midway_to : {S H V : Type 0} (gives : S → Taken → S → Type 0) (meant : Meaning H V) (tries : ℕ) (first : State H V) (start source : S) (P : List (List ℕ) → Type 0) (input left old new : Option (List ℕ)) (reader : LinesState) (world : State H V) → (at : IsMidway gives meant tries first start source input reader left old new world) → P at.lines
+midway_to : {S H V : Type 0} (gives : S → Taken → S → Type 0) (meant : Meaning H V) (tries : ℕ) (first : State H V) (start source : S) (P : List (List ℕ) → Type 0) (input left old new : Option (List ℕ)) (reader : LinesState) (world : State H V) → (at : IsScriptMidway gives meant tries first start source input reader left old new world) → P at.lines
     → AnswersTo meant tries P input old new first world
 midway_to gives meant tries first start source P input left old new reader world at holds = record {
   lines = at.lines;
@@ -72,13 +72,13 @@ midway_to gives meant tries first start source P input left old new reader world
   written = at.written;
 }
 
-pub wrote_all : {S H V : Type 0} (gives : S → Taken → S → Type 0) (meant : Meaning H V) (tries : ℕ) (first : State H V) (start source : S) (input left old new : Option (List ℕ)) (reader : LinesState) (world : State H V) → IsMidway gives meant tries first start source input reader left old new world → IsAtEnd (ahead reader left)
+pub wrote_all : {S H V : Type 0} (gives : S → Taken → S → Type 0) (meant : Meaning H V) (tries : ℕ) (first : State H V) (start source : S) (input left old new : Option (List ℕ)) (reader : LinesState) (world : State H V) → IsScriptMidway gives meant tries first start source input reader left old new world → IsAtEnd (ahead reader left)
     → AnswersTo meant tries (λ lines. IfSome input (λ bytes. lines ≡ lines_of bytes)) input old new first world
 wrote_all gives meant tries first start source input left old new reader world at end =
     midway_to gives meant tries first start source (λ lines. IfSome input (λ bytes. lines ≡ lines_of bytes)) input left old new reader world at (handed_all input left at.lines reader at.handed_out end)
 
 -- the next line could not be read
-pub wrote_fault : {S H V : Type 0} (gives : S → Taken → S → Type 0) (meant : Meaning H V) (tries : ℕ) (first : State H V) (start source new_source : S) (input left old new : Option (List ℕ)) (reader new_reader : LinesState) (world : State H V) (f : LineFault) → IsMidway gives meant tries first start source input reader left old new world
+pub wrote_fault : {S H V : Type 0} (gives : S → Taken → S → Type 0) (meant : Meaning H V) (tries : ℕ) (first : State H V) (start source new_source : S) (input left old new : Option (List ℕ)) (reader new_reader : LinesState) (world : State H V) (f : LineFault) → IsScriptMidway gives meant tries first start source input reader left old new world
     → (f ≡ fault.TooManyLines → (reader.handed ≡ MOST_LINES) × HasMore reader left)
     → ((line : ℕ) → f ≡ fault.Endless line → (line ≡ reader.handed + 1) × (reader.handed < MOST_LINES) × IsLongLine reader left)
     → TellsAtOnce gives reader source (Err f) new_reader new_source
@@ -168,7 +168,7 @@ ends_fault gives meant tries first start source new_source input left old new re
 
 -- ---- causes
 -- the end of an input that a fault of its reader tells
-pub fault_ends : {S H V : Type 0} (gives : S → Taken → S → Type 0) (meant : Meaning H V) (tries : ℕ) (first : State H V) (start source : S) (input left old new : Option (List ℕ)) (reader : LinesState) (world : State H V) (f : LineFault) → IsMidway gives meant tries first start source input reader left old new world
+pub fault_ends : {S H V : Type 0} (gives : S → Taken → S → Type 0) (meant : Meaning H V) (tries : ℕ) (first : State H V) (start source : S) (input left old new : Option (List ℕ)) (reader : LinesState) (world : State H V) (f : LineFault) → IsScriptMidway gives meant tries first start source input reader left old new world
     → (f ≡ fault.TooManyLines → (reader.handed ≡ MOST_LINES) × HasMore reader left)
     → ((line : ℕ) → f ≡ fault.Endless line → (line ≡ reader.handed + 1) × (reader.handed < MOST_LINES) × IsLongLine reader left)
     → (ending : Ending) → status_of_fault f ≡ status_of ending → IfSome input (λ bytes. ending_of bytes ≡ ending)

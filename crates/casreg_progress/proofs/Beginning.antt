@@ -110,14 +110,14 @@ pub age_by : {S V : Type 0} (old new : View S V) (id age : ℕ) (now : DeskView 
 age_by {S} {V} old new id age now is aged desk at = ap (λ (d : DeskView V). (kept_of d.vault).age) (own_set old.desks id now desk (subst (λ (l : List (DeskView V)). IsAt l id desk) is at)) ∙ aged
 
 -- ---- a call that is opened
-record IsNew {S V : Type 0} (m : Meaning S V) (old middle : View S V) (id : ℕ) (key : List ℕ) (program : List Clause) (call : CallView) : Type 0 where
+record IsCallOpened {S V : Type 0} (m : Meaning S V) (old middle : View S V) (id : ℕ) (key : List ℕ) (program : List Clause) (call : CallView) : Type 0 where
   pub era : era_at middle id ≡ era_at old id
   pub desks : middle.desks ≡ old.desks
   pub all_ready : AreReady m middle id key
   pub call_is : call ≡ new_call key program (round_marks (era_at middle id) - 1)
 
 is_new : {S V : Type 0} (m : Meaning S V) (old middle : View S V) (id : ℕ) (key : List ℕ) (program : List Clause) → AreReady m old id key → ((caller : CallerView) → IsAt old.callers id caller → caller.call ≡ None) → calls.Opens old id key program middle
-    → (caller : CallerView) (call : CallView) → IsAt middle.callers id caller → caller.call ≡ Some call → IsNew m old middle id key program call
+    → (caller : CallerView) (call : CallView) → IsAt middle.callers id caller → caller.call ≡ Some call → IsCallOpened m old middle id key program call
 is_new {S} {V} m old middle id key program ready none_open (calls.first was at was_none room is) caller call there is_call = record {
   era = ap (λ (w : View S V). era_at w id) is;
   desks = ap (λ (w : View S V). w.desks) is;
@@ -145,7 +145,7 @@ pub begins : {S V : Type 0} (m : Meaning S V) (old new : View S V) (id : ℕ) (k
     → StepBegin m old id key program new → Begun m (era_at old id) (next_ballot ready.desk key) id new
 begins {S} {V} m old new id key program safe ready none_open by = subst (λ (e : Era). Begun m e (next_ballot ready.desk key) id new) fresh.era (in_round by.begins)
   where
-    fresh : IsNew m old by.middle id key program by.call
+    fresh : IsCallOpened m old by.middle id key program by.call
     fresh = is_new m old by.middle id key program ready none_open by.opens by.caller by.call by.at_caller by.is_open
 
     era : Era

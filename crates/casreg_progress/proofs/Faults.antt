@@ -21,7 +21,7 @@ use Rattle.cas_model.specs.Frames.Step as frames
 use Rattle.cas_model.specs.View.{Meaning, ShelfMeaning, DiskMeaning, View, IsAt}
 use Rattle.cas_model.proofs.Places.{at_one, but_set}
 use Rattle.casreg_progress.proofs.ByRules as script
-use Rattle.casreg_progress.proofs.ByRules.{change_by, Turned, FailsToTurn, EndsPrepare, IsAccepted, IsRound, AreRounds, IsChange}
+use Rattle.casreg_progress.proofs.ByRules.{change_by, TurnedByRules, FailsToTurnByRules, EndsPrepare, IsAccepted, IsRound, AreRounds, IsChangeByRules}
 use Rattle.casreg_script.specs.Frames.Conditions.{Rule, verdict_on}
 use Rattle.casreg_script.specs.Script.{nowhere}
 use Rattle.casreg_script.specs.declared.halt.Halt.{Halt}
@@ -55,14 +55,14 @@ fares_both {S} m a b c before after = record {
 
 -- ---- one desk
 -- where it was down with no round it is as it was; where it was up it is still, or its vault's disk counted a fault
-record Keeps {V : Type 0} (m : DiskMeaning V) (was now : DeskView V) : Type 0 where
+record KeepsDesk {V : Type 0} (m : DiskMeaning V) (was now : DeskView V) : Type 0 where
   pub out : was.down ≡ true → was.round ≡ None → now ≡ was
   pub up : was.down ≡ false → ((now.down ≡ false) × (m.faults (disk_of was.vault) ≤ m.faults (disk_of now.vault))) ⊎ ((now.down ≡ true) × (now.round ≡ None) × Rose (m.faults (disk_of was.vault)) (m.faults (disk_of now.vault)))
 
-keeps_same : {V : Type 0} (m : DiskMeaning V) (was : DeskView V) → Keeps m was was
+keeps_same : {V : Type 0} (m : DiskMeaning V) (was : DeskView V) → KeepsDesk m was was
 keeps_same m was = record { out = λ down none. refl; up = λ up. inl (up, omega arith) }
 
-keeps_both : {V : Type 0} (m : DiskMeaning V) (a b c : DeskView V) → Keeps m a b → Keeps m b c → Keeps m a c
+keeps_both : {V : Type 0} (m : DiskMeaning V) (a b c : DeskView V) → KeepsDesk m a b → KeepsDesk m b c → KeepsDesk m a c
 keeps_both {V} m a b c before after = record {
   out = λ down none.
       let same : b ≡ a = before.out down none in
@@ -77,31 +77,31 @@ keeps_both {V} m a b c before after = record {
 }
 
 -- it is up, and goes on
-keeps_up : {V : Type 0} (m : DiskMeaning V) (was now : DeskView V) → was.down ≡ false → now.down ≡ was.down → m.faults (disk_of was.vault) ≤ m.faults (disk_of now.vault) → Keeps m was now
+keeps_up : {V : Type 0} (m : DiskMeaning V) (was now : DeskView V) → was.down ≡ false → now.down ≡ was.down → m.faults (disk_of was.vault) ≤ m.faults (disk_of now.vault) → KeepsDesk m was now
 keeps_up m was now up same low = record { out = λ down none. absurd (not_both was.down down up); up = λ still. inl (same ∙ up, low) }
 
 -- its round goes on or ends
-keeps_round : {V : Type 0} (m : DiskMeaning V) (was now : DeskView V) (round : Round) → was.round ≡ Some round → now.down ≡ was.down → m.faults (disk_of was.vault) ≤ m.faults (disk_of now.vault) → Keeps m was now
+keeps_round : {V : Type 0} (m : DiskMeaning V) (was now : DeskView V) (round : Round) → was.round ≡ Some round → now.down ≡ was.down → m.faults (disk_of was.vault) ≤ m.faults (disk_of now.vault) → KeepsDesk m was now
 keeps_round m was now round is_open same low = record { out = λ down none. absurd (cc (none, is_open)); up = λ up. inl (same ∙ up, low) }
 
 drawn_low : {V : Type 0} (m : DiskMeaning V) (id : ℕ) (old new : Vault V) (ballot : Option Ballot) → MayHaveDrawn m id old new ballot → m.faults (disk_of old) ≤ m.faults (disk_of new)
 drawn_low m id old new None kept = kept.goes_on.never_falls
 drawn_low m id old new (Some ballot) drawn = drawn.goes_on.never_falls
 
-keeps_failed : {V : Type 0} (m : DiskMeaning V) {promises : _} (was now : DeskView V) → was.down ≡ false → FailsToDraw m promises was now → Keeps m was now
+keeps_failed : {V : Type 0} (m : DiskMeaning V) {promises : _} (was now : DeskView V) → was.down ≡ false → FailsToDraw m promises was now → KeepsDesk m was now
 keeps_failed {V} m was now up fails = record {
   out = λ down none. absurd (not_both was.down down up);
   up = λ still. inr (ap (λ (d : DeskView V). d.down) fails.desk, ap (λ (d : DeskView V). d.round) fails.desk, fails.faulted);
 }
 
-keeps_lost : {V : Type 0} (m : DiskMeaning V) (was now : DeskView V) (key : List ℕ) (ballot : Option Ballot) → was.down ≡ false → LosesMemory m key was now ballot → Keeps m was now
+keeps_lost : {V : Type 0} (m : DiskMeaning V) (was now : DeskView V) (key : List ℕ) (ballot : Option Ballot) → was.down ≡ false → LosesMemory m key was now ballot → KeepsDesk m was now
 keeps_lost {V} m was now key ballot up loses =
     keeps_up m was now up (ap (λ (d : DeskView V). d.down) loses.desk) (omega (arith, drawn_low m was.id was.vault loses.middle ballot loses.drawn, loses.goes_on.never_falls))
 
 -- ---- all of them
 record Kept {S V : Type 0} (m : Meaning S V) (old new : View S V) (id : ℕ) : Type 0 where
   pub shelves : (a : ℕ) (now : AcceptorView S) → IsAt new.acceptors a now → (was : AcceptorView S) × IsAt old.acceptors a was × Fares m.shelves was now
-  pub vault : (now : DeskView V) → IsAt new.desks id now → (was : DeskView V) × IsAt old.desks id was × Keeps m.disks was now
+  pub vault : (now : DeskView V) → IsAt new.desks id now → (was : DeskView V) × IsAt old.desks id was × KeepsDesk m.disks was now
 
 kept_both : {S V : Type 0} (m : Meaning S V) (old mid new : View S V) (id : ℕ) → Kept m old mid id → Kept m mid new id → Kept m old new id
 kept_both m old mid new id before after = record {
@@ -118,7 +118,7 @@ kept_both m old mid new id before after = record {
 same_shelves : {S V : Type 0} (m : Meaning S V) (old new : View S V) → new.acceptors ≡ old.acceptors → (a : ℕ) (now : AcceptorView S) → IsAt new.acceptors a now → (was : AcceptorView S) × IsAt old.acceptors a was × Fares m.shelves was now
 same_shelves {S} {V} m old new same a now at = (now, subst (λ (l : List (AcceptorView S)). IsAt l a now) same at, fares_same m.shelves now)
 
-same_vault : {S V : Type 0} (m : Meaning S V) (old new : View S V) (id : ℕ) → new.desks ≡ old.desks → (now : DeskView V) → IsAt new.desks id now → (was : DeskView V) × IsAt old.desks id was × Keeps m.disks was now
+same_vault : {S V : Type 0} (m : Meaning S V) (old new : View S V) (id : ℕ) → new.desks ≡ old.desks → (now : DeskView V) → IsAt new.desks id now → (was : DeskView V) × IsAt old.desks id was × KeepsDesk m.disks was now
 same_vault {S} {V} m old new id same now at = (now, subst (λ (l : List (DeskView V)). IsAt l id now) same at, keeps_same m.disks now)
 
 kept_same : {S V : Type 0} (m : Meaning S V) (old new : View S V) (id : ℕ) → new.acceptors ≡ old.acceptors → new.desks ≡ old.desks → Kept m old new id
@@ -133,11 +133,11 @@ kept_shelf {S} {V} m old new id place acceptor next there fares acceptors desks 
   vault = same_vault m old new id desks;
 }
 
-kept_desk : {S V : Type 0} (m : Meaning S V) (old new : View S V) (id : ℕ) (desk next : DeskView V) → IsAt old.desks id desk → Keeps m.disks desk next → new.acceptors ≡ old.acceptors → new.desks ≡ slice_set old.desks id next → Kept m old new id
+kept_desk : {S V : Type 0} (m : Meaning S V) (old new : View S V) (id : ℕ) (desk next : DeskView V) → IsAt old.desks id desk → KeepsDesk m.disks desk next → new.acceptors ≡ old.acceptors → new.desks ≡ slice_set old.desks id next → Kept m old new id
 kept_desk {S} {V} m old new id desk next there keeps acceptors desks = record {
   shelves = same_shelves m old new acceptors;
   vault = λ now at. elim (but_set old.desks id next id now (subst (λ (l : List (DeskView V)). IsAt l id now) desks at)) [
-    | inl own ↦ (desk, there, subst (Keeps m.disks desk) (sym own.1) keeps)
+    | inl own ↦ (desk, there, subst (KeepsDesk m.disks desk) (sym own.1) keeps)
     | inr other ↦ absurd (other.0 refl)
   ];
 }
@@ -217,33 +217,34 @@ count_kept {S} {V} m old new id by = in_phase by.at_round.of_call by.at_round.de
 end_kept : {S V : Type 0} (m : Meaning S V) (old new : View S V) (id : ℕ) (told : Answer) → StepEnd m old id told new → Kept m old new id
 end_kept {S} {V} m old new id told by = kept_desk m old new id by.ends.desk by.ends.now by.ends.at_desk closed (ap (λ (w : View S V). w.acceptors) by.ends.view) (ap (λ (w : View S V). w.desks) by.ends.view)
   where
-    closed : Keeps m.disks by.ends.desk by.ends.now
+    closed : KeepsDesk m.disks by.ends.desk by.ends.now
     closed = elim by.ends.closed [
-      | inl was ↦ subst (Keeps m.disks by.ends.desk) (sym was.1) (keeps_same m.disks by.ends.desk)
+      | inl was ↦ subst (KeepsDesk m.disks by.ends.desk) (sym was.1) (keeps_same m.disks by.ends.desk)
       | inr was ↦ keeps_round m.disks by.ends.desk by.ends.now was.0 was.1 (ap (λ (d : DeskView V). d.down) was.2.desk) was.2.goes_on.never_falls
     ]
 
 -- ---- the parts of a line whose proposer is to halt nowhere
-turned_kept : {S V : Type 0} (m : Meaning S V) (rules : List Rule) (id : ℕ) (old new : View S V) → Turned m rules id old new → Kept m old new id
+turned_kept : {S V : Type 0} (m : Meaning S V) (rules : List Rule) (id : ℕ) (old new : View S V) → TurnedByRules m rules id old new → Kept m old new id
 turned_kept m rules id old new script.none = kept_same m old old id refl refl
 turned_kept m rules id old new (script.one_more {mid = mid} frame turned at by) = kept_both m old mid new id (turned_kept m rules id old mid turned) (turn_kept m mid new id (verdict_on rules frame) by)
 
-fails_kept : {S V : Type 0} (m : Meaning S V) (rules : List Rule) (id : ℕ) (old new : View S V) → FailsToTurn m rules id old new → Kept m old new id
+fails_kept : {S V : Type 0} (m : Meaning S V) (rules : List Rule) (id : ℕ) (old new : View S V) → FailsToTurnByRules m rules id old new → Kept m old new id
 fails_kept m rules id old new by = kept_both m old by.mid new id (turned_kept m rules id old by.mid by.turned) (refuse_kept m by.mid new id by.fails)
 
 ends_kept : {S V : Type 0} (m : Meaning S V) (rules : List Rule) (id : ℕ) (halt : Halt) (old new : View S V) → EndsPrepare m rules id halt old new → Kept m old new id
 ends_kept m rules id halt old new by = kept_both m old by.turned new id (turned_kept m rules id old by.turned by.turns.turned) (propose_kept m by.turned new id by.proposes)
 
 -- what a part of it keeps, and that no halt is due after it
-abbrev KeptOn : {S V : Type 0} → Meaning S V → View S V → View S V → ℕ → Halt → Type 0
-KeptOn m old new id after = Kept m old new id × (after ≡ nowhere)
+abbrev DeskKeptOn : {S V : Type 0} → Meaning S V → View S V → View S V → ℕ → Halt → Type 0
+DeskKeptOn m old new id after = Kept m old new id × (after ≡ nowhere)
 
-accepted_kept : {S V : Type 0} (m : Meaning S V) (rules : List Rule) (id : ℕ) (halt after : Halt) (old new : View S V) → halt ≡ nowhere → IsAccepted m rules id halt old after new → KeptOn m old new id after
+accepted_kept : {S V : Type 0} (m : Meaning S V) (rules : List Rule) (id : ℕ) (halt after : Halt) (old new : View S V) → halt ≡ nowhere → IsAccepted m rules id halt old after new → DeskKeptOn m old new id after
 accepted_kept m rules id halt after old new on (script.cut_short (script.halts accepting due crashes)) = absurd (not_both halt.after_propose due (ap (λ (h : Halt). h.after_propose) on))
 accepted_kept m rules id halt after old new on (script.cut_short (script.no_memory due fails)) = (fails_kept m rules id old new fails, on)
 accepted_kept m rules id halt after old new on (script.counts {turned = turned} due turns by) = (kept_both m old turned new id (turned_kept m rules id old turned turns.turned) (count_kept m turned new id by), on)
 
-round_kept : {S V : Type 0} (m : Meaning S V) (rules : List Rule) (id : ℕ) (halt after : Halt) (old new : View S V) → halt ≡ nowhere → IsRound m rules id halt old after new → KeptOn m old new id after
+round_kept : {S V : Type 0} (m : Meaning S V) (rules : List Rule) (id : ℕ) (halt after : Halt) (old new : View S V) → halt ≡ nowhere
+    → IsRound m rules id halt old after new → DeskKeptOn m old new id after
 round_kept m rules id halt after old new on script.none_begun = (kept_same m old old id refl refl, on)
 round_kept m rules id halt after old new on (script.by_promise accepted) = accepted_kept m rules id halt after old new on accepted
 round_kept m rules id halt after old new on (script.cut_off (script.no_memory fails)) = (fails_kept m rules id old new fails, on)
@@ -259,7 +260,7 @@ rounds_kept m rules id key program tries halt after old new on (script.another {
     let first_ = round_kept m rules id halt mid old met on round in
     kept_both m old met new id first_.0 (kept_both m met begun new id (begin_kept m met begun id key program begins) (rounds_kept m rules id key program (tries - 1) mid after begun new first_.1 rest))
 
-change_kept : {S V : Type 0} (m : Meaning S V) (tries : ℕ) (rules : List Rule) (id : ℕ) (key : List ℕ) (program : List Clause) (halt after : Halt) (old new : View S V) (told : Answer) → halt ≡ nowhere → IsChange m tries rules id key program halt old told after new → Kept m old new id
+change_kept : {S V : Type 0} (m : Meaning S V) (tries : ℕ) (rules : List Rule) (id : ℕ) (key : List ℕ) (program : List Clause) (halt after : Halt) (old new : View S V) (told : Answer) → halt ≡ nowhere → IsChangeByRules m tries rules id key program halt old told after new → Kept m old new id
 change_kept m tries rules id key program halt after old new told on (script.refused refused by) = no_begin_kept m old new id key by
 change_kept m tries rules id key program halt after old new told on (script.ended {begun = begun} {told = last} begins rounds ends) =
     kept_both m old begun new id (begin_kept m old begun id key program begins) (kept_both m begun last new id (rounds_kept m rules id key program tries halt after begun last on rounds) (end_kept m last new id told ends))

@@ -44,7 +44,7 @@ use Rattle.cas_model_causes.specs.Calls.Rounds.{RoundSteps, none, one_more}
 use Rattle.cas_model_causes.specs.Calls.Undisturbed.{LetsPass, IsHandledWell, GoesWell, IsUndisturbedBy, AreUndisturbed}
 use Rattle.cas_model_causes.proofs.Calls.Hearing.{at_other, steps}
 use Rattle.casreg_progress.proofs.ByRules as script
-use Rattle.casreg_progress.proofs.ByRules.{Turned}
+use Rattle.casreg_progress.proofs.ByRules.{TurnedByRules}
 use Rattle.casreg_script.specs.Frames.Conditions.{Rule, verdict_on}
 use Rattle.casreg_progress.specs.Lines.{IsMemberOf}
 use Rattle.casreg_progress.proofs.Standing.{StillUp, up_before, turn_keeps}
@@ -129,14 +129,14 @@ pub record IsOpenTo {S V : Type 0} (m : Meaning S V) (view : View S V) (id age :
   pub passes : LetsPass (m.shelves.contents acceptor.shelf) question
 
 -- a request is this, to a member of the era
-pub record IsAsked (era : Era) (id age : ℕ) (question : Ask) (request : Request) : Type 0 where
+pub record IsAskedOfMember (era : Era) (id age : ℕ) (question : Ask) (request : Request) : Type 0 where
   pub to : IsMemberOf era request.to
   pub from : request.from ≡ id
   pub of_age : request.age ≡ age
   pub ask : request.ask ≡ question
 
 abbrev pub AllAsked : Era → ℕ → ℕ → Ask → List Message → Type 0
-AllAsked era id age question messages = (request : Request) → Contains messages (message.Request request) → IsAsked era id age question request
+AllAsked era id age question messages = (request : Request) → Contains messages (message.Request request) → IsAskedOfMember era id age question request
 
 -- Each request that waits asks this of a member, each member lets it pass, and the desk has that age.
 pub record IsUnderway {S V : Type 0} (m : Meaning S V) (era : Era) (id age : ℕ) (question : Ask) (view : View S V) : Type 0 where
@@ -232,10 +232,10 @@ turn_opens {S} {V} m era old new id age question v of_round was up by member is_
     same : new.acceptors ≡ old.acceptors → IsOpenTo m new id age question member
     same is = open_same m old new id age question member before.acceptor before (subst (λ (l : List (AcceptorView S)). IsAt l member before.acceptor) (sym is) before.at_acceptor)
 
-    asked_front : (front : Message) (request : Request) → IsAt (queue_at old.flow id).messages 0 front → front ≡ message.Request request → IsAsked era id age question request
+    asked_front : (front : Message) (request : Request) → IsAt (queue_at old.flow id).messages 0 front → front ≡ message.Request request → IsAskedOfMember era id age question request
     asked_front front request waits is = was.asked request (subst (Contains (queue_at old.flow id).messages) is (contains_at (queue_at old.flow id).messages 0 front waits))
 
-    answered : (request : Request) (acceptor now : AcceptorView S) (reply : Reply) → IsAsked era id age question request → IsAt old.acceptors request.to acceptor → AnswersByTable m.shelves acceptor now request reply → new.acceptors ≡ slice_set old.acceptors request.to now → IsOpenTo m new id age question member
+    answered : (request : Request) (acceptor now : AcceptorView S) (reply : Reply) → IsAskedOfMember era id age question request → IsAt old.acceptors request.to acceptor → AnswersByTable m.shelves acceptor now request reply → new.acceptors ≡ slice_set old.acceptors request.to now → IsOpenTo m new id age question member
     answered request acceptor now reply asked there table is = elim (same_or_not member request.to) [
       | inl own ↦ subst (IsOpenTo m new id age question) (sym own) (open_answered m old new id age question request acceptor now reply of_round asked.ask (was.members request.to asked.to) there table
           (subst (λ (l : List (AcceptorView S)). IsAt l request.to now) (sym is) (at_set old.acceptors request.to acceptor now there)))
@@ -304,7 +304,7 @@ never_gone false is = cc is
 undisturbed_turn : {S V : Type 0} (m : Meaning S V) (era : Era) (old new : View S V) (id age : ℕ) (question : Ask) (set : List ℕ) → IsUnderway m era id age question old → IsUnderway m era id age question new → IsUndisturbedBy (without_faults m) id set old (step.Turn id Deliver) new
 undisturbed_turn {S} {V} m era old new id age question set was now own front waits member = (never_gone (queue_at old.flow id).again, λ handled. goes_well front waits)
   where
-    handled_well : (request : Request) → IsAsked era id age question request → IsHandledWell (without_faults m) old new request
+    handled_well : (request : Request) → IsAskedOfMember era id age question request → IsHandledWell (without_faults m) old new request
     handled_well request asked =
         let before = was.members request.to asked.to in
         let after = now.members request.to asked.to in
@@ -324,14 +324,14 @@ undisturbed_turn {S} {V} m era old new id age question set was now own front wai
     goes_well (message.Reply reply) waits = tt
 
 -- all turns of a phase that is underway are undisturbed, and it is underway still
-pub record Goes {S V : Type 0} (m : Meaning S V) (era : Era) (id age : ℕ) (question : Ask) (set : List ℕ) (first_ mid : View S V) : Type 0 where
+pub record GoesUndisturbed {S V : Type 0} (m : Meaning S V) (era : Era) (id age : ℕ) (question : Ask) (set : List ℕ) (first_ mid : View S V) : Type 0 where
   pub replies : List Reply
   pub steps : RoundSteps (without_faults m) id first_ replies mid
   pub undisturbed : AreUndisturbed (without_faults m) id set first_ mid replies steps
   pub underway : IsUnderway m era id age question mid
 
 pub goes : {S V : Type 0} (m : Meaning S V) (era : Era) (rules : List Rule) (id age : ℕ) (question : Ask) (set : List ℕ) (first_ mid : View S V) → ((frame : Message) → verdict_on rules frame ≡ Deliver) → IsOfRound question → IsUnderway m era id age question first_
-    → Turned m rules id first_ mid → StillUp era mid → Goes m era id age question set first_ mid
+    → TurnedByRules m rules id first_ mid → StillUp era mid → GoesUndisturbed m era id age question set first_ mid
 goes m era rules id age question set first_ mid delivers of_round was script.none up = record { replies = []; steps = none; undisturbed = tt; underway = was }
 goes m era rules id age question set first_ mid delivers of_round was (script.one_more {mid = middle} frame turned at by) up =
     let before = goes m era rules id age question set first_ middle delivers of_round was turned (up_before era middle mid (turn_keeps m middle mid id (verdict_on rules frame) by) up) in

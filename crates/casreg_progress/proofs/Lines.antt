@@ -17,7 +17,7 @@ use Rattle.cas_model_causes.proofs.Calls.Ends.{desk_by}
 use Rattle.casreg_progress.proofs.ByRules as script
 use Rattle.casreg_script.specs.Calls.Changes as refusals
 use Rattle.casreg_script.specs.Calls.Changes.{IsMet, IsRefused}
-use Rattle.casreg_progress.proofs.ByRules.{change_by, IsRound, AreRounds, IsChange}
+use Rattle.casreg_progress.proofs.ByRules.{change_by, IsRound, AreRounds, IsChangeByRules}
 use Rattle.casreg_script.specs.Frames.Conditions.{Rule}
 use Rattle.casreg_script.specs.Script.{nowhere}
 use Rattle.casreg_script.specs.declared.halt.Halt.{Halt}
@@ -95,7 +95,8 @@ refused_well ballot world id told room (refusals.no_memory fits) = tt
 
 pub lines_are_done : {S V : Type 0} (m : Meaning S V) → ReadyLinesAreDone m
 lines_are_done {S} {V} m tries old new asked told safe ready runs up =
-    in_change (subst (λ (h : Halt). IsChange m tries old.rules asked.caller asked.key asked.program h old.world told runs.after new.world) (at_one old.halts asked.caller runs.at_halt ready.goes_on)
+    in_change (subst (λ (h : Halt). IsChangeByRules m tries old.rules asked.caller asked.key asked.program h old.world told runs.after new.world)
+        (at_one old.halts asked.caller runs.at_halt ready.goes_on)
     (change_by m tries old.rules _ asked.caller asked.key asked.program runs.halt runs.after old.world new.world told runs.change))
   where
     ballot : Ballot
@@ -104,7 +105,8 @@ lines_are_done {S} {V} m tries old new asked told safe ready runs up =
     grounds : Grounds (era_at old.world asked.caller) old.rules
     grounds = has_grounds (era_at old.world asked.caller) old.rules (safe.course.sized asked.caller (omega (arith, low_at old.world.desks asked.caller ready.all_ready.at_desk, safe.sound.desks))) (safe.sound.prep_sets asked.caller) (safe.sound.acc_sets asked.caller) ready.delivers
 
-    in_change : {answer_is : Answer} {after : Halt} → IsChange m tries old.rules asked.caller asked.key asked.program nowhere old.world answer_is after new.world → IsDoneOrNoMemory ballot answer_is
+    in_change : {answer_is : Answer} {after : Halt} → IsChangeByRules m tries old.rules asked.caller asked.key asked.program nowhere old.world answer_is after new.world
+        → IsDoneOrNoMemory ballot answer_is
     in_change (script.refused refused by) = refused_well ballot old.world asked.caller _ ready.room refused
     in_change {answer_is} {after} (script.ended {begun = begun} {told = last} begin rounds end) =
         answered m ballot last new.world asked.caller answer_is end

@@ -40,12 +40,12 @@ use Rattle.cas_model_causes.specs.Calls.Undisturbed.{LetsPass, AcceptsAfresh, Pr
 use Rattle.cas_model_causes.proofs.Calls.Ends.{told_by, desk_by}
 use Rattle.cas_model_causes.proofs.Calls.Undisturbed.{prepares_propose, accepts_are_done}
 use Rattle.casreg_progress.proofs.ByRules as script
-use Rattle.casreg_progress.proofs.ByRules.{Turned, FailsToTurn, EndsPrepare, IsAccepted}
+use Rattle.casreg_progress.proofs.ByRules.{TurnedByRules, FailsToTurnByRules, EndsPrepare, IsAccepted}
 use Rattle.casreg_script.specs.Frames.Conditions.{Rule, verdict_on}
 use Rattle.casreg_script.specs.Script.{nowhere}
 use Rattle.casreg_script.specs.declared.halt.Halt.{Halt}
 use Rattle.casreg_progress.proofs.Beginning.{EndsWell, done, no_memory, goes_down, Begun, prepares, accepts, over, may_age, all_asked, shows_by, age_by}
-use Rattle.casreg_progress.proofs.Fitting.{IsOpenTo, IsUnderway, Goes, goes, without_faults, faultless_propose, faultless_count}
+use Rattle.casreg_progress.proofs.Fitting.{IsOpenTo, IsUnderway, GoesUndisturbed, goes, without_faults, faultless_propose, faultless_count}
 use Rattle.casreg_progress.proofs.Standing.{StillUp, up_before, propose_same, propose_keeps, count_keeps, opens_in, turned_shows, proposes_in, counts_in}
 
 -- ---- quorums
@@ -81,7 +81,7 @@ refuses_other (verdict.Full acceptor) told e = (λ is. cc (e, is), λ is. cc (e,
 refuses_other (verdict.Short got need) told e = (λ is. cc (e, is), λ is. cc (e, is))
 
 -- where a turn finds no memory, the caller is told so
-pub fails_told : {S V : Type 0} (m : Meaning S V) (rules : List Rule) (ballot : Ballot) (id : ℕ) (old new : View S V) → FailsToTurn m rules id old new → EndsWell ballot new id
+pub fails_told : {S V : Type 0} (m : Meaning S V) (rules : List Rule) (ballot : Ballot) (id : ℕ) (old new : View S V) → FailsToTurnByRules m rules id old new → EndsWell ballot new id
 fails_told {S} {V} m rules ballot id old new by =
     no_memory (is_some by.fails.of_call.call.proposed)
     (told_by by.fails.middle new id by.fails.of_call.caller (calls.telling by.fails.of_call.call (answer.NoMemory (is_some by.fails.of_call.call.proposed)))
@@ -92,7 +92,7 @@ fails_told {S} {V} m rules ballot id old new by =
     same (frames.kept at acceptor now there found is) = ap (λ (w : View S V). w.callers) is
 
 -- ---- turns
-turned_safe : {S V : Type 0} (m : Meaning S V) (rules : List Rule) (id : ℕ) (old new : View S V) → Turned m rules id old new → IsSafe old → IsSafe new
+turned_safe : {S V : Type 0} (m : Meaning S V) (rules : List Rule) (id : ℕ) (old new : View S V) → TurnedByRules m rules id old new → IsSafe old → IsSafe new
 turned_safe m rules id old new script.none safe = safe
 turned_safe m rules id old new (script.one_more {mid = mid} frame turned at by) safe = steps_are_safe m mid (step.Turn id (verdict_on rules frame)) new (turned_safe m rules id old mid turned safe) by
 
@@ -166,14 +166,14 @@ prepare_ended {S} {V} m era ballot rules id halt view new grounds (prepares roun
     mid : View S V
     mid = ends.turned
 
-    turns : Goes m era id age (ask.Prepare round.key round.ballot) era.prep view mid
+    turns : GoesUndisturbed m era id age (ask.Prepare round.key round.ballot) era.prep view mid
     turns = goes m era rules id age (ask.Prepare round.key round.ballot) era.prep view mid grounds.delivers tt underway ends.turns.turned (up_before era mid new (propose_keeps m mid new id ends.proposes) up)
 prepare_ended m era ballot rules id halt view new grounds (accepts prepared round outcome age afresh era_is ballot_is underway shows told safe) ends up =
     absurd (cc (proposes_in m ends.turned new id (Some false) (turned_shows m rules id (Some false) view ends.turned ends.turns.turned shows) ends.proposes))
 prepare_ended m era ballot rules id halt view new grounds (over shows well) ends up = absurd (cc (proposes_in m ends.turned new id None (turned_shows m rules id None view ends.turned ends.turns.turned shows) ends.proposes))
 
 -- ---- the accept phase
-counted : {S V : Type 0} (m : Meaning S V) (era : Era) (ballot : Ballot) (rules : List Rule) (id : ℕ) (view mid new : View S V) → Grounds era rules → Begun m era ballot id view → Turned m rules id view mid → step.StepCount m mid id new → StillUp era new → EndsWell ballot new id
+counted : {S V : Type 0} (m : Meaning S V) (era : Era) (ballot : Ballot) (rules : List Rule) (id : ℕ) (view mid new : View S V) → Grounds era rules → Begun m era ballot id view → TurnedByRules m rules id view mid → step.StepCount m mid id new → StillUp era new → EndsWell ballot new id
 counted {S} {V} m era ballot rules id view mid new grounds (accepts prepared round outcome age afresh era_is ballot_is underway shows told safe) turned by up =
     done outcome.state outcome.took
     (subst (λ (b : Ballot). CallIsTold new id (Some (answer.Done outcome.state outcome.took b))) ballot_is (accepts_are_done (without_faults m) view mid new id era.acc prepared turns.replies round outcome turns.steps safe afresh (subst (λ (e : Era). holds_acc e era.acc ≡ true) (sym era_is) grounds.acc) turns.undisturbed (faultless_count m mid new id by)))
@@ -181,7 +181,7 @@ counted {S} {V} m era ballot rules id view mid new grounds (accepts prepared rou
     question : Ask
     question = ask.Accept round.key round.ballot round.era.number round.ride outcome.state
 
-    turns : Goes m era id age question era.acc view mid
+    turns : GoesUndisturbed m era id age question era.acc view mid
     turns = goes m era rules id age question era.acc view mid grounds.delivers tt underway turned (up_before era mid new (count_keeps m mid new id by) up)
 counted m era ballot rules id view mid new grounds (prepares round age afresh era_is ballot_is underway shows told safe) turned by up = absurd (cc (counts_in m mid new id (Some true) (turned_shows m rules id (Some true) view mid turned shows) by))
 counted m era ballot rules id view mid new grounds (over shows well) turned by up = absurd (cc (counts_in m mid new id None (turned_shows m rules id None view mid turned shows) by))

@@ -22,7 +22,7 @@ use Rattle.cas_model.proofs.Places.{at_one, at_set, same_or_not}
 use Rattle.cas_model_causes.specs.Calls.Rounds.{Brings, nothing, one}
 use Rattle.cas_model_causes.proofs.Calls.Hearing.{at_other, steps}
 use Rattle.casreg_progress.proofs.ByRules as script
-use Rattle.casreg_progress.proofs.ByRules.{Turned, FailsToTurn, EndsPrepare, IsAccepted, IsRound, AreRounds}
+use Rattle.casreg_progress.proofs.ByRules.{TurnedByRules, FailsToTurnByRules, EndsPrepare, IsAccepted, IsRound, AreRounds}
 use Rattle.casreg_script.specs.Frames.Conditions.{Rule, verdict_on}
 use Rattle.casreg_script.specs.declared.halt.Halt.{Halt}
 use Rattle.casreg_progress.specs.Lines.{IsMemberOf}
@@ -126,11 +126,11 @@ pub propose_keeps : {S V : Type 0} (m : Meaning S V) (old new : View S V) (id : 
 propose_keeps m old new id by = keeps_same old new (propose_same m old new id by)
 
 -- ---- the parts of a line
-turned_keeps : {S V : Type 0} (m : Meaning S V) (rules : List Rule) (id : ℕ) (old new : View S V) → Turned m rules id old new → KeepsDown old new
+turned_keeps : {S V : Type 0} (m : Meaning S V) (rules : List Rule) (id : ℕ) (old new : View S V) → TurnedByRules m rules id old new → KeepsDown old new
 turned_keeps m rules id old new script.none = λ a acceptor at down. (acceptor, at, down)
 turned_keeps m rules id old new (script.one_more {mid = mid} frame turned at by) = keeps_both old mid new (turned_keeps m rules id old mid turned) (turn_keeps m mid new id (verdict_on rules frame) by)
 
-fails_keeps : {S V : Type 0} (m : Meaning S V) (rules : List Rule) (id : ℕ) (old new : View S V) → FailsToTurn m rules id old new → KeepsDown old new
+fails_keeps : {S V : Type 0} (m : Meaning S V) (rules : List Rule) (id : ℕ) (old new : View S V) → FailsToTurnByRules m rules id old new → KeepsDown old new
 fails_keeps m rules id old new by = keeps_both old by.mid new (turned_keeps m rules id old by.mid by.turned) (refuse_keeps m by.mid new id by.fails)
 
 ends_keeps : {S V : Type 0} (m : Meaning S V) (rules : List Rule) (id : ℕ) (halt : Halt) (old new : View S V) → EndsPrepare m rules id halt old new → KeepsDown old new
@@ -176,7 +176,7 @@ brought_shows {S} {V} old new id phase brought (one reply desk now seen next way
   phase_is = ap opens_in (ap (λ (d : DeskView V). d.round) hears.desk) ∙ ap (λ (b : Bool). Some b) hears.hears.same_phase ∙ sym (ap opens_in is_open) ∙ ap (λ (d : DeskView V). opens_in d.round) (at_one old.desks id at was.at_desk) ∙ was.phase_is;
 }
 
-pub turned_shows : {S V : Type 0} (m : Meaning S V) (rules : List Rule) (id : ℕ) (phase : Option Bool) (old new : View S V) → Turned m rules id old new → Shows old id phase → Shows new id phase
+pub turned_shows : {S V : Type 0} (m : Meaning S V) (rules : List Rule) (id : ℕ) (phase : Option Bool) (old new : View S V) → TurnedByRules m rules id old new → Shows old id phase → Shows new id phase
 turned_shows m rules id phase old new script.none was = was
 turned_shows m rules id phase old new (script.one_more {mid = mid} frame turned at by) was =
     let brings = steps m mid new id (step.Turn id (verdict_on rules frame)) (λ x. x) by in

@@ -28,7 +28,7 @@ pub parted_first : (marks : List Mark) → ArePartedAt marks None [] (settled_ke
 parted_first marks = record { are_keys = are_settled marks; passed = λ k d low. absurd (omega (arith, low)); to_come = λ k d low. tt }
 
 -- the next key that the record lists
-pub record IsNext (marks : List Mark) (after : Option (List ℕ)) (key : List ℕ) : Type 0 where
+pub record IsNextKey (marks : List Mark) (after : Option (List ℕ)) (key : List ℕ) : Type 0 where
   pub listed : HasEntryOrFloor key marks
   pub is_after : IsAfter after key
   pub least : (other : List ℕ) → HasEntryOrFloor other marks → IsAfter after other → KeyLess other key → ⊥
@@ -41,7 +41,7 @@ pub record PartedOn (marks : List Mark) (key : List ℕ) (done : List (List ℕ)
   pub parted : ArePartedAt marks (Some key) now_done ahead
   pub text : flat_map (history_text marks) now_done ≡ flat_map (history_text marks) done ++ history_text marks key
 
-module _ (marks : List Mark) (after : Option (List ℕ)) (key : List ℕ) (next : IsNext marks after key) (done : List (List ℕ)) where
+module _ (marks : List Mark) (after : Option (List ℕ)) (key : List ℕ) (next : IsNextKey marks after key) (done : List (List ℕ)) where
   passed_on : All (λ k. IsAfter after k → ⊥) done → All (λ k. IsAfter (Some key) k → ⊥) done
   passed_on passed = All-weaker (λ k. IsAfter after k → ⊥) (λ k. IsAfter (Some key) k → ⊥) (λ k not_after is. not_after (after_less after key k next.is_after is)) done passed
 
@@ -105,7 +105,7 @@ pub record IsSoFar (marks : List Mark) (after : Option (List ℕ)) (old new : Op
 pub so_far_first : (marks : List Mark) (held : Option (List ℕ)) → IsSoFar marks None held held
 so_far_first marks held = record { done = []; ahead = settled_keys marks; parted = parted_first marks; written = Appends-nil held }
 
-pub so_far_on : (marks : List Mark) (after : Option (List ℕ)) (key text : List ℕ) (old held new : Option (List ℕ)) → IsSoFar marks after old held → IsNext marks after key
+pub so_far_on : (marks : List Mark) (after : Option (List ℕ)) (key text : List ℕ) (old held new : Option (List ℕ)) → IsSoFar marks after old held → IsNextKey marks after key
     → text ≡ history_text marks key → Appends held new text → IsSoFar marks (Some key) old new
 so_far_on marks after key text old held new so_far next is appended =
     let on = parted_on marks after key next so_far.done so_far.ahead so_far.parted in
@@ -130,7 +130,7 @@ front_of marks after old new so_far = record {
 }
 
 -- and where the sink failed within the next one
-pub front_within : (marks : List Mark) (after : Option (List ℕ)) (key text : List ℕ) (old held new : Option (List ℕ)) → IsSoFar marks after old held → IsNext marks after key
+pub front_within : (marks : List Mark) (after : Option (List ℕ)) (key text : List ℕ) (old held new : Option (List ℕ)) → IsSoFar marks after old held → IsNextKey marks after key
     → text ≡ history_text marks key → AppendsFront held new text → WroteFrontOf (AreHistories marks) old new
 front_within marks after key text old held new so_far next is appended =
     let on = parted_on marks after key next so_far.done so_far.ahead so_far.parted in

@@ -138,20 +138,20 @@ parted_first proposers bad tasks none callers bare = record { bad_are = none; ca
 
 -- ---- up to some line
 -- some lines of the input were handed out, and these are parted
-pub record IsReadSoFar (proposers : ℕ) (input left : Option (List ℕ)) (reader : LinesState) (bad : List ℕ) (tasks : List (List Task)) : Type 0 where
+pub record IsSheetReadSoFar (proposers : ℕ) (input left : Option (List ℕ)) (reader : LinesState) (bad : List ℕ) (tasks : List (List Task)) : Type 0 where
   pub lines : List (List ℕ)
   pub handed_out : HasHandedOut input lines reader left
   pub counted : reader.handed ≡ length lines
   pub parted : AreParted proposers lines bad tasks
 
 pub read_first : (proposers : ℕ) (input : Option (List ℕ)) (reader : LinesState) (bad : List ℕ) (tasks : List (List Task)) → reader.held ≡ [] → reader.handed ≡ 0 → AreParted proposers [] bad tasks
-    → IsReadSoFar proposers input input reader bad tasks
+    → IsSheetReadSoFar proposers input input reader bad tasks
 read_first proposers input reader bad tasks empty handed parted = record { lines = []; handed_out = HasHandedOut-nothing input reader empty; counted = handed; parted = parted }
 
-pub read_on : (proposers : ℕ) (input left new_left : Option (List ℕ)) (old new : LinesState) (line : LineState) (bad now_bad : List ℕ) (tasks now_tasks : List (List Task)) → IsReadSoFar proposers input left old bad tasks
+pub read_on : (proposers : ℕ) (input left new_left : Option (List ℕ)) (old new : LinesState) (line : LineState) (bad now_bad : List ℕ) (tasks now_tasks : List (List Task)) → IsSheetReadSoFar proposers input left old bad tasks
     → HandsOut old new left new_left line.bytes → old.handed < MOST_LINES → line.number ≡ old.handed + 1 → new.handed ≡ line.number
     → ((lines : List (List ℕ)) → line.number ≡ length lines + 1 → AreParted proposers lines bad tasks → AreParted proposers (lines ++ line.bytes ∷ []) now_bad now_tasks)
-    → IsReadSoFar proposers input new_left new now_bad now_tasks
+    → IsSheetReadSoFar proposers input new_left new now_bad now_tasks
 read_on proposers input left new_left old new line bad now_bad tasks now_tasks so_far out few number_is handed adds = record {
   lines = so_far.lines ++ line.bytes ∷ [];
   handed_out = HasHandedOut-line input left new_left so_far.lines old new line.bytes so_far.handed_out out (omega (arith, few, so_far.counted));
@@ -159,21 +159,21 @@ read_on proposers input left new_left old new line bad now_bad tasks now_tasks s
   parted = adds so_far.lines (omega (arith, number_is, so_far.counted)) so_far.parted;
 }
 
-pub read_whole : (proposers : ℕ) (input left : Option (List ℕ)) (reader : LinesState) (bad : List ℕ) (tasks : List (List Task)) → IsReadSoFar proposers input left reader bad tasks → IsAtEnd (ahead reader left)
+pub read_whole : (proposers : ℕ) (input left : Option (List ℕ)) (reader : LinesState) (bad : List ℕ) (tasks : List (List Task)) → IsSheetReadSoFar proposers input left reader bad tasks → IsAtEnd (ahead reader left)
     → (lines : List (List ℕ)) × AreAllLines input lines × AreParted proposers lines bad tasks
 read_whole proposers None left reader bad tasks so_far end = (so_far.lines, tt, so_far.parted)
 read_whole proposers (Some bytes) left reader bad tasks so_far end = (so_far.lines, (HasHandedOut-end (Some bytes) left so_far.lines reader so_far.handed_out end).1, so_far.parted)
 
-pub read_ends : (proposers : ℕ) (input left : Option (List ℕ)) (reader : LinesState) (bad : List ℕ) (tasks : List (List Task)) → IsReadSoFar proposers input left reader bad tasks → IsAtEnd (ahead reader left)
+pub read_ends : (proposers : ℕ) (input left : Option (List ℕ)) (reader : LinesState) (bad : List ℕ) (tasks : List (List Task)) → IsSheetReadSoFar proposers input left reader bad tasks → IsAtEnd (ahead reader left)
     → IfSome input (λ bytes. ending_of bytes ≡ Whole)
 read_ends proposers None left reader bad tasks so_far end = tt
 read_ends proposers (Some bytes) left reader bad tasks so_far end = (HasHandedOut-end (Some bytes) left so_far.lines reader so_far.handed_out end).0
 
-pub read_too_many : (proposers : ℕ) (input left : Option (List ℕ)) (reader : LinesState) (bad : List ℕ) (tasks : List (List Task)) → IsReadSoFar proposers input left reader bad tasks → (reader.handed ≡ MOST_LINES) × HasMore reader left
+pub read_too_many : (proposers : ℕ) (input left : Option (List ℕ)) (reader : LinesState) (bad : List ℕ) (tasks : List (List Task)) → IsSheetReadSoFar proposers input left reader bad tasks → (reader.handed ≡ MOST_LINES) × HasMore reader left
     → IfSome input (λ bytes. ending_of bytes ≡ TooMany)
 read_too_many proposers input left reader bad tasks so_far full = HasHandedOut-too_many input left so_far.lines reader so_far.handed_out (omega (arith, so_far.counted, full.0)) full.1
 
-pub read_endless : (proposers : ℕ) (input left : Option (List ℕ)) (reader : LinesState) (number : ℕ) (bad : List ℕ) (tasks : List (List Task)) → IsReadSoFar proposers input left reader bad tasks
+pub read_endless : (proposers : ℕ) (input left : Option (List ℕ)) (reader : LinesState) (number : ℕ) (bad : List ℕ) (tasks : List (List Task)) → IsSheetReadSoFar proposers input left reader bad tasks
     → (number ≡ reader.handed + 1) × (reader.handed < MOST_LINES) × IsLongLine reader left → IfSome input (λ bytes. ending_of bytes ≡ TooLong number)
 read_endless proposers input left reader number bad tasks so_far long =
     HasHandedOut-endless input left so_far.lines reader number so_far.handed_out (omega (arith, long.1, so_far.counted)) long.2 (omega (arith, long.0, so_far.counted))

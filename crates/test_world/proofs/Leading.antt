@@ -142,11 +142,11 @@ end_leads {S} {V} m old new told by =
     clients_lead m old new (EndCollect told) by (clients_join old by.middle new (record { last_proposer = leaves.last_proposer; others = leaves.others }) (same_callers by.middle new (ap (λ (w : View S V). w.last_proposer) by.view) (ap (λ (w : View S V). w.callers) by.view)))
 
 -- ---- how far it has come
-as_script : {S V : Type 0} (view : View S V) (key : List ℕ) → IsRenewing view key → script.IsRenewing view key
+as_script : {S V : Type 0} (view : View S V) (key : List ℕ) → IsRenewing view key → script.IsRenewalDue view key
 as_script view key (renews proposer was) = script.renews proposer was
 as_script view key (renewed was) = script.renewed was
 
-of_script : {S V : Type 0} (view : View S V) (key : List ℕ) → script.IsRenewing view key → IsRenewing view key
+of_script : {S V : Type 0} (view : View S V) (key : List ℕ) → script.IsRenewalDue view key → IsRenewing view key
 of_script view key (script.renews proposer was) = renews proposer was
 of_script view key (script.renewed was) = renewed was
 

@@ -141,22 +141,22 @@ none_ordered : {S V : Type 0} (view : View S V) (proposers : ℕ) (opened : List
 none_ordered view proposers opened change was none = subst (IsOrder view) none was.order
 
 -- a step of its round was the last before
-pub record EndsBy {S V : Type 0} (m : Meaning S V) (old new : View S V) (id : ℕ) : Type 0 where
+pub record EndsByStep {S V : Type 0} (m : Meaning S V) (old new : View S V) (id : ℕ) : Type 0 where
   pub mid : View S V
   pub safe : IsSafe mid
   pub keeps : KeepsOthers old mid id
   pub told : Answer
   pub ends : StepEnd m mid id told new
 
-pub ends_after : {S V : Type 0} (m : Meaning S V) (old mid new : View S V) (event : Event) (id : ℕ) (told : Answer) → IsSafe old → Step m old event mid → KeepsOthers old mid id → StepEnd m mid id told new → EndsBy m old new id
+pub ends_after : {S V : Type 0} (m : Meaning S V) (old mid new : View S V) (event : Event) (id : ℕ) (told : Answer) → IsSafe old → Step m old event mid → KeepsOthers old mid id → StepEnd m mid id told new → EndsByStep m old new id
 ends_after m old mid new event id told safe by keeps ends = record { mid = mid; safe = steps_are_safe m old event mid safe by; keeps = keeps; told = told; ends = ends }
 
 -- it was closed by another
-pub ends_so : {S V : Type 0} (m : Meaning S V) (old new : View S V) (id : ℕ) (told : Answer) → IsSafe old → StepEnd m old id told new → EndsBy m old new id
+pub ends_so : {S V : Type 0} (m : Meaning S V) (old new : View S V) (id : ℕ) (told : Answer) → IsSafe old → StepEnd m old id told new → EndsByStep m old new id
 ends_so m old new id told safe ends = record { mid = old; safe = safe; keeps = record { last_proposer = refl; others = λ p other. refl; council = λ quiet. refl }; told = told; ends = ends }
 
 ended : {S V : Type 0} (m : Meaning S V) (old new : View S V) (id proposers : ℕ) (opened after : List Bool) (change : Option Task) → IsPlay old proposers opened change → (id ≡ 0 → change ≡ None)
-    → ((p : ℕ) → (p ≡ id → ⊥) → slice_get after p ≡ Some false → slice_get opened p ≡ Some false) → StandsStill after change → EndsBy m old new id → IsPlay new proposers after change
+    → ((p : ℕ) → (p ≡ id → ⊥) → slice_get after p ≡ Some false → slice_get opened p ≡ Some false) → StandsStill after change → EndsByStep m old new id → IsPlay new proposers after change
 ended {S} {V} m old new id proposers opened after change was free others still by =
     goes old new proposers opened after change was (steps_are_safe m by.mid (step.End id by.told) new by.safe by.ends) (ap (λ (w : View S V). w.last_proposer) by.ends.ends.view ∙ by.keeps.last_proposer) (same ∙ before) idle still
   where
@@ -174,12 +174,12 @@ ended {S} {V} m old new id proposers opened after change was free others still b
     ]
 
 pub ends : {S V : Type 0} (m : Meaning S V) (old new : View S V) (id proposers : ℕ) (opened after : List Bool) (change : Option Task) → IsPlay old proposers opened change → after ≡ slice_set opened id false → (id ≡ 0 → change ≡ None)
-    → EndsBy m old new id → IsPlay new proposers after change
+    → EndsByStep m old new id → IsPlay new proposers after change
 ends m old new id proposers opened after change was after_is free by =
     subst (λ (l : List Bool). IsPlay new proposers l change) (sym after_is) (ended m old new id proposers opened (slice_set opened id false) change was free (λ p other closed. other_set opened id false p false other closed) (still_set opened id false change free was.still) by)
 
 -- one that was begun and ended at once
-pub ends_at_once : {S V : Type 0} (m : Meaning S V) (old new : View S V) (id proposers : ℕ) (opened : List Bool) (change : Option Task) → IsPlay old proposers opened change → (id ≡ 0 → change ≡ None) → EndsBy m old new id → IsPlay new proposers opened change
+pub ends_at_once : {S V : Type 0} (m : Meaning S V) (old new : View S V) (id proposers : ℕ) (opened : List Bool) (change : Option Task) → IsPlay old proposers opened change → (id ≡ 0 → change ≡ None) → EndsByStep m old new id → IsPlay new proposers opened change
 ends_at_once m old new id proposers opened change was free by = ended m old new id proposers opened opened change was free (λ p other closed. closed) was.still by
 
 -- ---- callers stay

@@ -92,12 +92,12 @@ rest_members least None = Some []
 rest_members least (Some list) = members_from least (slice_split is_comma list)
 
 -- what was read so far of a word, and what is left of it
-pub record IsReadSoFar (word members : List ℕ) (least : ℕ) (rest : Option (List ℕ)) : Type 0 where
+pub record AreMembersReadSoFar (word members : List ℕ) (least : ℕ) (rest : Option (List ℕ)) : Type 0 where
   pub reads : in_front members (rest_members least rest) ≡ members_from 0 (slice_split is_comma word)
   pub below : AreBelow members least
   pub set : IsMemberSet members
 
-pub none_read : (word : List ℕ) → IsReadSoFar word [] 0 (Some word)
+pub none_read : (word : List ℕ) → AreMembersReadSoFar word [] 0 (Some word)
 unfolding members_where
 none_read word = record { reads = in_front-nil (members_from 0 (slice_split is_comma word)); below = λ n le. refl; set = record { lists = refl } }
   where
@@ -114,9 +114,9 @@ rest_parts least None = refl
 rest_parts least (Some rest) = refl
 
 -- the first part is that of a member, and the others are left
-pub one_read : (word members list part : List ℕ) (least id : ℕ) (behind : Option (List ℕ)) → IsReadSoFar word members least (Some list)
+pub one_read : (word members list part : List ℕ) (least id : ℕ) (behind : Option (List ℕ)) → AreMembersReadSoFar word members least (Some list)
     → slice_split is_comma list ≡ part ∷ option_map_or (λ rest. slice_split is_comma rest) behind [] → within least 63 (u64_of part) ≡ Some id → least ≤ id → id ≤ 63
-    → IsReadSoFar word (with_member members id) (id + 1) behind
+    → AreMembersReadSoFar word (with_member members id) (id + 1) behind
 one_read word members list part least id behind so_far split says from fits =
     let last : with_member members id ≡ members ++ id ∷ [] = with_last members least id so_far.set so_far.below from fits in
     let parts : List Word = option_map_or (λ rest. slice_split is_comma rest) behind [] in
@@ -130,7 +130,7 @@ one_read word members list part least id behind so_far split says from fits =
     }
 
 -- nothing is left to read
-pub all_read : (word members : List ℕ) (least : ℕ) → IsReadSoFar word members least None → Some members ≡ members_from 0 (slice_split is_comma word)
+pub all_read : (word members : List ℕ) (least : ℕ) → AreMembersReadSoFar word members least None → Some members ≡ members_from 0 (slice_split is_comma word)
 all_read word members least so_far = ap (λ (ids : List ℕ). Some ids) (sym (append-nil members)) ∙ so_far.reads
 
 -- the parts of what is left, as a borrow

@@ -22,15 +22,15 @@ before number (Ok mark) (Err bad) marks is = absurd cc
 before number (Err refusal) later marks is = absurd cc
 
 -- as many lines as there are to be, each of which says its mark
-record Says (lines : List (List ℕ)) (count : ℕ) (marks : List Mark) : Type 0 where
+record SaysMarks (lines : List (List ℕ)) (count : ℕ) (marks : List Mark) : Type 0 where
   counted : count ≡ length marks
   each : SayEach lines marks
 
-says_nothing : (marks : List Mark) → [] ≡ marks → Says [] 0 marks
+says_nothing : (marks : List Mark) → [] ≡ marks → SaysMarks [] 0 marks
 says_nothing [] is = record { counted = refl; each = tt }
 says_nothing (mark ∷ marks) is = absurd cc
 
-read_says : (number : ℕ) (lines : List (List ℕ)) (count : ℕ) (marks : List Mark) → marks_from number lines count ≡ Ok marks → Says lines count marks
+read_says : (number : ℕ) (lines : List (List ℕ)) (count : ℕ) (marks : List Mark) → marks_from number lines count ≡ Ok marks → SaysMarks lines count marks
 read_says number [] zero marks is = says_nothing marks cc
 read_says number [] (suc count) marks is = absurd cc
 read_says number (line ∷ lines) zero marks is = absurd cc

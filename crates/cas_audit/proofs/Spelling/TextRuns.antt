@@ -15,7 +15,7 @@ use Rattle.cas_audit.specs.declared.text.AuditFault.TheVariants as fault
 use Rattle.cas_audit.specs.declared.text.TextAudit.{TextAudit}
 
 -- some lines of the input were handed out, as many were counted and taken, and this is known of them
-pub record IsMidway {S : Type 0} (gives : S → Taken → S → Type 0) (start source : S) (input left : Option (List ℕ)) (reader : LinesState) (audit : TextAudit) : Type 0 where
+pub record IsAuditMidway {S : Type 0} (gives : S → Taken → S → Type 0) (start source : S) (input left : Option (List ℕ)) (reader : LinesState) (audit : TextAudit) : Type 0 where
   pub lines : List (List ℕ)
   pub handed_out : HasHandedOut input lines reader left
   pub told : HandsOutTold gives start lines reader.held source
@@ -24,7 +24,7 @@ pub record IsMidway {S : Type 0} (gives : S → Taken → S → Type 0) (start s
   pub known : IsProgress lines audit.auditor audit.progress
 
 pub midway-nothing : {S : Type 0} (gives : S → Taken → S → Type 0) (start : S) (input : Option (List ℕ)) (reader : LinesState) (audit : TextAudit) → reader.held ≡ [] → reader.handed ≡ 0 → audit.lines ≡ 0 → IsProgress [] audit.auditor audit.progress
-    → IsMidway gives start start input input reader audit
+    → IsAuditMidway gives start start input input reader audit
 midway-nothing gives start input reader audit empty handed taken known = record {
   lines = [];
   handed_out = HasHandedOut-nothing input reader empty;
@@ -36,10 +36,10 @@ midway-nothing gives start input reader audit empty handed taken known = record 
 
 -- one line more
 pub midway-line : {S : Type 0} (gives : S → Taken → S → Type 0) (start source new_source : S) (input left new_left : Option (List ℕ)) (old new : LinesState) (before after : TextAudit) (line : LineState)
-    → (at : IsMidway gives start source input left old before)
+    → (at : IsAuditMidway gives start source input left old before)
     → HandsOut old new left new_left line.bytes → TellsAtOnce gives old source (Ok (Some line)) new new_source → old.handed < MOST_LINES → line.number ≡ old.handed + 1 → new.handed ≡ line.number
     → after.lines ≡ line.number → IsProgress (at.lines ++ line.bytes ∷ []) after.auditor after.progress
-    → IsMidway gives start new_source input new_left new after
+    → IsAuditMidway gives start new_source input new_left new after
 midway-line gives start source new_source input left new_left old new before after line at out at_once few number_is handed taken known = record {
   lines = at.lines ++ line.bytes ∷ [];
   handed_out = HasHandedOut-line input left new_left at.lines old new line.bytes at.handed_out out (omega (arith, few, at.counted));
@@ -50,7 +50,7 @@ midway-line gives start source new_source input left new_left old new before aft
 }
 
 -- at the end of the input
-pub midway-end : {S : Type 0} (gives : S → Taken → S → Type 0) (start source new_source : S) (input left : Option (List ℕ)) (old new : LinesState) (audit : TextAudit) → (at : IsMidway gives start source input left old audit)
+pub midway-end : {S : Type 0} (gives : S → Taken → S → Type 0) (start source new_source : S) (input left : Option (List ℕ)) (old new : LinesState) (audit : TextAudit) → (at : IsAuditMidway gives start source input left old audit)
     → IsAtEnd (ahead old left) → TellsAtOnce gives old source (Ok None) new new_source → AreLines gives start new_source input at.lines
 midway-end gives start source new_source None left old new audit at end at_once = record { told = ends_told gives start at.lines old new source new_source at.told at_once; known = tt }
 midway-end gives start source new_source (Some bytes) left old new audit at end at_once = record {
@@ -58,16 +58,16 @@ midway-end gives start source new_source (Some bytes) left old new audit at end 
   known = (HasHandedOut-end (Some bytes) left at.lines old at.handed_out end).1;
 }
 
-pub midway-whole : {S : Type 0} (gives : S → Taken → S → Type 0) (start source : S) (input left : Option (List ℕ)) (reader : LinesState) (audit : TextAudit) → IsMidway gives start source input left reader audit → IsAtEnd (ahead reader left)
+pub midway-whole : {S : Type 0} (gives : S → Taken → S → Type 0) (start source : S) (input left : Option (List ℕ)) (reader : LinesState) (audit : TextAudit) → IsAuditMidway gives start source input left reader audit → IsAtEnd (ahead reader left)
     → IfSome input (λ bytes. ending_of bytes ≡ Whole)
 midway-whole gives start source None left reader audit at end = tt
 midway-whole gives start source (Some bytes) left reader audit at end = (HasHandedOut-end (Some bytes) left at.lines reader at.handed_out end).0
 
-pub midway-too_many : {S : Type 0} (gives : S → Taken → S → Type 0) (start source : S) (input left : Option (List ℕ)) (reader : LinesState) (audit : TextAudit) → IsMidway gives start source input left reader audit → (reader.handed ≡ MOST_LINES) × HasMore reader left
+pub midway-too_many : {S : Type 0} (gives : S → Taken → S → Type 0) (start source : S) (input left : Option (List ℕ)) (reader : LinesState) (audit : TextAudit) → IsAuditMidway gives start source input left reader audit → (reader.handed ≡ MOST_LINES) × HasMore reader left
     → IfSome input (λ bytes. ending_of bytes ≡ TooMany)
 midway-too_many gives start source input left reader audit at full = HasHandedOut-too_many input left at.lines reader at.handed_out (omega (arith, at.counted, full.0)) full.1
 
-pub midway-endless : {S : Type 0} (gives : S → Taken → S → Type 0) (start source : S) (input left : Option (List ℕ)) (reader : LinesState) (audit : TextAudit) (number : ℕ) → IsMidway gives start source input left reader audit
+pub midway-endless : {S : Type 0} (gives : S → Taken → S → Type 0) (start source : S) (input left : Option (List ℕ)) (reader : LinesState) (audit : TextAudit) (number : ℕ) → IsAuditMidway gives start source input left reader audit
     → (number ≡ reader.handed + 1) × (reader.handed < MOST_LINES) × IsLongLine reader left → IfSome input (λ bytes. ending_of bytes ≡ TooLong number)
 midway-endless gives start source input left reader audit number at long =
     HasHandedOut-endless input left at.lines reader number at.handed_out (omega (arith, long.1, at.counted)) long.2 (omega (arith, long.0, at.counted))

@@ -342,7 +342,7 @@ end_ends {S} {V} m n told old new by = record {
 
 -- ---- late frames
 -- All that callers have open stays, whoever lets a late frame in.
-pub record LetsIn {S V : Type 0} (old new : View S V) : Type 0 where
+pub record LetsInLate {S V : Type 0} (old new : View S V) : Type 0 where
   pub marks : List Mark
   pub last_proposer : new.last_proposer ≡ old.last_proposer
   pub places : length new.desks ≡ length old.desks
@@ -352,7 +352,7 @@ pub record LetsIn {S V : Type 0} (old new : View S V) : Type 0 where
   pub made : new.marks ≡ old.marks ++ marks
   pub fine : (n call most : ℕ) → Fine n call most marks
 
-lets_in_same : {S V : Type 0} (old new : View S V) (marks : List Mark) → new.last_proposer ≡ old.last_proposer → new.desks ≡ old.desks → new.callers ≡ old.callers → new.council ≡ old.council → new.marks ≡ old.marks ++ marks → ((n call most : ℕ) → Fine n call most marks) → LetsIn old new
+lets_in_same : {S V : Type 0} (old new : View S V) (marks : List Mark) → new.last_proposer ≡ old.last_proposer → new.desks ≡ old.desks → new.callers ≡ old.callers → new.council ≡ old.council → new.marks ≡ old.marks ++ marks → ((n call most : ℕ) → Fine n call most marks) → LetsInLate old new
 lets_in_same {S} {V} old new marks last_proposer desks callers council made fine = record {
   marks = marks;
   last_proposer = last_proposer;
@@ -364,13 +364,13 @@ lets_in_same {S} {V} old new marks last_proposer desks callers council made fine
   fine = fine;
 }
 
-pub stray_lets_in : {S V : Type 0} (m : Meaning S V) (index : ℕ) (old new : View S V) → StepStray m old index new → LetsIn old new
+pub stray_lets_in : {S V : Type 0} (m : Meaning S V) (index : ℕ) (old new : View S V) → StepStray m old index new → LetsInLate old new
 stray_lets_in {S} {V} m index old new by = by_late by.late by.strays
   where
     none_made : new.marks ≡ old.marks → new.marks ≡ old.marks ++ []
     none_made same = same ∙ sym (append-nil old.marks)
 
-    by_late : (late : Message) → frames.Strays m old index late new → LetsIn old new
+    by_late : (late : Message) → frames.Strays m old index late new → LetsInLate old new
     by_late late (frames.answers request acceptor now reply is there table same) =
         lets_in_same old new (frames.votes_marked request reply) (ap (λ (w : View S V). w.last_proposer) same) (ap (λ (w : View S V). w.desks) same) (ap (λ (w : View S V). w.callers) same) (ap (λ (w : View S V). w.council) same) (ap (λ (w : View S V). w.marks) same)
         (λ n call most. fine_votes n call most request reply)
@@ -390,7 +390,7 @@ stray_lets_in {S} {V} m index old new by = by_late by.late by.strays
       fine = λ n call most. fine_none n call most;
     }
 
-pub refused_stray_lets_in : {S V : Type 0} (m : Meaning S V) (old new : View S V) → frames.FindsNoRoom m old new → LetsIn old new
+pub refused_stray_lets_in : {S V : Type 0} (m : Meaning S V) (old new : View S V) → frames.FindsNoRoom m old new → LetsInLate old new
 refused_stray_lets_in {S} {V} m old new (frames.stays same) =
     lets_in_same old new [] (ap (λ (w : View S V). w.last_proposer) same) (ap (λ (w : View S V). w.desks) same) (ap (λ (w : View S V). w.callers) same) (ap (λ (w : View S V). w.council) same) (ap (λ (w : View S V). w.marks) same ∙ sym (append-nil old.marks)) (λ n call most. fine_none n call most)
 refused_stray_lets_in {S} {V} m old new (frames.kept id acceptor now there finds same) =

@@ -31,11 +31,11 @@ use Rattle.cas_board_steps.specs.Owners.{owner_of}
 use Rattle.cas_board_steps.specs.OwnParts.{plan_part, council_part, own_part}
 use Rattle.cas_board_steps.specs.Calls.Open.{NothingIsOpen, IsIdle, HasOpen, rounds_after}
 use Rattle.cas_board_steps.proofs.Calls.Acts.{Acts, acts_then, acts_aside, makes_aside, kept_aside, spares_same, spares_rounds, part_same, makes_of, OwnKept, was_desk, staged_same, kept_by}
-use Rattle.cas_board_steps.proofs.Calls.Events.{Fine, fine_none, CallGoesOn, CallIsOver, LetsIn, quiet_rescans, rescans_unasked, end_ends, stray_lets_in, refused_stray_lets_in, first_begins, again_goes_on, over_where_told, turn_goes_on, refused_turn_goes_on, propose_goes_on, count_is_over, refused_acts}
+use Rattle.cas_board_steps.proofs.Calls.Events.{Fine, fine_none, CallGoesOn, CallIsOver, LetsInLate, quiet_rescans, rescans_unasked, end_ends, stray_lets_in, refused_stray_lets_in, first_begins, again_goes_on, over_where_told, turn_goes_on, refused_turn_goes_on, propose_goes_on, count_is_over, refused_acts}
 use Rattle.cas_board_steps.proofs.Fronts.{wanted_append}
 use Rattle.cas_board_steps.proofs.Exchanges.Councils.{is_like, no_order, with_plan}
 use Rattle.cas_board_steps.proofs.Parts.{rest_of, rest_same, open_at, open_quiet, idle_quiet, idle_call, stays_open, is_open_then, own_closed, now_idle, beside_part, rounds_part, met_part, after_part}
-use Rattle.cas_board_steps.proofs.Calls.Stages.{NextAt, next_at, IsRunning, running_call, runs_there, met_told, turn_running, proposed_running, propose_met}
+use Rattle.cas_board_steps.proofs.Calls.Stages.{NextAt, next_at, IsRoundRunning, running_call, runs_there, met_told, turn_running, proposed_running, propose_met}
 
 -- ---- calls that go on
 -- the caller of the open call is the one that stands there
@@ -52,18 +52,18 @@ wanted_by_acts : {S V : Type 0} (n call most : ℕ) (old new : View S V) (marks 
 wanted_by_acts n call most old new marks acts fine = ap (wanted_by n) acts.made ∙ wanted_append n None old.marks marks ∙ fine.asks (wanted_by n old.marks)
 
 -- the open call as it goes on: as it was, or once more behind a conflict
-pub record Enters (was entered : CallView) : Type 0 where
+pub record EntersAgain (was entered : CallView) : Type 0 where
   pub key : entered.key ≡ was.key
   pub program : entered.program ≡ was.program
   pub rounds : entered.rounds ≡ (if told_conflict was.told then one_more was.rounds else was.rounds)
 
-pub enters_same : (was : CallView) → told_conflict was.told ≡ false → Enters was was
+pub enters_same : (was : CallView) → told_conflict was.told ≡ false → EntersAgain was was
 enters_same was unmet = record { key = refl; program = refl; rounds = ap (λ (b : Bool). if b then one_more was.rounds else was.rounds) (sym unmet) }
 
-enters_again : (was : CallView) (reserved : ℕ) → calls.WasMet was.told → Enters was (calls.tried_again was reserved)
+enters_again : (was : CallView) (reserved : ℕ) → calls.WasMet was.told → EntersAgain was (calls.tried_again was reserved)
 enters_again was reserved met = record { key = refl; program = refl; rounds = ap (λ (b : Bool). if b then one_more was.rounds else was.rounds) (sym (met_told was.told met)) }
 
-pub goes_on_in : {S V : Type 0} (n call most : ℕ) (old new : View S V) (caller : CallerView) (was entered : CallView) → IsAt old.callers n caller → caller.call ≡ Some was → Enters was entered → HasOpen call (own_part old n) → IsKept old → (goes : CallGoesOn n most old new caller entered)
+pub goes_on_in : {S V : Type 0} (n call most : ℕ) (old new : View S V) (caller : CallerView) (was entered : CallView) → IsAt old.callers n caller → caller.call ≡ Some was → EntersAgain was entered → HasOpen call (own_part old n) → IsKept old → (goes : CallGoesOn n most old new caller entered)
     → ((desk : DeskView V) → IsAt new.desks n desk → IsStaged desk goes.next) → Held old new (GoesOnIn n call most old new)
 goes_on_in {S} {V} n call most old new caller was entered at is enters has kept goes staged =
     let number : caller.number ≡ call = number_of old n call has caller at in
@@ -129,7 +129,7 @@ idle_kept {S} {V} n view caller at none = record {
 only_ended : (n call rounds : ℕ) (told : Answer) → OnlyOwnedBy owner_of n (Ended n call rounds told ∷ [])
 only_ended n call rounds told = All-cons (λ i. (m : ℕ) → owner_of i ≡ Some m → m ≡ n) (Ended n call rounds told) [] (λ m e. sym (some_is e)) (All-nil (λ i. (m : ℕ) → owner_of i ≡ Some m → m ≡ n))
 
-pub ends_in : {S V : Type 0} (m : Meaning S V) (n call most : ℕ) (told : Answer) (old mid new : View S V) (caller : CallerView) (was entered : CallView) → IsAt old.callers n caller → caller.call ≡ Some was → Enters was entered → HasOpen call (own_part old n) → IsKept old → CallIsOver n most old mid caller entered
+pub ends_in : {S V : Type 0} (m : Meaning S V) (n call most : ℕ) (told : Answer) (old mid new : View S V) (caller : CallerView) (was entered : CallView) → IsAt old.callers n caller → caller.call ≡ Some was → EntersAgain was entered → HasOpen call (own_part old n) → IsKept old → CallIsOver n most old mid caller entered
     → StepEnd m mid n told new → Held old new (EndsMarked n call most old new told)
 ends_in {S} {V} m n call most told old mid new caller was entered at is enters has kept over by =
     let number : caller.number ≡ call = number_of old n call has caller at in
@@ -405,7 +405,7 @@ turn_ends m n call most told old mid new has kept running_ by was ends =
     ends_in m n call most told old mid new by.of_call.caller by.of_call.call by.of_call.call by.of_call.at_caller by.of_call.is_open (enters_same by.of_call.call runs.unmet) has kept (over_where_told n most old mid by.of_call.caller by.of_call.call call told (refused_turn_goes_on m n most old mid by) was) ends
 
 -- ---- the end of a prepare phase
-round_runs : {S V : Type 0} (view : View S V) (n : ℕ) (at : OpenRoundAt view n) → IsKept view → IsRunning at.of_call.call
+round_runs : {S V : Type 0} (view : View S V) (n : ℕ) (at : OpenRoundAt view n) → IsKept view → IsRoundRunning at.of_call.call
 round_runs view n at kept = running_call view n at.of_call.caller at.of_call.call at.desk kept at.of_call.at_caller at.of_call.is_open at.at_desk (subst IsSome (sym at.is_open) refl)
 
 pub propose_ok : {S V : Type 0} (m : Meaning S V) (n call most : ℕ) (old new : View S V) → HasOpen call (own_part old n) → IsKept old → HasProposed new n → StepPropose m old n new → Held old new (GoesOnIn n call most old new)
@@ -442,7 +442,7 @@ closed_ends m n call most told old new has kept unmet ends =
     ends_in m n call most told old old new o.caller o.open_call o.open_call o.at_caller o.is_open (enters_same o.open_call unmet) has kept (over_at_once n most old o.caller o.open_call o.at_caller o.is_open) ends
 
 -- ---- late frames
-pub strays_in : {S V : Type 0} (old new : View S V) → IsKept old → LetsIn old new → Held old new (StraysIn old new)
+pub strays_in : {S V : Type 0} (old new : View S V) → IsKept old → LetsInLate old new → Held old new (StraysIn old new)
 strays_in {S} {V} old new kept by = record {
   does = record {
     marks = by.marks;

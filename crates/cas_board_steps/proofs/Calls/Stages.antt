@@ -38,7 +38,7 @@ use Rattle.cas_board_steps.specs.Calls.Stages.{IsStageOf, front_of, tells_met}
 use Rattle.cas_board_steps.specs.declared.changes.Stage.{Stage}
 use Rattle.cas_board_steps.specs.declared.changes.Stage.TheVariants as stages
 use Rattle.cas_board_steps.proofs.Calls.Events.{told_in}
-use Rattle.cas_board_steps.proofs.Parts.{IsOpenAt, open_at, met_part}
+use Rattle.cas_board_steps.proofs.Parts.{HasOpenCallAt, open_at, met_part}
 
 -- ---- frames of rounds
 -- where no exchange is open, the operator's frames are those of its round, too
@@ -124,19 +124,19 @@ pub desk_of : {S V : Type 0} (view : View S V) (n : ℕ) (caller : CallerView) �
 desk_of view n caller at kept = let low = low_at view.callers n at in desk_at view n (omega (arith, kept.places.callers, low)) kept
 
 -- ---- a call whose round is open
-pub record IsRunning (call : CallView) : Type 0 where
+pub record IsRoundRunning (call : CallView) : Type 0 where
   pub unmet : told_conflict call.told ≡ false
   pub unclosed : call.is_closed ≡ false
 
-pub running_call : {S V : Type 0} (view : View S V) (n : ℕ) (caller : CallerView) (call : CallView) (desk : DeskView V) → IsKept view → IsAt view.callers n caller → caller.call ≡ Some call → IsAt view.desks n desk → IsSome desk.round → IsRunning call
+pub running_call : {S V : Type 0} (view : View S V) (n : ℕ) (caller : CallerView) (call : CallView) (desk : DeskView V) → IsKept view → IsAt view.callers n caller → caller.call ≡ Some call → IsAt view.desks n desk → IsSome desk.round → IsRoundRunning call
 running_call {S} {V} view n caller call desk kept at is at_desk some = by_stage (kept.staged n desk caller call at_desk at is)
   where
-    by_stage : IsStaged desk call → IsRunning call
+    by_stage : IsStaged desk call → IsRoundRunning call
     by_stage (running open_ unmet unclosed) = record { unmet = unmet; unclosed = unclosed }
     by_stage (is_met none met unproposed unclosed) = absurd (cc (subst IsSome none some))
     by_stage (is_closed none closed unmet) = absurd (cc (subst IsSome none some))
 
-pub runs_there : {S V : Type 0} (view : View S V) (n : ℕ) (caller : CallerView) (call : CallView) → IsKept view → IsAt view.callers n caller → caller.call ≡ Some call → ((desk : DeskView V) → IsAt view.desks n desk → IsSome desk.round) → IsRunning call
+pub runs_there : {S V : Type 0} (view : View S V) (n : ℕ) (caller : CallerView) (call : CallView) → IsKept view → IsAt view.callers n caller → caller.call ≡ Some call → ((desk : DeskView V) → IsAt view.desks n desk → IsSome desk.round) → IsRoundRunning call
 runs_there view n caller call kept at is running_ = let d = desk_of view n caller at kept in running_call view n caller call d.desk kept at is d.at_desk (running_ d.desk d.at_desk)
 
 -- so no conflict was told last, and that is what its stage tells
@@ -201,7 +201,7 @@ may_again {S} {V} view n call key program known kept has wanted idle unclosed =
     let same : wants o.caller.number o.open_call.key o.open_call.program ≡ wants call key program = some_is (sym (kept.wanted n o.caller o.open_call o.at_caller o.is_open) ∙ wanted) in
     by_stage o same (kept.staged n d.desk o.caller o.open_call d.at_desk o.at_caller o.is_open) (idle d.desk d.at_desk)
   where
-    by_stage : (o : IsOpenAt view n call) → wants o.caller.number o.open_call.key o.open_call.program ≡ wants call key program → {desk : DeskView V} → IsStaged desk o.open_call → desk.round ≡ None → MayBegin view n call key program
+    by_stage : (o : HasOpenCallAt view n call) → wants o.caller.number o.open_call.key o.open_call.program ≡ wants call key program → {desk : DeskView V} → IsStaged desk o.open_call → desk.round ≡ None → MayBegin view n call key program
     by_stage o same (running some unmet unclosed_) none = absurd (cc (subst IsSome none some))
     by_stage o same (is_met no_round met unproposed unclosed_) none = another o.caller o.open_call o.at_caller o.is_open (sym o.number) (ap (λ (w : Wanted). w.key) same) (ap (λ (w : Wanted). w.program) same) unproposed met idle
     by_stage o same (is_closed no_round closed unmet) none = absurd (cc (subst IsSome (ap closed_in (sym o.is_open) ∙ unclosed o.caller o.at_caller) closed))

@@ -69,15 +69,15 @@ collects_like key due round a b like at =
     }
 
 -- ---- a step that is due
-pub record IsStep {S V : Type 0} (view : View S V) (key : List ℕ) (due : CollectStep) : Type 0 where
+pub record IsStepDue {S V : Type 0} (view : View S V) (key : List ℕ) (due : CollectStep) : Type 0 where
   pub no_call : (caller : CallerView) → IsAt view.callers 0 caller → caller.call ≡ None
   pub at : CollectsAt key due 2 view.council
   pub none_asked : view.council.exchange ≡ None
 
-pub has_step : {S V : Type 0} (view : View S V) (key : List ℕ) (due : CollectStep) → IsStep view key due → HasStep key due (own_part view 0)
+pub has_step : {S V : Type 0} (view : View S V) (key : List ℕ) (due : CollectStep) → IsStepDue view key due → HasStep key due (own_part view 0)
 has_step view key due is = record { council = view.council; is = own_is_council view is.no_call; at = is.at; none_asked = is.none_asked }
 
-pub is_step : {S V : Type 0} (view : View S V) (key : List ℕ) (due : CollectStep) → HasStep key due (own_part view 0) → IsStep view key due
+pub is_step : {S V : Type 0} (view : View S V) (key : List ℕ) (due : CollectStep) → HasStep key due (own_part view 0) → IsStepDue view key due
 is_step view key due has =
     let it = none_beside view has.council has.is in
     record { no_call = it.no_call; at = collects_like key due 2 view.council has.council it.like has.at; none_asked = no_exchange view.council.exchange (it.like.exchange ∙ ap exchange_part has.none_asked) }
@@ -95,17 +95,17 @@ of_same (Probe key) (NextKeys places) e of_it = absurd (cc of_it)
 of_same (NextKeys places) (Probe other) e of_it = absurd (cc of_it)
 of_same (NextKeys places) (NextKeys others) e of_it = absurd (cc of_it)
 
-pub record IsAsked {S V : Type 0} (view : View S V) (key : List ℕ) (due : CollectStep) : Type 0 where
+pub record IsStepAsked {S V : Type 0} (view : View S V) (key : List ℕ) (due : CollectStep) : Type 0 where
   pub no_call : (caller : CallerView) → IsAt view.callers 0 caller → caller.call ≡ None
   pub at : CollectsAt key due 2 view.council
   pub exchange : ExchangeView
   pub is_open : view.council.exchange ≡ Some exchange
   pub of_it : is_of_collection exchange.question ≡ true
 
-pub has_question : {S V : Type 0} (view : View S V) (key : List ℕ) (due : CollectStep) → IsAsked view key due → HasQuestion key due (own_part view 0)
+pub has_question : {S V : Type 0} (view : View S V) (key : List ℕ) (due : CollectStep) → IsStepAsked view key due → HasQuestion key due (own_part view 0)
 has_question view key due is = record { council = view.council; is = own_is_council view is.no_call; at = is.at; exchange = is.exchange; is_open = is.is_open; of_it = is.of_it }
 
-pub is_asked : {S V : Type 0} (view : View S V) (key : List ℕ) (due : CollectStep) → HasQuestion key due (own_part view 0) → IsAsked view key due
+pub is_asked : {S V : Type 0} (view : View S V) (key : List ℕ) (due : CollectStep) → HasQuestion key due (own_part view 0) → IsStepAsked view key due
 is_asked view key due has =
     let it = none_beside view has.council has.is in
     let x = exchange_told view.council.exchange has.exchange (it.like.exchange ∙ ap exchange_part has.is_open) in

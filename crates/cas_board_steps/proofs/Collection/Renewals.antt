@@ -37,20 +37,20 @@ use Rattle.cas_board_steps.specs.Exchanges.Orders.{new_order, OperatesIn, IsTold
 use Rattle.cas_board_steps.specs.Owners.{owner_of}
 use Rattle.cas_board_steps.specs.OwnParts.{caller_part, open_part, call_part, phase_of, own_part}
 use Rattle.cas_board_steps.proofs.Calls.Acts.{Spares, spares_set, round_set, has_round, was_desk, staged_same}
-use Rattle.cas_board_steps.proofs.Collection.Collecting.{IsStep, has_step, is_step}
+use Rattle.cas_board_steps.proofs.Collection.Collecting.{IsStepDue, has_step, is_step}
 use Rattle.cas_board_steps.proofs.Collection.Steps.{stopped_held, no_marks, none_counted, steps_on}
 use Rattle.cas_board_steps.proofs.Calls.Holds.{Held}
 use Rattle.cas_board_steps.proofs.Exchanges.Operating.{leaves_desks}
 
 -- ---- a hold that makes no mark, and closes what another caller has open or leaves it
-pub record Passes {S V : Type 0} (old mid : View S V) : Type 0 where
+pub record PassesHold {S V : Type 0} (old mid : View S V) : Type 0 where
   pub makes : Makes 0 old mid []
   pub kept : IsKept mid
   pub last_proposer : mid.last_proposer ≡ old.last_proposer
   pub none : (caller : CallerView) → IsAt mid.callers 0 caller → caller.call ≡ None
 
-passes_council : {S V : Type 0} (old mid new : View S V) (council : Council) → Passes old mid → new ≡ record mid { council = council } → Passes old new
-passes_council {S} {V} old mid new council passes is = subst (λ (w : View S V). Passes old w) (sym is) (record {
+passes_council : {S V : Type 0} (old mid new : View S V) (council : Council) → PassesHold old mid → new ≡ record mid { council = council } → PassesHold old new
+passes_council {S} {V} old mid new council passes is = subst (λ (w : View S V). PassesHold old w) (sym is) (record {
   makes = record { last_proposer = passes.makes.last_proposer; made = passes.makes.made; may_add = passes.makes.may_add; owned = passes.makes.owned; others = others };
   kept = record { places = record { desks = passes.kept.places.desks; callers = passes.kept.places.callers }; staged = passes.kept.staged; wanted = passes.kept.wanted };
   last_proposer = passes.last_proposer;
@@ -71,7 +71,7 @@ makes_behind a b c l first then_ = record {
 }
 
 -- so the operator is told behind it
-passes_told : {S V : Type 0} (key : List ℕ) (most : ℕ) (old mid new : View S V) (said told : OpAnswer) → Passes old mid → mid.council.order ≡ Some (told_so said (new_order (asked.Collect key))) → IsCollectAnswer key said → rescanned_of mid.council.plan ≡ rescanned_of old.council.plan → WasToldOrder mid told → StepTell mid told new
+passes_told : {S V : Type 0} (key : List ℕ) (most : ℕ) (old mid new : View S V) (said told : OpAnswer) → PassesHold old mid → mid.council.order ≡ Some (told_so said (new_order (asked.Collect key))) → IsCollectAnswer key said → rescanned_of mid.council.plan ≡ rescanned_of old.council.plan → WasToldOrder mid told → StepTell mid told new
     → Held old new (IsToldIn (asked.Collect key) (IsTombstoneMark key) most old new told × IsCollectAnswer key told)
 passes_told key most old mid new said told passes order answers planned was ends =
     let held = stopped_held key most mid mid new told (record { leaves = leaves_desks mid mid mid [] refl refl refl refl (sym (append-nil mid.marks)); said = said; order = order; answers = answers; planned = refl }) was ends passes.kept passes.none in
@@ -84,7 +84,7 @@ passes_told key most old mid new said told passes order answers planned was ends
 
 -- ---- a desk changes, and its round stays open or not
 passes_desk : {S V : Type 0} (old mid : View S V) (p : ℕ) (desk now : DeskView V) → IsAt old.desks p desk → is_some now.round ≡ is_some desk.round → mid.last_proposer ≡ old.last_proposer → mid.desks ≡ slice_set old.desks p now → mid.callers ≡ old.callers → mid.marks ≡ old.marks
-    → IsKept old → ((caller : CallerView) → IsAt old.callers 0 caller → caller.call ≡ None) → Passes old mid
+    → IsKept old → ((caller : CallerView) → IsAt old.callers 0 caller → caller.call ≡ None) → PassesHold old mid
 passes_desk {S} {V} old mid p desk now at same last_proposer desks callers made kept none = record {
   makes = record { last_proposer = last_proposer; made = made ∙ sym (append-nil old.marks); may_add = tt; owned = All-nil (λ i. (m : ℕ) → owner_of i ≡ Some m → m ≡ 0); others = others };
   kept = record {
@@ -122,7 +122,7 @@ running_unmet desk call round is (is_closed none closed unmet) = unmet
 
 passes_closed : {S V : Type 0} (old mid : View S V) (p : ℕ) (told : Answer) (why : Cause) (desk now : DeskView V) (round : Round) (of_call : OpenCallAt old p) → is_conflict told ≡ false → is_done told ≡ false → IsAt old.desks p desk → desk.round ≡ Some round → now.round ≡ None
     → mid.last_proposer ≡ old.last_proposer → mid.desks ≡ slice_set old.desks p now → mid.callers ≡ slice_set old.callers p (record of_call.caller { call = Some (closed_by told why of_call.call) }) → mid.marks ≡ old.marks
-    → IsKept old → ((caller : CallerView) → IsAt old.callers 0 caller → caller.call ≡ None) → Passes old mid
+    → IsKept old → ((caller : CallerView) → IsAt old.callers 0 caller → caller.call ≡ None) → PassesHold old mid
 passes_closed {S} {V} old mid p told why desk now round of_call no_conflict undone at is_round idle last_proposer desks callers made kept none = record {
   makes = record { last_proposer = last_proposer; made = made ∙ sym (append-nil old.marks); may_add = tt; owned = All-nil (λ i. (m : ℕ) → owner_of i ≡ Some m → m ≡ 0); others = others };
   kept = record {
@@ -191,7 +191,7 @@ passes_closed {S} {V} old mid p told why desk now round of_call no_conflict undo
 
 -- a desk leaves its round so
 pub leaves_round : {S V : Type 0} {T : DeskView V → DeskView V → Type 0} (old mid : View S V) (p : ℕ) (told : Answer) (why : Cause) → is_conflict told ≡ false → is_done told ≡ false → ((desk now : DeskView V) → T desk now → now.round ≡ None) → LeavesRound T (closed_by told why) old p mid
-    → IsKept old → ((caller : CallerView) → IsAt old.callers 0 caller → caller.call ≡ None) → Passes old mid × (mid.council ≡ old.council)
+    → IsKept old → ((caller : CallerView) → IsAt old.callers 0 caller → caller.call ≡ None) → PassesHold old mid × (mid.council ≡ old.council)
 leaves_round {S} {V} {T} old mid p told why unmet undone ends (stops.idle desk now at none_open turns is) kept none = (
   passes_desk old mid p desk now at (ap (λ (o : Option Round). is_some o) (ends desk now turns ∙ sym none_open)) (ap (λ (w : View S V). w.last_proposer) is) (ap (λ (w : View S V). w.desks) is) (ap (λ (w : View S V). w.callers) is) (ap (λ (w : View S V). w.marks) is) kept none,
   ap (λ (w : View S V). w.council) is,
@@ -202,11 +202,11 @@ leaves_round {S} {V} {T} old mid p told why unmet undone ends (stops.closes desk
 )
 
 -- nothing happens, or an exchange that none is of is broken off
-passes_none : {S V : Type 0} (view : View S V) → IsKept view → ((caller : CallerView) → IsAt view.callers 0 caller → caller.call ≡ None) → Passes view view
+passes_none : {S V : Type 0} (view : View S V) → IsKept view → ((caller : CallerView) → IsAt view.callers 0 caller → caller.call ≡ None) → PassesHold view view
 passes_none view kept none = record { makes = record { last_proposer = refl; made = sym (append-nil view.marks); may_add = tt; owned = All-nil (λ i. (m : ℕ) → owner_of i ≡ Some m → m ≡ 0); others = λ m other. refl }; kept = kept; last_proposer = refl; none = none }
 
-passes_broken : {S V : Type 0} (old inner middle : View S V) → Passes old inner → middle ≡ stops.broken_off_view inner → Passes old middle
-passes_broken {S} {V} old inner middle passes is = subst (λ (w : View S V). Passes old w) (sym is) (record {
+passes_broken : {S V : Type 0} (old inner middle : View S V) → PassesHold old inner → middle ≡ stops.broken_off_view inner → PassesHold old middle
+passes_broken {S} {V} old inner middle passes is = subst (λ (w : View S V). PassesHold old w) (sym is) (record {
   makes = record { last_proposer = passes.makes.last_proposer; made = passes.makes.made; may_add = passes.makes.may_add; owned = passes.makes.owned; others = others };
   kept = record { places = record { desks = passes.kept.places.desks; callers = passes.kept.places.callers }; staged = passes.kept.staged; wanted = passes.kept.wanted };
   last_proposer = passes.last_proposer;
@@ -222,7 +222,7 @@ pub renew_held : {S V : Type 0} (m : Meaning S V) (key : List ℕ) (proposer mos
     → Held old new (OperatesIn (IsTombstoneMark key) most old new × (HasStep key step.Ages (own_part new 0) ⊎ ((next : ℕ) × HasStep key (step.Renew next) (own_part new 0))))
 renew_held {S} {V} m key proposer most old new has kept by ok = by_case by.renews
   where
-    was : IsStep old key (step.Renew proposer)
+    was : IsStepDue old key (step.Renew proposer)
     was = is_step old key (step.Renew proposer) has
 
     silent : new.council.order ≡ Some (new_order (asked.Collect key))
@@ -266,7 +266,7 @@ pub renew_told : {S V : Type 0} (m : Meaning S V) (key : List ℕ) (proposer mos
     → Held old new (IsToldIn (asked.Collect key) (IsTombstoneMark key) most old new told × IsCollectAnswer key told)
 renew_told {S} {V} m key proposer most old mid new told has kept by said ends = by_case by.renews
   where
-    was : IsStep old key (step.Renew proposer)
+    was : IsStepDue old key (step.Renew proposer)
     was = is_step old key (step.Renew proposer) has
 
     order_of : (what : OpAnswer) (council : Council) → council.order ≡ old.council.order → option_map (told_so what) council.order ≡ Some (told_so what (new_order (asked.Collect key)))

@@ -51,14 +51,14 @@ use Rattle.cas_board_steps.specs.Calls.Open.{rounds_in, is_met_in}
 use Rattle.cas_board_steps.specs.Exchanges.Orders.{new_order, HasOrder, OperatesIn, IsToldIn}
 use Rattle.cas_board_steps.specs.Owners.{owner_of, MayAdd}
 use Rattle.cas_board_steps.specs.OwnParts.{round_part, own_part}
-use Rattle.cas_board_steps.proofs.Collection.Rounds.{Leads, leads_acts, leads_council, makes_led, kept_led, none_rescanned, Reaches, reaches_over, asks_there, tombstone_held, stops_held, such_marks}
+use Rattle.cas_board_steps.proofs.Collection.Rounds.{LeadsOperator, leads_acts, leads_council, makes_led, kept_led, none_rescanned, ReachesEnd, reaches_over, asks_there, tombstone_held, stops_held, such_marks}
 use Rattle.cas_board_steps.proofs.Collection.Collecting.{IsSettingTombstone, is_setting_tombstone, has_tombstone, IsKeeping, is_keeping}
 use Rattle.cas_board_steps.proofs.Collection.Steps.{stopped_held, no_call_at}
-use Rattle.cas_board_steps.proofs.Exchanges.Councils.{IsOrdered, is_ordered}
+use Rattle.cas_board_steps.proofs.Exchanges.Councils.{IsOrderedOnBoard, is_ordered}
 use Rattle.cas_board_steps.proofs.Calls.Events.{CallBegins, CallGoesOn, CallIsOver, over_where_told, count_unmet, first_begins, again_goes_on, turn_goes_on, refused_turn_goes_on, propose_goes_on, count_is_over, told_in}
 use Rattle.cas_board_steps.proofs.Fronts.{mine_own, wanted_append}
 use Rattle.cas_board_steps.proofs.Calls.Holds.{Held, over_at_once}
-use Rattle.cas_board_steps.proofs.Exchanges.Operating.{Leaves, leaves_desks, leaves_others}
+use Rattle.cas_board_steps.proofs.Exchanges.Operating.{LeavesOtherCalls, leaves_desks, leaves_others}
 use Rattle.cas_board_steps.proofs.Parts.{rounds_part, met_part}
 use Rattle.cas_board_steps.proofs.Calls.Stages.{next_at, desk_of, running_call, runs_there, unmet_there, turn_running, proposed_running, propose_met, met_told, waits_there, as_turn, as_refusal}
 use Rattle.cas_board_steps.proofs.Calls.Tries.{tombstone_within}
@@ -136,10 +136,11 @@ wanted_begun number key old more asks = wanted_append 0 None old (kinds.Begun 0 
 
 -- by what its beginning does
 data BeginsTombstone {S V : Type 0} (m : Meaning S V) (key : List ℕ) (old new : View S V) : Type 0 where
-  refuses : Leaves old new [] → (said : OpAnswer) → new.council.order ≡ Some (told_so said (new_order (asked.Collect key))) → IsCollectAnswer key said → rescanned_of new.council.plan ≡ rescanned_of old.council.plan → BeginsTombstone m key old new
+  refuses : LeavesOtherCalls old new [] → (said : OpAnswer) → new.council.order ≡ Some (told_so said (new_order (asked.Collect key))) → IsCollectAnswer key said
+      → rescanned_of new.council.plan ≡ rescanned_of old.council.plan → BeginsTombstone m key old new
   begins : (caller : CallerView) → IsAt old.callers 0 caller → (middle : View S V) → CallBegins 0 0 old middle (suc caller.number) key keep_always → (council : Council) → new ≡ record middle { council = council } → CollectsAt key step.Round 0 council → council.exchange ≡ None → old.council.plan ≡ None → BeginsTombstone m key old new
 
-begins_tombstone : {S V : Type 0} (m : Meaning S V) (key : List ℕ) (old new : View S V) → IsOrdered old (asked.Collect key) → StepBeginCollect m (λ before after. StepBegin m before 0 key keep_always after) old key new → BeginsTombstone m key old new
+begins_tombstone : {S V : Type 0} (m : Meaning S V) (key : List ℕ) (old new : View S V) → IsOrderedOnBoard old (asked.Collect key) → StepBeginCollect m (λ before after. StepBegin m before 0 key keep_always after) old key new → BeginsTombstone m key old new
 begins_tombstone {S} {V} m key old new was by = by_case by.begins
   where
     told_order : (said : OpAnswer) (council : Council) → council.order ≡ old.council.order → option_map (told_so said) council.order ≡ Some (told_so said (new_order (asked.Collect key)))
@@ -169,7 +170,7 @@ pub begun_held : {S V : Type 0} (m : Meaning S V) (key : List ℕ) (call most : 
     → Held old new (OperatesIn (IsTombstoneMark key) most old new × HasTombstoneCall key call (own_part new 0) new.marks)
 begun_held {S} {V} m key call most old new next has kept by round = by_case (begins_tombstone m key old new was by)
   where
-    was : IsOrdered old (asked.Collect key)
+    was : IsOrderedOnBoard old (asked.Collect key)
     was = is_ordered old (asked.Collect key) has
 
     by_case : BeginsTombstone m key old new → Held old new (OperatesIn (IsTombstoneMark key) most old new × HasTombstoneCall key call (own_part new 0) new.marks)
@@ -179,7 +180,7 @@ begun_held {S} {V} m key call most old new next has kept by round = by_case (beg
         let number : suc caller.number ≡ call = ap (λ (c : CallerView). suc c.number) (at_one old.callers 0 at_old there.at_caller) ∙ there.number in
         let now : CallerView = record { number = suc caller.number; call = Some b.next } in
         let all : List Mark = kinds.Begun 0 (suc caller.number) key keep_always ∷ b.more in
-        let leads : Leads old new all = leads_council old middle new all council (leads_acts old middle all b.acts) is in
+        let leads : LeadsOperator old new all = leads_council old middle new all council (leads_acts old middle all b.acts) is in
         let only = begun_marks (suc caller.number) key b.more b.fine.only in
         let at_next : IsAt new.callers 0 now = subst (λ (w : View S V). IsAt w.callers 0 now) (sym is) b.at_next in
         let wanted : wanted_by 0 new.marks ≡ Some (wants (suc caller.number) key keep_always) = ap (wanted_by 0) leads.made ∙ wanted_begun (suc caller.number) key old.marks b.more b.fine.asks in
@@ -208,7 +209,7 @@ pub refused_tombstone : {S V : Type 0} (m : Meaning S V) (key : List ℕ) (call 
 refused_tombstone {S} {V} m key call old new told kept has by (is_refused none_old none_new was leaves) = collecting_.not_begun leaves was
 refused_tombstone {S} {V} m key call old new told kept has by (is_told said is undone fresh was is_it) = by_case (begins_tombstone m key old new ordered by)
   where
-    ordered : IsOrdered old (asked.Collect key)
+    ordered : IsOrderedOnBoard old (asked.Collect key)
     ordered = is_ordered old (asked.Collect key) has
 
     by_case : BeginsTombstone m key old new → IsRefusedTombstone new call told
@@ -224,7 +225,7 @@ no_conflict_where : {S V : Type 0} (view : View S V) (call : ℕ) (said : Answer
 no_conflict_where view call said was caller one at is unmet = ap told_conflict (sym (told_in view 0 call said was caller one at is)) ∙ unmet
 
 -- the call that was begun is told something at once
-reaches_begun : {S V : Type 0} (key : List ℕ) (call most : ℕ) (old middle mid : View S V) (caller : CallerView) (council : Council) (said : Answer) → suc caller.number ≡ call → (b : CallBegins 0 0 old middle (suc caller.number) key keep_always) → mid ≡ record middle { council = council } → WasTold mid 0 call said → Reaches key call most old mid
+reaches_begun : {S V : Type 0} (key : List ℕ) (call most : ℕ) (old middle mid : View S V) (caller : CallerView) (council : Council) (said : Answer) → suc caller.number ≡ call → (b : CallBegins 0 0 old middle (suc caller.number) key keep_always) → mid ≡ record middle { council = council } → WasTold mid 0 call said → ReachesEnd key call most old mid
 reaches_begun {S} {V} key call most old middle mid caller council said number b is was =
     let all : List Mark = kinds.Begun 0 (suc caller.number) key keep_always ∷ b.more in
     let at_middle : IsAt middle.callers 0 was.caller = subst (λ (l : List CallerView). IsAt l 0 was.caller) (ap (λ (w : View S V). w.callers) is) was.at_caller in
@@ -245,7 +246,7 @@ pub refusal_held : {S V : Type 0} (m : Meaning S V) (key : List ℕ) (call most 
     → Held old new (IsToldIn (asked.Collect key) (IsTombstoneMark key) most old new told × IsCollectAnswer key told)
 refusal_held {S} {V} m key call most old mid new told next has kept by not ends = by_case not (begins_tombstone m key old mid was by)
   where
-    was : IsOrdered old (asked.Collect key)
+    was : IsOrderedOnBoard old (asked.Collect key)
     was = is_ordered old (asked.Collect key) has
 
     Answered : Type 0
@@ -560,7 +561,7 @@ keeps_within tries rounds own now same more w = record { counted = same ∙ w.co
 pub begun_within : {S V : Type 0} (m : Meaning S V) (key : List ℕ) (call tries : ℕ) (old new : View S V) → HasOrder (asked.Collect key) (own_part old 0) → StepBeginCollect m (λ before after. StepBegin m before 0 key keep_always after) old key new → HasCollected new call key → 1 ≤ tries → HasRoundsWithin tries 1 (own_part new 0)
 begun_within {S} {V} m key call tries old new has by round some = by_case (begins_tombstone m key old new was by)
   where
-    was : IsOrdered old (asked.Collect key)
+    was : IsOrderedOnBoard old (asked.Collect key)
     was = is_ordered old (asked.Collect key) has
 
     by_case : BeginsTombstone m key old new → HasRoundsWithin tries 1 (own_part new 0)

@@ -26,7 +26,7 @@ use Rattle.cas_board_steps.specs.Exchanges.Orders.{new_order, OperatesIn}
 use Rattle.cas_board_steps.specs.Owners.{owner_of}
 use Rattle.cas_board_steps.specs.OwnParts.{own_part}
 use Rattle.cas_board_steps.proofs.Calls.Acts.{spares_set, spares_rounds}
-use Rattle.cas_board_steps.proofs.Collection.Rounds.{Leads, leads_council, leads_then, makes_led, kept_led, none_kept, none_rescanned, reaches_over, ends_last, only_ended, such_ended, few_ended}
+use Rattle.cas_board_steps.proofs.Collection.Rounds.{LeadsOperator, leads_council, leads_then, makes_led, kept_led, none_kept, none_rescanned, reaches_over, ends_last, only_ended, such_ended, few_ended}
 use Rattle.cas_board_steps.proofs.Collection.Collecting.{is_setting_tombstone, has_step}
 use Rattle.cas_board_steps.proofs.Collection.Steps.{none_counted}
 use Rattle.cas_board_steps.proofs.Calls.Events.{count_is_over}
@@ -51,7 +51,7 @@ read_held {S} {V} m key call most old new has kept by =
     let is = is_setting_tombstone old key call old.marks has in
     let next : CallerView = record by.of_call.caller { call = None } in
     let callers : new.callers ≡ slice_set old.callers 0 next = ap (λ (w : View S V). w.callers) by.view in
-    let leads : Leads old new [] = record {
+    let leads : LeadsOperator old new [] = record {
       last_proposer = ap (λ (w : View S V). w.last_proposer) by.view;
       desks = spares_rounds 0 old.desks new.desks (spares_set 0 old.desks new.desks by.now (ap (λ (w : View S V). w.desks) by.view));
       callers = spares_set 0 old.callers new.callers next callers;
@@ -134,15 +134,15 @@ done_held {S} {V} m key call most old mid new told has kept done counts by =
     let at = c.counts.at_round.of_call in
     let over = count_is_over m 0 most old c.middle c.counts in
     let reaches = reaches_over key call most old c.middle at.caller at.call (ap (λ (k : CallerView). k.number) (at_one old.callers 0 at.at_caller is.at_caller) ∙ is.number) over in
-    let to_mid : Leads old mid reaches.marks = leads_council old c.middle mid reaches.marks _ reaches.leads c.view in
+    let to_mid : LeadsOperator old mid reaches.marks = leads_council old c.middle mid reaches.marks _ reaches.leads c.view in
     let ends = ends_last m told mid by.middle by.ends in
     let rounds : ℕ = by.ends.of_call.call.rounds in
     let there : IsAt mid.callers 0 reaches.caller = subst (λ (w : View S V). IsAt w.callers 0 reaches.caller) (sym c.view) reaches.at_caller in
     let number : by.ends.of_call.caller.number ≡ call = ap (λ (k : CallerView). k.number) (at_one mid.callers 0 by.ends.of_call.at_caller there) ∙ reaches.number in
     let ended : List Mark = kinds.Ended 0 call rounds told ∷ [] in
-    let leads_end : Leads mid by.middle ended = subst (λ (k : ℕ). Leads mid by.middle (kinds.Ended 0 k rounds told ∷ [])) number ends.leads in
+    let leads_end : LeadsOperator mid by.middle ended = subst (λ (k : ℕ). LeadsOperator mid by.middle (kinds.Ended 0 k rounds told ∷ [])) number ends.leads in
     let all : List Mark = reaches.marks ++ ended in
-    let leads : Leads old new all = leads_council old by.middle new all _ (leads_then old mid by.middle reaches.marks ended to_mid leads_end) by.view in
+    let leads : LeadsOperator old new all = leads_council old by.middle new all _ (leads_then old mid by.middle reaches.marks ended to_mid leads_end) by.view in
     let only : OnlyOwnedBy owner_of 0 all = All-append (λ i. (k : ℕ) → owner_of i ≡ Some k → k ≡ 0) reaches.marks ended reaches.only (only_ended call rounds told) in
     let none : (one : CallerView) → IsAt new.callers 0 one → one.call ≡ None = λ one here. ends.none one (subst (λ (l : List CallerView). IsAt l 0 one) (ap (λ (w : View S V). w.callers) by.view) here) in
     let first_council : c.middle.council ≡ old.council = over.goes.acts.council in

@@ -58,12 +58,12 @@ refused_was_told view call refusal (not_begun leaves was) is_left = was
 refused_was_told view call refusal (begun said is leaves undone was calling) is_left = absurd (cc (leaves, is_left))
 
 -- its call was begun, and was told that
-pub record WasBegun {S V : Type 0} (view : View S V) (call : ℕ) (said : Answer) : Type 0 where
+pub record WasBegunAndTold {S V : Type 0} (view : View S V) (call : ℕ) (said : Answer) : Type 0 where
   pub undone : is_done said ≡ false
   pub was : WasTold view 0 call said
   pub calling : IsCollectingCall view
 
-pub refused_was_begun : {S V : Type 0} (view : View S V) (call : ℕ) (refusal : OpAnswer) (said : Answer) → refusal ≡ op.Stopped said → IsRefusedTombstone view call refusal → leaves_no_call (op.Stopped said) ≡ false → WasBegun view call said
+pub refused_was_begun : {S V : Type 0} (view : View S V) (call : ℕ) (refusal : OpAnswer) (said : Answer) → refusal ≡ op.Stopped said → IsRefusedTombstone view call refusal → leaves_no_call (op.Stopped said) ≡ false → WasBegunAndTold view call said
 refused_was_begun view call refusal said is (not_begun leaves was) is_kept = absurd (cc (sym (ap leaves_no_call is) ∙ leaves, is_kept))
 refused_was_begun view call refusal said is (begun other is_other leaves undone was calling) is_kept =
     let same : other ≡ said = cc (sym is_other ∙ is) in

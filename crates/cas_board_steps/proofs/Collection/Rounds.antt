@@ -37,7 +37,7 @@ use Rattle.cas_board_steps.proofs.Eras.Counting.{lasts_told}
 use Rattle.cas_board_steps.proofs.Calls.Events.{CallGoesOn, CallIsOver}
 use Rattle.cas_board_steps.proofs.Fronts.{mine_append, mine_own, wanted_append}
 use Rattle.cas_board_steps.proofs.Calls.Holds.{Held}
-use Rattle.cas_board_steps.proofs.Exchanges.Operating.{Leaves, tells_of, told_only}
+use Rattle.cas_board_steps.proofs.Exchanges.Operating.{LeavesOtherCalls, tells_of, told_only}
 use Rattle.cas_board_steps.proofs.Parts.{rounds_part}
 
 -- ---- marks
@@ -118,19 +118,19 @@ module _ (n number rounds : ℕ) (told : Answer) (asks : Asked) (tells : OpAnswe
   may_tell (mark ∷ l) may = (may_follow mark l may.0, may_tell l may.1)
 
 -- ---- a call on the world for caller 0, whatever becomes of what the operator has under way
-pub record Leads {S V : Type 0} (old new : View S V) (made_ : List Mark) : Type 0 where
+pub record LeadsOperator {S V : Type 0} (old new : View S V) (made_ : List Mark) : Type 0 where
   pub last_proposer : new.last_proposer ≡ old.last_proposer
   pub desks : SparesRounds 0 old.desks new.desks
   pub callers : Spares 0 old.callers new.callers
   pub made : new.marks ≡ old.marks ++ made_
 
-pub leads_acts : {S V : Type 0} (old new : View S V) (l : List Mark) → Acts 0 old new l → Leads old new l
+pub leads_acts : {S V : Type 0} (old new : View S V) (l : List Mark) → Acts 0 old new l → LeadsOperator old new l
 leads_acts old new l acts = record { last_proposer = acts.last_proposer; desks = acts.desks; callers = acts.callers; made = acts.made }
 
-pub leads_leaves : {S V : Type 0} (old new : View S V) (l : List Mark) → Leaves old new l → Leads old new l
+pub leads_leaves : {S V : Type 0} (old new : View S V) (l : List Mark) → LeavesOtherCalls old new l → LeadsOperator old new l
 leads_leaves old new l leaves = record { last_proposer = leaves.last_proposer; desks = leaves.desks; callers = spares_same 0 old.callers new.callers leaves.callers; made = leaves.made }
 
-pub leads_then : {S V : Type 0} (a b c : View S V) (l more : List Mark) → Leads a b l → Leads b c more → Leads a c (l ++ more)
+pub leads_then : {S V : Type 0} (a b c : View S V) (l more : List Mark) → LeadsOperator a b l → LeadsOperator b c more → LeadsOperator a c (l ++ more)
 leads_then a b c l more first then_ = record {
   last_proposer = then_.last_proposer ∙ first.last_proposer;
   desks = rounds_then 0 a.desks b.desks c.desks first.desks then_.desks;
@@ -139,20 +139,20 @@ leads_then a b c l more first then_ = record {
 }
 
 -- with another council beside
-pub leads_council : {S V : Type 0} (old mid new : View S V) (l : List Mark) (council : Council) → Leads old mid l → new ≡ record mid { council = council } → Leads old new l
-leads_council {S} {V} old mid new l council leads is = subst (λ (w : View S V). Leads old w l) (sym is) (record { last_proposer = leads.last_proposer; desks = leads.desks; callers = leads.callers; made = leads.made })
+pub leads_council : {S V : Type 0} (old mid new : View S V) (l : List Mark) (council : Council) → LeadsOperator old mid l → new ≡ record mid { council = council } → LeadsOperator old new l
+leads_council {S} {V} old mid new l council leads is = subst (λ (w : View S V). LeadsOperator old w l) (sym is) (record { last_proposer = leads.last_proposer; desks = leads.desks; callers = leads.callers; made = leads.made })
 
-leads_by : {S V : Type 0} (old new : View S V) (l : List Mark) → Leads old new l → Acts 0 (record old { council = new.council }) new l
+leads_by : {S V : Type 0} (old new : View S V) (l : List Mark) → LeadsOperator old new l → Acts 0 (record old { council = new.council }) new l
 leads_by old new l leads = record { last_proposer = leads.last_proposer; desks = leads.desks; callers = leads.callers; council = refl; made = leads.made }
 
-pub makes_led : {S V : Type 0} (old new : View S V) (l : List Mark) → Leads old new l → MayAdd l → OnlyOwnedBy owner_of 0 l → Makes 0 old new l
+pub makes_led : {S V : Type 0} (old new : View S V) (l : List Mark) → LeadsOperator old new l → MayAdd l → OnlyOwnedBy owner_of 0 l → Makes 0 old new l
 makes_led {S} {V} old new l leads may only = record { last_proposer = leads.last_proposer; made = leads.made; may_add = may; owned = only; others = others }
   where
     others : (m : ℕ) → m ≢ 0 → own_part new m ≡ own_part old m
     others zero other = absurd (other refl)
     others (suc m) other = (makes_of 0 (record old { council = new.council }) new l (leads_by old new l leads) may only).others (suc m) other
 
-pub kept_led : {S V : Type 0} (old new : View S V) (l : List Mark) → Leads old new l → OnlyOwnedBy owner_of 0 l → IsKept old → OwnKept 0 new → IsKept new
+pub kept_led : {S V : Type 0} (old new : View S V) (l : List Mark) → LeadsOperator old new l → OnlyOwnedBy owner_of 0 l → IsKept old → OwnKept 0 new → IsKept new
 kept_led old new l leads only kept own =
     kept_by 0 (record old { council = new.council }) new l (leads_by old new l leads) only (record { places = record { desks = kept.places.desks; callers = kept.places.callers }; staged = kept.staged; wanted = kept.wanted }) own
 
@@ -164,9 +164,9 @@ none_kept view none = record {
 
 -- ---- the call has come so far
 -- it was told something, or goes on: which marks were made, and that its end may be marked behind them
-pub record Reaches {S V : Type 0} (key : List ℕ) (call most : ℕ) (old mid : View S V) : Type 0 where
+pub record ReachesEnd {S V : Type 0} (key : List ℕ) (call most : ℕ) (old mid : View S V) : Type 0 where
   pub marks : List Mark
-  pub leads : Leads old mid marks
+  pub leads : LeadsOperator old mid marks
   pub only : OnlyOwnedBy owner_of 0 marks
   pub such : All (IsTombstoneMark key) (mine 0 marks)
   pub few : losses (mine 0 marks) ≤ most
@@ -178,7 +178,7 @@ pub record Reaches {S V : Type 0} (key : List ℕ) (call most : ℕ) (old mid : 
 -- ---- its end
 -- the call of the caller ends
 pub record EndsLast {S V : Type 0} (old new : View S V) (caller : CallerView) (rounds : ℕ) (told : Answer) : Type 0 where
-  pub leads : Leads old new (kinds.Ended 0 caller.number rounds told ∷ [])
+  pub leads : LeadsOperator old new (kinds.Ended 0 caller.number rounds told ∷ [])
   pub none : (one : CallerView) → IsAt new.callers 0 one → one.call ≡ None
 
 pub ends_last : {S V : Type 0} (m : Meaning S V) (told : Answer) (old new : View S V) (by : StepEnd m old 0 told new) → EndsLast old new by.of_call.caller by.of_call.call.rounds told
@@ -230,18 +230,18 @@ none_rescanned key told old council none (calls.stops of undone same) = absurd (
 none_rescanned key told old council none (calls.is_none not same) = same
 
 -- it ends, and the operator is told that it stopped
-pub stops_held : {S V : Type 0} (such : Mark → Type 0) (m : Meaning S V) (key : List ℕ) (call most : ℕ) (old mid new : View S V) (told : Answer) → ((mark : Mark) → IsTombstoneMark key mark → such mark) → (EntersEras such → ⊥) → such (kinds.Ended 0 call (rounds_in (own_part mid 0)) told) → Reaches key call most old mid → ((order : OrderView) → mid.council.order ≡ Some order → order.asked ≡ asked.Collect key) → old.council.plan ≡ None → mid.council.plan ≡ None → is_done told ≡ false → IsKept old → Stops m mid told new
+pub stops_held : {S V : Type 0} (such : Mark → Type 0) (m : Meaning S V) (key : List ℕ) (call most : ℕ) (old mid new : View S V) (told : Answer) → ((mark : Mark) → IsTombstoneMark key mark → such mark) → (EntersEras such → ⊥) → such (kinds.Ended 0 call (rounds_in (own_part mid 0)) told) → ReachesEnd key call most old mid → ((order : OrderView) → mid.council.order ≡ Some order → order.asked ≡ asked.Collect key) → old.council.plan ≡ None → mid.council.plan ≡ None → is_done told ≡ false → IsKept old → Stops m mid told new
     → Held old new (IsToldIn (asked.Collect key) such most old new (op.Stopped told) × IsCollectAnswer key (op.Stopped told))
 stops_held {S} {V} such m key call most old mid new told weaker not_entering last reaches asks none_old none_mid undone kept (after, by, tells) =
     let ends = ends_last m told mid by.middle by.ends in
     let rounds : ℕ = by.ends.of_call.call.rounds in
     let number : by.ends.of_call.caller.number ≡ call = ap (λ (c : CallerView). c.number) (at_one mid.callers 0 by.ends.of_call.at_caller reaches.at_caller) ∙ reaches.number in
     let ended : List Mark = kinds.Ended 0 call rounds told ∷ [] in
-    let leads_end : Leads mid by.middle ended = subst (λ (k : ℕ). Leads mid by.middle (kinds.Ended 0 k rounds told ∷ [])) number ends.leads in
-    let to_after : Leads old after (reaches.marks ++ ended) = leads_council old by.middle after (reaches.marks ++ ended) _ (leads_then old mid by.middle reaches.marks ended reaches.leads leads_end) by.view in
+    let leads_end : LeadsOperator mid by.middle ended = subst (λ (k : ℕ). LeadsOperator mid by.middle (kinds.Ended 0 k rounds told ∷ [])) number ends.leads in
+    let to_after : LeadsOperator old after (reaches.marks ++ ended) = leads_council old by.middle after (reaches.marks ++ ended) _ (leads_then old mid by.middle reaches.marks ended reaches.leads leads_end) by.view in
     let t = tells_of after new (asked.Collect key) (op.Stopped told) (record by.is.at.order { told = stopped_by told }) (ap (λ (w : View S V). w.council.order) by.view) (asks by.is.at.order by.is.at.is_open) tells in
     let all : List Mark = (reaches.marks ++ ended) ++ told_marks (asked.Collect key) (op.Stopped told) in
-    let leads : Leads old new all = leads_then old after new (reaches.marks ++ ended) (told_marks (asked.Collect key) (op.Stopped told)) to_after (leads_leaves after new (told_marks (asked.Collect key) (op.Stopped told)) t.leaves) in
+    let leads : LeadsOperator old new all = leads_then old after new (reaches.marks ++ ended) (told_marks (asked.Collect key) (op.Stopped told)) to_after (leads_leaves after new (told_marks (asked.Collect key) (op.Stopped told)) t.leaves) in
     let only : OnlyOwnedBy owner_of 0 all = All-append (λ i. (k : ℕ) → owner_of i ≡ Some k → k ≡ 0) (reaches.marks ++ ended) (told_marks (asked.Collect key) (op.Stopped told)) (All-append (λ i. (k : ℕ) → owner_of i ≡ Some k → k ≡ 0) reaches.marks ended reaches.only (only_ended call rounds told)) (told_only (asked.Collect key) (op.Stopped told)) in
     let may : MayAdd all = may_tell 0 call rounds told (asked.Collect key) (op.Stopped told) reaches.marks (reaches.may_end rounds told) in
     let none : (one : CallerView) → IsAt new.callers 0 one → one.call ≡ None = λ one at. ends.none one (subst (λ (l : List CallerView). IsAt l 0 one) (ap (λ (w : View S V). w.callers) by.view) (subst (λ (l : List CallerView). IsAt l 0 one) t.leaves.callers at)) in
@@ -266,7 +266,7 @@ stops_held {S} {V} such m key call most old mid new told weaker not_entering las
 
 -- ---- a step of its open call
 -- by what a step of its call does
-pub reaches_over : {S V : Type 0} (key : List ℕ) (call most : ℕ) (old mid : View S V) (caller : CallerView) (was : CallView) → caller.number ≡ call → CallIsOver 0 most old mid caller was → Reaches key call most old mid
+pub reaches_over : {S V : Type 0} (key : List ℕ) (call most : ℕ) (old mid : View S V) (caller : CallerView) (was : CallView) → caller.number ≡ call → CallIsOver 0 most old mid caller was → ReachesEnd key call most old mid
 reaches_over key call most old mid caller was number over = record {
   marks = over.goes.marks;
   leads = leads_acts old mid over.goes.marks over.goes.acts;
@@ -288,7 +288,7 @@ pub tombstone_held : {S V : Type 0} (key : List ℕ) (call most : ℕ) (old mid 
     → old.council.plan ≡ None → IsKeeping was key → wanted_by 0 old.marks ≡ Some (wants call key keep_always) → ((desk : DeskView V) → IsAt mid.desks 0 desk → IsStaged desk goes.next) → IsKept old → Held old new (OperatesIn (IsTombstoneMark key) most old new × HasTombstoneCall key call (own_part new 0) new.marks)
 tombstone_held {S} {V} key call most old mid new caller was council number goes is at none_asked none_old keeping wanted staged kept =
     let next : CallerView = record caller { call = Some goes.next } in
-    let leads : Leads old new goes.marks = leads_council old mid new goes.marks council (leads_acts old mid goes.marks goes.acts) is in
+    let leads : LeadsOperator old new goes.marks = leads_council old mid new goes.marks council (leads_acts old mid goes.marks goes.acts) is in
     let at_next : IsAt new.callers 0 next = subst (λ (w : View S V). IsAt w.callers 0 next) (sym is) goes.at_next in
     let wanted_now : wanted_by 0 new.marks ≡ Some (wants call key keep_always) = ap (wanted_by 0) leads.made ∙ wanted_append 0 None old.marks goes.marks ∙ goes.fine.asks (wanted_by 0 old.marks) ∙ wanted in
     let at_now : CollectsAt key step.Round 0 new.council = subst (λ (w : View S V). CollectsAt key step.Round 0 w.council) (sym is) at in

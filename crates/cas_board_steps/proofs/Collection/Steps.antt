@@ -44,11 +44,11 @@ use Rattle.cas_board_steps.specs.Mine.{mine}
 use Rattle.cas_board_steps.specs.Exchanges.Orders.{new_order, OperatesIn, IsToldIn, IsAskingHarm}
 use Rattle.cas_board_steps.specs.OwnParts.{harms_part, round_part, own_part}
 use Rattle.cas_board_steps.specs.Calls.Stages.{front_of}
-use Rattle.cas_board_steps.proofs.Collection.Collecting.{IsStep, has_step, is_step, IsAsked, has_question, is_asked}
+use Rattle.cas_board_steps.proofs.Collection.Collecting.{IsStepDue, has_step, is_step, IsStepAsked, has_question, is_asked}
 use Rattle.cas_board_steps.proofs.Eras.Counting.{lasts_told}
 use Rattle.cas_board_steps.proofs.Calls.Events.{only_one}
 use Rattle.cas_board_steps.proofs.Calls.Holds.{Held}
-use Rattle.cas_board_steps.proofs.Exchanges.Operating.{Leaves, leaves_desks, none_then, makes_by, kept_then, silently, operates, tells_in, turns_asking, own_kept, refuses_asking, refusal_planned, says_same, turns_planned, was_told_so}
+use Rattle.cas_board_steps.proofs.Exchanges.Operating.{LeavesOtherCalls, leaves_desks, none_then, makes_by, kept_then, silently, operates, tells_in, turns_asking, own_kept, refuses_asking, refusal_planned, says_same, turns_planned, was_told_so}
 use Rattle.cas_board_steps.proofs.Calls.Stages.{some_waits, none_waits}
 
 -- ---- marks
@@ -98,7 +98,7 @@ steps_on key due next council now at order collection then_ is_order is_collecti
     }
 
 -- a hold that makes none of the operator's marks, after which a step is due
-pub step_held : {S V : Type 0} (key : List ℕ) (most : ℕ) (next : CollectStep) (old new : View S V) → Leaves old new [] → IsKept old → ((caller : CallerView) → IsAt old.callers 0 caller → caller.call ≡ None) → CollectsAt key next 2 new.council → new.council.exchange ≡ None
+pub step_held : {S V : Type 0} (key : List ℕ) (most : ℕ) (next : CollectStep) (old new : View S V) → LeavesOtherCalls old new [] → IsKept old → ((caller : CallerView) → IsAt old.callers 0 caller → caller.call ≡ None) → CollectsAt key next 2 new.council → new.council.exchange ≡ None
     → rescanned_of new.council.plan ≡ rescanned_of old.council.plan → Held old new (OperatesIn (IsTombstoneMark key) most old new × HasStep key next (own_part new 0))
 step_held key most next old new leaves kept none at exchange planned =
     let held = silently old new leaves kept none in
@@ -121,7 +121,7 @@ answers_same key (op.Refused fault) told is same = absurd is
 
 -- a call on the world leaves all callers' calls, and the operator is told such an answer
 pub record StopsSo {S V : Type 0} (old mid : View S V) (key : List ℕ) : Type 0 where
-  pub leaves : Leaves old mid []
+  pub leaves : LeavesOtherCalls old mid []
   pub said : OpAnswer
   pub order : mid.council.order ≡ Some (told_so said (new_order (asked.Collect key)))
   pub answers : IsCollectAnswer key said
@@ -168,10 +168,10 @@ as_round {S} {V} m old new none by = subst (λ (e : steps.Event). Step m old e n
 
 -- it goes on, or the operator is told why not
 data GoesOrStops {S V : Type 0} (key : List ℕ) (next : CollectStep) (old new : View S V) : Type 0 where
-  goes : Leaves old new [] → CollectsAt key next 2 new.council → new.council.exchange ≡ None → rescanned_of new.council.plan ≡ rescanned_of old.council.plan → GoesOrStops key next old new
+  goes : LeavesOtherCalls old new [] → CollectsAt key next 2 new.council → new.council.exchange ≡ None → rescanned_of new.council.plan ≡ rescanned_of old.council.plan → GoesOrStops key next old new
   stops : StopsSo old new key → GoesOrStops key next old new
 
-round_goes : {S V : Type 0} (old new : View S V) (key : List ℕ) → IsStep old key step.Round → StepGatherRound old new → GoesOrStops key (step.Renew 0) old new
+round_goes : {S V : Type 0} (old new : View S V) (key : List ℕ) → IsStepDue old key step.Round → StepGatherRound old new → GoesOrStops key (step.Renew 0) old new
 round_goes {S} {V} old new key was by = by_case by.gathers
   where
     by_case : GathersRound old by.at new → GoesOrStops key (step.Renew 0) old new
@@ -224,7 +224,7 @@ pub may_ask : {S V : Type 0} (view : View S V) (key : List ℕ) (due : CollectSt
 may_ask view key due kept has = let is = is_step view key due has in record { collection = is.at.collection; is_collection = is.at.is_collection; is_due = is.at.is_due; none_open = is.none_asked; idle = no_call_at view kept is.no_call }
 
 data AsksOrStops {S V : Type 0} (key : List ℕ) (due : CollectStep) (old new : View S V) : Type 0 where
-  asks : Leaves old new [] → CollectsAt key due 2 new.council → (exchange : ExchangeView) → new.council.exchange ≡ Some exchange → is_of_collection exchange.question ≡ true → AsksOrStops key due old new
+  asks : LeavesOtherCalls old new [] → CollectsAt key due 2 new.council → (exchange : ExchangeView) → new.council.exchange ≡ Some exchange → is_of_collection exchange.question ≡ true → AsksOrStops key due old new
   stops_asking : StopsSo old new key → new.council.exchange ≡ None → AsksOrStops key due old new
 
 of_question : (collection : CollectionView) (question : Question) → IsQuestionOf collection question → is_of_collection question ≡ true
@@ -234,7 +234,7 @@ of_question collection question (collect.removes due is) = ap is_of_collection i
 same_council : (key : List ℕ) (due : CollectStep) (council now : Council) → CollectsAt key due 2 council → now.order ≡ council.order → now.plan ≡ council.plan → now.collection ≡ council.collection → CollectsAt key due 2 now
 same_council key due council now at order plan collection = record { order = order ∙ at.order; none_planned = plan ∙ at.none_planned; collection = at.collection; is_collection = collection ∙ at.is_collection; is_due = at.is_due; same_key = at.same_key; round_is = at.round_is }
 
-asks_or_not : {S V : Type 0} (m : Meaning S V) (key : List ℕ) (due : CollectStep) (old new : View S V) → IsStep old key due → StepAskCollect m old new → AsksOrStops key due old new
+asks_or_not : {S V : Type 0} (m : Meaning S V) (key : List ℕ) (due : CollectStep) (old new : View S V) → IsStepDue old key due → StepAskCollect m old new → AsksOrStops key due old new
 asks_or_not {S} {V} m key due old new was by = by_case by.asks
   where
     by_case : AsksCollect m old by.may.at by.desk new → AsksOrStops key due old new
@@ -247,7 +247,7 @@ asks_or_not {S} {V} m key due old new was by = by_case by.asks
 pub ask_held : {S V : Type 0} (m : Meaning S V) (key : List ℕ) (due : CollectStep) (most : ℕ) (old new : View S V) → HasStep key due (own_part old 0) → IsKept old → StepAskCollect m old new → IsSome new.council.exchange → Held old new (OperatesIn (IsTombstoneMark key) most old new × HasQuestion key due (own_part new 0))
 ask_held {S} {V} m key due most old new has kept by some = by_case (asks_or_not m key due old new was by)
   where
-    was : IsStep old key due
+    was : IsStepDue old key due
     was = is_step old key due has
 
     by_case : AsksOrStops key due old new → Held old new (OperatesIn (IsTombstoneMark key) most old new × HasQuestion key due (own_part new 0))
@@ -260,7 +260,7 @@ pub ask_told : {S V : Type 0} (m : Meaning S V) (key : List ℕ) (due : CollectS
     → Held old new (IsToldIn (asked.Collect key) (IsTombstoneMark key) most old new told × IsCollectAnswer key told)
 ask_told {S} {V} m key due most old mid new told has kept by said ends = by_case (asks_or_not m key due old mid was by)
   where
-    was : IsStep old key due
+    was : IsStepDue old key due
     was = is_step old key due has
 
     by_case : AsksOrStops key due old mid → Held old new (IsToldIn (asked.Collect key) (IsTombstoneMark key) most old new told × IsCollectAnswer key told)
@@ -328,10 +328,10 @@ turn_told {S} {V} m key due most old mid new told is has kept step_ ends =
 pub may_gather : {S V : Type 0} (view : View S V) (key : List ℕ) (due : CollectStep) → HasQuestion key due (own_part view 0) → (queue_at view.flow exchange_place).messages ≡ [] → MayGather view
 may_gather view key due has none = let is = is_asked view key due has in world.collected (record { exchange = is.exchange; is_open = is.is_open; asks = is.of_it; none_waits = none })
 
-as_collect : {S V : Type 0} (m : Meaning S V) (key : List ℕ) (due : CollectStep) (old new : View S V) → IsAsked old key due → Step m old (gathering_of old) new → StepGatherCollect old new
+as_collect : {S V : Type 0} (m : Meaning S V) (key : List ℕ) (due : CollectStep) (old new : View S V) → IsStepAsked old key due → Step m old (gathering_of old) new → StepGatherCollect old new
 as_collect {S} {V} m key due old new was by = subst (λ (e : steps.Event). Step m old e new) (ap gathering_by was.is_open ∙ ap (λ (b : Bool). if b then steps.GatherCollect else steps.Gather) was.of_it) by
 
-gathers_or_not : {S V : Type 0} (key : List ℕ) (due next : CollectStep) (old new : View S V) → ((proposers : ℕ) → step_after proposers due ≡ next) → IsAsked old key due → StepGatherCollect old new → GoesOrStops key next old new
+gathers_or_not : {S V : Type 0} (key : List ℕ) (due next : CollectStep) (old new : View S V) → ((proposers : ℕ) → step_after proposers due ≡ next) → IsStepAsked old key due → StepGatherCollect old new → GoesOrStops key next old new
 gathers_or_not {S} {V} key due next old new after was by = by_case by.gathers
   where
     by_case : GathersCollect old by.at by.of_exchange.exchange new → GoesOrStops key next old new
@@ -342,7 +342,7 @@ gathers_or_not {S} {V} key due next old new after was by = by_case by.gathers
         (ap (λ (w : View S V). w.council.exchange) is) (ap (λ (w : View S V). rescanned_of w.council.plan) is)
     by_case (collect.is_absent acceptor up least is) = stops (stops_so old new _ key due 2 (op.Absent acceptor) was.at is refl refl refl refl refl refl tt)
 
-gathered_now : {S V : Type 0} (key : List ℕ) (due : CollectStep) (old new : View S V) (result : Gathered) → IsAsked old key due → world.HasGathered old result new → new.council.order ≡ Some (new_order (asked.Collect key))
+gathered_now : {S V : Type 0} (key : List ℕ) (due : CollectStep) (old new : View S V) (result : Gathered) → IsStepAsked old key due → world.HasGathered old result new → new.council.order ≡ Some (new_order (asked.Collect key))
 gathered_now key due old new result was ok =
     silent_now key due 2 old.council new.council was.at (gathered_silently old new result ok (λ k x is. ap (λ (e : ExchangeView). is_of_collection e.question) (some_is (sym is ∙ was.is_open)) ∙ was.of_it))
 
@@ -366,7 +366,7 @@ pub floor_held : {S V : Type 0} (key : List ℕ) (most : ℕ) (old new : View S 
 floor_held {S} {V} key most old new has kept by =
     let was = is_step old key step.Floor has in
     let made : List Mark = kinds.Floor by.at.collection.course.key (tomb_of by.at.collection.tombstone) Empty ∷ [] in
-    let leaves : Leaves old new made = leaves_desks old _ new made by.view refl refl refl refl in
+    let leaves : LeavesOtherCalls old new made = leaves_desks old _ new made by.view refl refl refl refl in
     let only = only_one 0 (kinds.Floor by.at.collection.course.key (tomb_of by.at.collection.tombstone) Empty) (λ n e. sym (cc e)) in
     let none = none_then old new made leaves was.no_call in
     let floor_key : by.at.collection.course.key ≡ key = ap (λ (c : CollectionView). c.course.key) (some_is (sym by.at.is_collection ∙ was.at.is_collection)) ∙ was.at.same_key in
@@ -386,7 +386,7 @@ pub collected_all : {S V : Type 0} (m : Meaning S V) (key : List ℕ) (old new :
     → ((c : CollectionView) → new.council.collection ≡ Some c → told ≡ op.Collected key (tomb_of c.tombstone) c.removed c.kept) → HasCollectedAll new told
 collected_all {S} {V} m key old new result told has by ok says = by_case (gathers_or_not key step.Remove step.End old new (λ p. refl) was (as_collect m key step.Remove old new was by))
   where
-    was : IsAsked old key step.Remove
+    was : IsStepAsked old key step.Remove
     was = is_asked old key step.Remove has
 
     by_case : GoesOrStops key step.End old new → HasCollectedAll new told
@@ -402,7 +402,7 @@ pub collected_told : {S V : Type 0} (m : Meaning S V) (key : List ℕ) (most : �
     → Held old new (IsToldIn (asked.Collect key) (IsTombstoneMark key) most old new told × IsCollectAnswer key told)
 collected_told {S} {V} m key most old mid new result told is has kept by ok ends = by_case (gathers_or_not key step.Remove step.End old mid (λ p. refl) was (as_collect m key step.Remove old mid was by))
   where
-    was : IsAsked old key step.Remove
+    was : IsStepAsked old key step.Remove
     was = is_asked old key step.Remove has
 
     by_case : GoesOrStops key step.End old mid → Held old new (IsToldIn (asked.Collect key) (IsTombstoneMark key) most old new told × IsCollectAnswer key told)

@@ -54,9 +54,9 @@ use Rattle.cas_board_steps.specs.Exchanges.Orders.{new_order, HasOrder, Operates
 use Rattle.cas_board_steps.specs.OwnParts.{exchange_part, harms_part, question_part, order_part, plan_part, caller_part, own_part}
 use Rattle.cas_board_steps.proofs.Eras.Counting.{after_same, begun_same, counts_still, end_counts, harms_undone, listed_same, risen_by, told_counts}
 use Rattle.cas_board_steps.proofs.Closing.{ClosesRound, closes_round, kept_marked}
-use Rattle.cas_board_steps.proofs.Exchanges.Councils.{is_ordered, IsOrdered, none_beside, own_is_council, order_told, no_exchange, exchange_told, plan_told, listing_told}
+use Rattle.cas_board_steps.proofs.Exchanges.Councils.{is_ordered, IsOrderedOnBoard, none_beside, own_is_council, order_told, no_exchange, exchange_told, plan_told, listing_told}
 use Rattle.cas_board_steps.proofs.Calls.Holds.{Held}
-use Rattle.cas_board_steps.proofs.Exchanges.Operating.{Leaves, leaves_then, leaves_desks, leaves_others, OwnStep, own_step_then, quiet_own_step, tells_after, tells_in, told_may_add, operates, turns_asking, own_kept, refuses_asking, refusal_planned, says_same, turns_planned, was_told_so}
+use Rattle.cas_board_steps.proofs.Exchanges.Operating.{LeavesOtherCalls, leaves_then, leaves_desks, leaves_others, OwnStep, own_step_then, quiet_own_step, tells_after, tells_in, told_may_add, operates, turns_asking, own_kept, refuses_asking, refusal_planned, says_same, turns_planned, was_told_so}
 use Rattle.cas_board_steps.proofs.Exchanges.Probes.{no_call_at}
 
 -- ---- what its own part tells
@@ -156,18 +156,18 @@ up_already view asked has for_it =
 
 -- the order stays, or was told something that may be told
 record OpensOrTells {S V : Type 0} (old new : View S V) (asked : Asked) : Type 0 where
-  leaves : Leaves old new []
+  leaves : LeavesOtherCalls old new []
   unasked : new.council.exchange ≡ None
   tells : (told : OpAnswer) → WasToldOrder new told → (order : OrderView) × (new.council.order ≡ Some order) × (order.asked ≡ asked) × IsMidway asked told
   planned : rescanned_of new.council.plan ≡ rescanned_of old.council.plan
 
-welcomed : {S V : Type 0} (m : Meaning S V) (old middle : View S V) (asked : Asked) → Welcomes m old asked middle → Leaves old middle [] × (middle.council ≡ old.council)
+welcomed : {S V : Type 0} (m : Meaning S V) (old middle : View S V) (asked : Asked) → Welcomes m old asked middle → LeavesOtherCalls old middle [] × (middle.council ≡ old.council)
 welcomed {S} {V} m old middle asked (plans.starts id acceptor now is_join at starts_ is) = (leaves_desks old _ middle [] is refl refl refl (sym (append-nil old.marks)), ap (λ (w : View S V). w.council) is)
 welcomed {S} {V} m old middle asked (plans.fails id acceptor now is_join at fails_ is) = (leaves_desks old _ middle [] is refl refl refl (sym (append-nil old.marks)), ap (λ (w : View S V). w.council) is)
 welcomed {S} {V} m old middle asked (plans.is_up id acceptor is_join at up is) = (leaves_desks old old middle [] is refl refl refl (sym (append-nil old.marks)), ap (λ (w : View S V). w.council) is)
 welcomed {S} {V} m old middle asked (plans.stays joins_none is) = (leaves_desks old old middle [] is refl refl refl (sym (append-nil old.marks)), ap (λ (w : View S V). w.council) is)
 
-told_then : {S V : Type 0} (old middle new : View S V) (asked : Asked) (said : OpAnswer) → Leaves old middle [] → (middle.council ≡ old.council) → old.council.order ≡ Some (new_order asked) → old.council.exchange ≡ None → new ≡ council.told_view middle said
+told_then : {S V : Type 0} (old middle new : View S V) (asked : Asked) (said : OpAnswer) → LeavesOtherCalls old middle [] → (middle.council ≡ old.council) → old.council.order ≡ Some (new_order asked) → old.council.exchange ≡ None → new ≡ council.told_view middle said
     → ((told : OpAnswer) → SaysTheSame said told → IsMidway asked told) → OpensOrTells old new asked
 told_then {S} {V} old middle new asked said left same order unasked is answers =
     let order_now : new.council.order ≡ Some (told_so said (new_order asked)) = ap (λ (w : View S V). w.council.order) is ∙ ap (λ (k : Council). option_map (told_so said) k.order) same ∙ ap (option_map (told_so said)) order in
@@ -178,10 +178,10 @@ told_then {S} {V} old middle new asked said left same order unasked is answers =
       planned = ap (λ (w : View S V). rescanned_of w.council.plan) is ∙ ap (λ (k : Council). rescanned_of k.plan) same;
     }
 
-same_view : {S V : Type 0} (view : View S V) → Leaves view view []
+same_view : {S V : Type 0} (view : View S V) → LeavesOtherCalls view view []
 same_view view = leaves_desks view view view [] refl refl refl refl (sym (append-nil view.marks))
 
-opens_or_tells : {S V : Type 0} (m : Meaning S V) (old new : View S V) (asked : Asked) → IsOrdered old asked → StepOpenPlan m old new → OpensOrTells old new asked
+opens_or_tells : {S V : Type 0} (m : Meaning S V) (old new : View S V) (asked : Asked) → IsOrderedOnBoard old asked → StepOpenPlan m old new → OpensOrTells old new asked
 opens_or_tells {S} {V} m old new asked was by = by_case by.opens
   where
     asks : by.order.asked ≡ asked
@@ -394,7 +394,7 @@ may_list {S} {V} view asked kept has settles partial =
     }
 
 record ListsOrTells {S V : Type 0} (old new : View S V) (asked : Asked) : Type 0 where
-  leaves : Leaves old new []
+  leaves : LeavesOtherCalls old new []
   order : OrderView
   is_order : new.council.order ≡ Some order
   asks : order.asked ≡ asked
@@ -405,7 +405,7 @@ record ListsOrTells {S V : Type 0} (old new : View S V) (asked : Asked) : Type 0
 lists_or_tells : {S V : Type 0} (m : Meaning S V) (old new : View S V) (asked : Asked) (places : List MemberPlace) → IsChanging old asked → StepAskAll m old (NextKeys places) new → ListsOrTells old new asked
 lists_or_tells {S} {V} m old new asked places was by = by_case by.asks
   where
-    stopped : (why : Answer) → Leaves old new [] → new.council.order ≡ option_map (told_so (op.Stopped why)) old.council.order → new.council.exchange ≡ old.council.exchange → rescanned_of new.council.plan ≡ rescanned_of old.council.plan → ListsOrTells old new asked
+    stopped : (why : Answer) → LeavesOtherCalls old new [] → new.council.order ≡ option_map (told_so (op.Stopped why)) old.council.order → new.council.exchange ≡ old.council.exchange → rescanned_of new.council.plan ≡ rescanned_of old.council.plan → ListsOrTells old new asked
     stopped why left order exchange planned =
         let order_now : new.council.order ≡ Some (told_so (op.Stopped why) (new_order asked)) = order ∙ ap (option_map (told_so (op.Stopped why))) was.order in
         record {
@@ -528,7 +528,7 @@ with_asked plan listing = by_end (listing.complete && (length listing.keys == 0)
     by_end false = refl
 
 record GathersList {S V : Type 0} (old new : View S V) (asked : Asked) : Type 0 where
-  leaves : Leaves old new []
+  leaves : LeavesOtherCalls old new []
   order : OrderView
   is_order : new.council.order ≡ Some order
   asks : order.asked ≡ asked
@@ -541,10 +541,10 @@ gathers_list {S} {V} old new asked was by = by_case by.gathers
     asks : by.at.exchange.question ≡ NextKeys was.places
     asks = ap (λ (x : ExchangeView). x.question) (some_is (sym by.at.is_open ∙ was.is_open)) ∙ was.question
 
-    leaves : (changed : View S V) → new ≡ changed → changed.last_proposer ≡ old.last_proposer → changed.desks ≡ old.desks → changed.callers ≡ old.callers → changed.marks ≡ old.marks → Leaves old new []
+    leaves : (changed : View S V) → new ≡ changed → changed.last_proposer ≡ old.last_proposer → changed.desks ≡ old.desks → changed.callers ≡ old.callers → changed.marks ≡ old.marks → LeavesOtherCalls old new []
     leaves changed is last_proposer desks callers marks = leaves_desks old changed new [] is last_proposer desks callers (marks ∙ sym (append-nil old.marks))
 
-    stopped : (why : Answer) → Leaves old new [] → new.council.order ≡ option_map (told_so (op.Stopped why)) old.council.order → rescanned_of new.council.plan ≡ rescanned_of old.council.plan → GathersList old new asked
+    stopped : (why : Answer) → LeavesOtherCalls old new [] → new.council.order ≡ option_map (told_so (op.Stopped why)) old.council.order → rescanned_of new.council.plan ≡ rescanned_of old.council.plan → GathersList old new asked
     stopped why left order planned =
         let order_now : new.council.order ≡ Some (told_so (op.Stopped why) (new_order asked)) = order ∙ ap (option_map (told_so (op.Stopped why))) was.order in
         record { leaves = left; order = told_so (op.Stopped why) (new_order asked); is_order = order_now; asks = refl; tells = λ told said. subst (IsMidway asked) (says_same new (new_order asked) (op.Stopped why) told order_now said) (tt, tt); planned = planned }
@@ -650,7 +650,7 @@ pub key_may_tell : {S V : Type 0} (old mid new : View S V) (asked : Asked) (told
     → Held old new (IsToldIn asked IsPlanMark 0 old new told × IsMembersAnswer asked told)
 key_may_tell {S} {V} old mid new asked told has kept by said ends =
     let was = is_changing old asked has in
-    let leaves : Leaves old mid [] = leaves_desks old _ mid [] by.view refl refl refl (sym (append-nil old.marks)) in
+    let leaves : LeavesOtherCalls old mid [] = leaves_desks old _ mid [] by.view refl refl refl (sym (append-nil old.marks)) in
     let order_now : mid.council.order ≡ Some (told_so (op.Stopped (answer.NoMemory false)) (new_order asked)) = ap (λ (w : View S V). w.council.order) by.view ∙ ap (option_map (told_so (op.Stopped (answer.NoMemory false)))) was.order in
     let midway = subst (IsMidway asked) (says_same mid (new_order asked) (op.Stopped (answer.NoMemory false)) told order_now said) (tt, tt) in
     let held = tells_in IsPlanMark 0 old mid new asked told (told_so (op.Stopped (answer.NoMemory false)) (new_order asked)) leaves order_now refl ends kept was.no_call

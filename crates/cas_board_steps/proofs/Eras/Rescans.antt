@@ -104,11 +104,11 @@ due_rescan : (council : Council) (asked : Asked) (key : List ℕ) → DueIn coun
 due_rescan c asked key d = rescan_of c 0 key refl (record { order = new_order asked; is_open = d.order; plan = d.plan; is_plan = d.is_plan; is_for = d.is_for; due = d.due })
 
 -- it is counted, or the operator is told why not
-data Rescanned {S V : Type 0} (new : View S V) (asked : Asked) (told : Answer) : Type 0 where
-  is_counted : is_done told ≡ true → IsChanging new asked → Rescanned new asked told
-  is_stopped : is_done told ≡ false → new.council.order ≡ Some (told_so (op.Stopped told) (new_order asked)) → Rescanned new asked told
+data RescannedOnBoard {S V : Type 0} (new : View S V) (asked : Asked) (told : Answer) : Type 0 where
+  is_counted : is_done told ≡ true → IsChanging new asked → RescannedOnBoard new asked told
+  is_stopped : is_done told ≡ false → new.council.order ≡ Some (told_so (op.Stopped told) (new_order asked)) → RescannedOnBoard new asked told
 
-rescanned : {S V : Type 0} (old new : View S V) (asked : Asked) (key : List ℕ) (told : Answer) → DueIn old.council asked key → Rescans old.council 0 key told new.council → ((caller : CallerView) → IsAt new.callers 0 caller → caller.call ≡ None) → Rescanned new asked told
+rescanned : {S V : Type 0} (old new : View S V) (asked : Asked) (key : List ℕ) (told : Answer) → DueIn old.council asked key → Rescans old.council 0 key told new.council → ((caller : CallerView) → IsAt new.callers 0 caller → caller.call ≡ None) → RescannedOnBoard new asked told
 rescanned {S} {V} old new asked key told due (calls.rescans of done same) none = is_counted done (record {
   no_call = none;
   order = ap (λ (k : Council). k.order) same ∙ due.order;
@@ -157,7 +157,7 @@ record EndsRescan {S V : Type 0} (such : Mark → Type 0) (most : ℕ) (old mid 
   all_such : All such (mine 0 marks)
   few : losses (mine 0 marks) ≤ most
   none : (caller : CallerView) → IsAt mid.callers 0 caller → caller.call ≡ None
-  becomes : Rescanned mid asked told
+  becomes : RescannedOnBoard mid asked told
   counts : CountsTo (rescanned_of mid.council.plan) old mid
 
 -- a call that is not begun is not done
@@ -243,12 +243,12 @@ ends_rescan {S} {V} such call most old mid asked key program told weaker such_en
 counted_on : {S V : Type 0} (most : ℕ) (old mid : View S V) (asked : Asked) (told : Answer) → EndsRescan IsPlanMark most old mid asked told → is_done told ≡ true → OperatesIn IsPlanMark most old mid × HasPlan asked (own_part mid 0)
 counted_on {S} {V} most old mid asked told e done = (record { marks = e.marks; makes = e.makes; all_such = e.all_such; few = e.few; counts = λ enters. e.counts; keeps = λ not. absurd (not (λ p e. tt)) }, has_plan mid asked (by_case e.becomes))
   where
-    by_case : Rescanned mid asked told → IsChanging mid asked
+    by_case : RescannedOnBoard mid asked told → IsChanging mid asked
     by_case (is_counted did is) = is
     by_case (is_stopped undone order) = absurd (cc (done, undone))
 
 -- or the operator may be told why not, and is
-stopped_order : {S V : Type 0} (mid : View S V) (asked : Asked) (told : Answer) → Rescanned mid asked told → is_done told ≡ false → mid.council.order ≡ Some (told_so (op.Stopped told) (new_order asked))
+stopped_order : {S V : Type 0} (mid : View S V) (asked : Asked) (told : Answer) → RescannedOnBoard mid asked told → is_done told ≡ false → mid.council.order ≡ Some (told_so (op.Stopped told) (new_order asked))
 stopped_order mid asked told (is_counted done is) undone = absurd (cc (done, undone))
 stopped_order mid asked told (is_stopped did order) undone = order
 

@@ -279,18 +279,18 @@ own_is_council view none = own_alone (slice_get view.callers 0) (council_part vi
 abbrev pub with_plan : Option PlanView → Council
 with_plan plan = record { order = None; exchange = None; plan = plan; collection = None; used = [] }
 
-pub record IsIdle {S V : Type 0} (view : View S V) : Type 0 where
+pub record IsCouncilIdle {S V : Type 0} (view : View S V) : Type 0 where
   pub no_call : (caller : CallerView) → IsAt view.callers 0 caller → caller.call ≡ None
   pub order : view.council.order ≡ None
   pub exchange : view.council.exchange ≡ None
   pub collection : view.council.collection ≡ None
 
-pub free_idle : {S V : Type 0} (view : View S V) → NothingIsOpen (own_part view 0) → IsIdle view
+pub free_idle : {S V : Type 0} (view : View S V) → NothingIsOpen (own_part view 0) → IsCouncilIdle view
 free_idle view free =
     let it = none_beside view (with_plan free.plan) (free.is ∙ sym (append-nil (plan_part free.plan))) in
     record { no_call = it.no_call; order = no_order view.council.order it.like.order; exchange = no_exchange view.council.exchange it.like.exchange; collection = no_collection view.council.collection it.like.collection }
 
-pub idle_free : {S V : Type 0} (view : View S V) → IsIdle view → NothingIsOpen (own_part view 0)
+pub idle_free : {S V : Type 0} (view : View S V) → IsCouncilIdle view → NothingIsOpen (own_part view 0)
 idle_free view idle = record {
   plan = view.council.plan;
   is = own_is_council view idle.no_call ∙ parts view.council.order view.council.exchange view.council.plan view.council.collection idle.order idle.exchange idle.collection;
@@ -303,16 +303,16 @@ idle_free view idle = record {
     parts None None p (Some c) order exchange collection = absurd (cc collection)
 
 -- ---- an order, and a probe
-pub record IsOrdered {S V : Type 0} (view : View S V) (asked : Asked) : Type 0 where
+pub record IsOrderedOnBoard {S V : Type 0} (view : View S V) (asked : Asked) : Type 0 where
   pub no_call : (caller : CallerView) → IsAt view.callers 0 caller → caller.call ≡ None
   pub order : view.council.order ≡ Some (new_order asked)
   pub exchange : view.council.exchange ≡ None
   pub collection : view.council.collection ≡ None
 
-pub has_order : {S V : Type 0} (view : View S V) (asked : Asked) → IsOrdered view asked → HasOrder asked (own_part view 0)
+pub has_order : {S V : Type 0} (view : View S V) (asked : Asked) → IsOrderedOnBoard view asked → HasOrder asked (own_part view 0)
 has_order view asked is = record { council = view.council; is = own_is_council view is.no_call; order = is.order; exchange = is.exchange; collection = is.collection }
 
-pub is_ordered : {S V : Type 0} (view : View S V) (asked : Asked) → HasOrder asked (own_part view 0) → IsOrdered view asked
+pub is_ordered : {S V : Type 0} (view : View S V) (asked : Asked) → HasOrder asked (own_part view 0) → IsOrderedOnBoard view asked
 is_ordered view asked has =
     let it = none_beside view has.council has.is in
     record {

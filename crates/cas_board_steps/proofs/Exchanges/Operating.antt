@@ -53,13 +53,13 @@ use Rattle.cas_board_steps.proofs.Fronts.{mine_own}
 use Rattle.cas_board_steps.proofs.Calls.Holds.{Held}
 
 -- ---- a call on the world that leaves all callers' calls
-pub record Leaves {S V : Type 0} (old new : View S V) (marks : List Mark) : Type 0 where
+pub record LeavesOtherCalls {S V : Type 0} (old new : View S V) (marks : List Mark) : Type 0 where
   pub last_proposer : new.last_proposer ≡ old.last_proposer
   pub desks : SparesRounds 0 old.desks new.desks
   pub callers : new.callers ≡ old.callers
   pub made : new.marks ≡ old.marks ++ marks
 
-pub leaves_then : {S V : Type 0} (a b c : View S V) (marks more : List Mark) → Leaves a b marks → Leaves b c more → Leaves a c (marks ++ more)
+pub leaves_then : {S V : Type 0} (a b c : View S V) (marks more : List Mark) → LeavesOtherCalls a b marks → LeavesOtherCalls b c more → LeavesOtherCalls a c (marks ++ more)
 leaves_then a b c marks more first then_ = record {
   last_proposer = then_.last_proposer ∙ first.last_proposer;
   desks = rounds_then 0 a.desks b.desks c.desks first.desks then_.desks;
@@ -68,35 +68,36 @@ leaves_then a b c marks more first then_ = record {
 }
 
 -- it is this one, in which callers and desks are as before but for that of proposer 0
-pub leaves_desks : {S V : Type 0} (old changed new : View S V) (marks : List Mark) → new ≡ changed → changed.last_proposer ≡ old.last_proposer → changed.desks ≡ old.desks → changed.callers ≡ old.callers → changed.marks ≡ old.marks ++ marks → Leaves old new marks
-leaves_desks {S} {V} old changed new marks is last_proposer desks callers made = subst (λ (w : View S V). Leaves old w marks) (sym is) (record { last_proposer = last_proposer; desks = spares_rounds 0 old.desks changed.desks (spares_same 0 old.desks changed.desks desks); callers = callers; made = made })
+pub leaves_desks : {S V : Type 0} (old changed new : View S V) (marks : List Mark) → new ≡ changed → changed.last_proposer ≡ old.last_proposer → changed.desks ≡ old.desks → changed.callers ≡ old.callers → changed.marks ≡ old.marks ++ marks → LeavesOtherCalls old new marks
+leaves_desks {S} {V} old changed new marks is last_proposer desks callers made = subst (λ (w : View S V). LeavesOtherCalls old w marks) (sym is) (record { last_proposer = last_proposer; desks = spares_rounds 0 old.desks changed.desks (spares_same 0 old.desks changed.desks desks); callers = callers; made = made })
 
-pub leaves_others : {S V : Type 0} (old changed new : View S V) (now : DeskView V) (marks : List Mark) → new ≡ changed → changed.last_proposer ≡ old.last_proposer → changed.desks ≡ slice_set old.desks 0 now → changed.callers ≡ old.callers → changed.marks ≡ old.marks ++ marks → Leaves old new marks
-leaves_others {S} {V} old changed new now marks is last_proposer desks callers made = subst (λ (w : View S V). Leaves old w marks) (sym is) (record { last_proposer = last_proposer; desks = spares_rounds 0 old.desks changed.desks (spares_set 0 old.desks changed.desks now desks); callers = callers; made = made })
+pub leaves_others : {S V : Type 0} (old changed new : View S V) (now : DeskView V) (marks : List Mark) → new ≡ changed → changed.last_proposer ≡ old.last_proposer → changed.desks ≡ slice_set old.desks 0 now → changed.callers ≡ old.callers → changed.marks ≡ old.marks ++ marks → LeavesOtherCalls old new marks
+leaves_others {S} {V} old changed new now marks is last_proposer desks callers made = subst (λ (w : View S V). LeavesOtherCalls old w marks) (sym is) (record { last_proposer = last_proposer; desks = spares_rounds 0 old.desks changed.desks (spares_set 0 old.desks changed.desks now desks); callers = callers; made = made })
 
 -- all but what the operator has under way changes as by a call of caller 0
-acts_by : {S V : Type 0} (old new : View S V) (marks : List Mark) → Leaves old new marks → Acts 0 (record old { council = new.council }) new marks
+acts_by : {S V : Type 0} (old new : View S V) (marks : List Mark) → LeavesOtherCalls old new marks → Acts 0 (record old { council = new.council }) new marks
 acts_by old new marks leaves = record { last_proposer = leaves.last_proposer; desks = leaves.desks; callers = spares_same 0 old.callers new.callers leaves.callers; council = refl; made = leaves.made }
 
-pub makes_by : {S V : Type 0} (old new : View S V) (marks : List Mark) → Leaves old new marks → MayAdd marks → OnlyOwnedBy owner_of 0 marks → Makes 0 old new marks
+pub makes_by : {S V : Type 0} (old new : View S V) (marks : List Mark) → LeavesOtherCalls old new marks → MayAdd marks → OnlyOwnedBy owner_of 0 marks → Makes 0 old new marks
 makes_by {S} {V} old new marks leaves may only = record { last_proposer = leaves.last_proposer; made = leaves.made; may_add = may; owned = only; others = others }
   where
     others : (m : ℕ) → m ≢ 0 → own_part new m ≡ own_part old m
     others zero other = absurd (other refl)
     others (suc m) other = (makes_of 0 (record old { council = new.council }) new marks (acts_by old new marks leaves) may only).others (suc m) other
 
-pub kept_then : {S V : Type 0} (old new : View S V) (marks : List Mark) → Leaves old new marks → OnlyOwnedBy owner_of 0 marks → IsKept old → ((caller : CallerView) → IsAt new.callers 0 caller → caller.call ≡ None) → IsKept new
+pub kept_then : {S V : Type 0} (old new : View S V) (marks : List Mark) → LeavesOtherCalls old new marks → OnlyOwnedBy owner_of 0 marks → IsKept old → ((caller : CallerView) → IsAt new.callers 0 caller → caller.call ≡ None) → IsKept new
 kept_then old new marks leaves only kept none =
     kept_by 0 (record old { council = new.council }) new marks (acts_by old new marks leaves) only (record { places = record { desks = kept.places.desks; callers = kept.places.callers }; staged = kept.staged; wanted = kept.wanted }) (record {
       staged = λ desk caller call at_desk at_caller is_call. absurd (cc (sym (none caller at_caller) ∙ is_call));
       wanted = λ caller call at_caller is_call. absurd (cc (sym (none caller at_caller) ∙ is_call));
     })
 
-pub none_then : {S V : Type 0} (old new : View S V) (marks : List Mark) → Leaves old new marks → ((caller : CallerView) → IsAt old.callers 0 caller → caller.call ≡ None) → (caller : CallerView) → IsAt new.callers 0 caller → caller.call ≡ None
+pub none_then : {S V : Type 0} (old new : View S V) (marks : List Mark) → LeavesOtherCalls old new marks → ((caller : CallerView) → IsAt old.callers 0 caller → caller.call ≡ None) → (caller : CallerView) → IsAt new.callers 0 caller → caller.call ≡ None
 none_then old new marks leaves none caller at = none caller (subst (λ (l : List CallerView). IsAt l 0 caller) leaves.callers at)
 
 -- a hold that makes no mark of the operator's
-pub silently : {S V : Type 0} (old new : View S V) → Leaves old new [] → IsKept old → ((caller : CallerView) → IsAt old.callers 0 caller → caller.call ≡ None) → Held old new (Makes 0 old new [])
+pub silently : {S V : Type 0} (old new : View S V) → LeavesOtherCalls old new [] → IsKept old → ((caller : CallerView) → IsAt old.callers 0 caller → caller.call ≡ None)
+    → Held old new (Makes 0 old new [])
 silently old new leaves kept none =
     let fine = fine_none 0 0 0 in
     record { does = makes_by old new [] leaves fine.may_add fine.only; kept = kept_then old new [] leaves fine.only kept (none_then old new [] leaves none); last_proposer = leaves.last_proposer }
@@ -106,7 +107,7 @@ pub record IsOfAsking (most : ℕ) (marks : List Mark) : Type 0 where
   pub fine : Fine 0 0 most marks
   pub harms : All IsAskingHarm (mine 0 marks)
 
-pub operates : {S V : Type 0} (most : ℕ) (old new : View S V) (marks : List Mark) → Leaves old new marks → IsOfAsking most marks → IsKept old → ((caller : CallerView) → IsAt old.callers 0 caller → caller.call ≡ None) → rescanned_of new.council.plan ≡ rescanned_of old.council.plan → Held old new (OperatesIn IsAskingHarm most old new)
+pub operates : {S V : Type 0} (most : ℕ) (old new : View S V) (marks : List Mark) → LeavesOtherCalls old new marks → IsOfAsking most marks → IsKept old → ((caller : CallerView) → IsAt old.callers 0 caller → caller.call ≡ None) → rescanned_of new.council.plan ≡ rescanned_of old.council.plan → Held old new (OperatesIn IsAskingHarm most old new)
 operates most old new marks leaves of kept none planned = record {
   does = record { marks = marks; makes = makes_by old new marks leaves of.fine.may_add of.fine.only; all_such = of.harms; few = of.fine.few; counts = λ enters. absurd (enters 0 0); keeps = λ not. planned };
   kept = kept_then old new marks leaves of.fine.only kept (none_then old new marks leaves none);
@@ -120,12 +121,12 @@ pub record OwnStep {S V : Type 0} (old new : View S V) (marks : List Mark) : Typ
   pub last_proposer : new.last_proposer ≡ old.last_proposer
   pub none : (caller : CallerView) → IsAt new.callers 0 caller → caller.call ≡ None
 
-pub own_step_of : {S V : Type 0} (old new : View S V) (marks : List Mark) → Leaves old new marks → MayAdd marks → OnlyOwnedBy owner_of 0 marks → IsKept old → ((caller : CallerView) → IsAt old.callers 0 caller → caller.call ≡ None) → OwnStep old new marks
+pub own_step_of : {S V : Type 0} (old new : View S V) (marks : List Mark) → LeavesOtherCalls old new marks → MayAdd marks → OnlyOwnedBy owner_of 0 marks → IsKept old → ((caller : CallerView) → IsAt old.callers 0 caller → caller.call ≡ None) → OwnStep old new marks
 own_step_of old new marks leaves may only kept none =
     let none_now = none_then old new marks leaves none in
     record { makes = makes_by old new marks leaves may only; kept = kept_then old new marks leaves only kept none_now; last_proposer = leaves.last_proposer; none = none_now }
 
-pub quiet_own_step : {S V : Type 0} (old new : View S V) → Leaves old new [] → IsKept old → ((caller : CallerView) → IsAt old.callers 0 caller → caller.call ≡ None) → OwnStep old new []
+pub quiet_own_step : {S V : Type 0} (old new : View S V) → LeavesOtherCalls old new [] → IsKept old → ((caller : CallerView) → IsAt old.callers 0 caller → caller.call ≡ None) → OwnStep old new []
 quiet_own_step old new leaves kept none = let fine = fine_none 0 0 0 in own_step_of old new [] leaves fine.may_add fine.only kept none
 
 pub makes_then : {S V : Type 0} (a b c : View S V) (marks more : List Mark) → Makes 0 a b marks → Makes 0 b c more → MayAdd (marks ++ more) → Makes 0 a c (marks ++ more)
@@ -173,19 +174,19 @@ told_mine asks told = elim (told_some asks told) [
 ]
 
 -- what is left then
-pub record TellsOf {S V : Type 0} (old new : View S V) (asks : Asked) (told : OpAnswer) : Type 0 where
-  pub leaves : Leaves old new (told_marks asks told)
+pub record TellsWhatWasAsked {S V : Type 0} (old new : View S V) (asks : Asked) (told : OpAnswer) : Type 0 where
+  pub leaves : LeavesOtherCalls old new (told_marks asks told)
   pub order : new.council.order ≡ None
   pub exchange : new.council.exchange ≡ None
   pub collection : new.council.collection ≡ None
 
-pub tells_of : {S V : Type 0} (old new : View S V) (asks : Asked) (told : OpAnswer) (order : OrderView) → old.council.order ≡ Some order → order.asked ≡ asks → StepTell old told new → TellsOf old new asks told
+pub tells_of : {S V : Type 0} (old new : View S V) (asks : Asked) (told : OpAnswer) (order : OrderView) → old.council.order ≡ Some order → order.asked ≡ asks → StepTell old told new → TellsWhatWasAsked old new asks told
 tells_of {S} {V} old new asks told order is_order is_asked by = by_case by
   where
     same_asked : (other : OrderView) → old.council.order ≡ Some other → other.asked ≡ asks
     same_asked other is_other = ap (λ (o : OrderView). o.asked) (some_is (sym is_other ∙ is_order)) ∙ is_asked
 
-    over : (before : View S V) (other : OrderView) → old.council.order ≡ Some other → before.last_proposer ≡ old.last_proposer → before.desks ≡ old.desks → before.callers ≡ old.callers → before.marks ≡ old.marks → new ≡ told_over before other.asked told → TellsOf old new asks told
+    over : (before : View S V) (other : OrderView) → old.council.order ≡ Some other → before.last_proposer ≡ old.last_proposer → before.desks ≡ old.desks → before.callers ≡ old.callers → before.marks ≡ old.marks → new ≡ told_over before other.asked told → TellsWhatWasAsked old new asks told
     over before other is_other last_proposer desks callers marks is = record {
       leaves = leaves_desks old (told_over before other.asked told) new (told_marks asks told) is last_proposer desks callers (ap (λ (l : List Mark). l ++ told_marks other.asked told) marks ∙ ap (λ (a : Asked). old.marks ++ told_marks a told) (same_asked other is_other));
       order = ap (λ (w : View S V). w.council.order) is;
@@ -193,7 +194,7 @@ tells_of {S} {V} old new asks told order is_order is_asked by = by_case by
       collection = ap (λ (w : View S V). w.council.collection) is;
     }
 
-    by_case : StepTell old told new → TellsOf old new asks told
+    by_case : StepTell old told new → TellsWhatWasAsked old new asks told
     by_case (council.tells other said is_other was_said same is) = over old other is_other refl refl refl refl is
     by_case (council.finishes other is_other finished is) = over (with_council old (record old.council { plan = None })) other is_other refl refl refl refl is
     by_case (council.collects other is_other collected is) = over old other is_other refl refl refl refl is
@@ -219,7 +220,7 @@ tells_after such most old mid new marks asks told order own_step all_such few ma
       last_proposer = all.last_proposer;
     }
 
-pub tells_in : {S V : Type 0} (such : Mark → Type 0) (most : ℕ) (old mid new : View S V) (asks : Asked) (told : OpAnswer) (order : OrderView) → Leaves old mid [] → mid.council.order ≡ Some order → order.asked ≡ asks → StepTell mid told new → IsKept old
+pub tells_in : {S V : Type 0} (such : Mark → Type 0) (most : ℕ) (old mid new : View S V) (asks : Asked) (told : OpAnswer) (order : OrderView) → LeavesOtherCalls old mid [] → mid.council.order ≡ Some order → order.asked ≡ asks → StepTell mid told new → IsKept old
     → ((caller : CallerView) → IsAt old.callers 0 caller → caller.call ≡ None) → (EntersEras such → TellsCount told old new) → ((EntersEras such → ⊥) → rescanned_of new.council.plan ≡ rescanned_of old.council.plan) → Held old new (IsToldIn asks such most old new told)
 tells_in such most old mid new asks told order leaves is_order is_asked by kept none counts keeps =
     tells_after such most old mid new [] asks told order (quiet_own_step old mid leaves kept none) (All-nil such) (omega arith) (told_may_add asks told) is_order is_asked by counts keeps
@@ -257,7 +258,7 @@ named_after (one ∷ rest) (suc place) probe now at same = ap (λ (l : List ℕ)
 
 pub record TurnsAsking {S V : Type 0} (most : ℕ) (old new : View S V) (exchange : ExchangeView) : Type 0 where
   pub marks : List Mark
-  pub leaves : Leaves old new marks
+  pub leaves : LeavesOtherCalls old new marks
   pub of_asking : IsOfAsking most marks
   pub next : ExchangeView
   pub council : new.council ≡ record old.council { exchange = Some next }
@@ -384,13 +385,13 @@ own_kept most old new exchange is_open turns none no_probe =
     ∙ sym (own_is_council old none)
 
 -- no memory is found for it, and the operator is told
-pub refuses_asking : {S V : Type 0} (m : Meaning S V) (old new : View S V) (order : OrderView) → old.council.order ≡ Some order → StepRefuseTurnExchange m old new → Leaves old new [] × (new.council.order ≡ Some (told_so (op.Stopped (answer.NoMemory false)) order))
+pub refuses_asking : {S V : Type 0} (m : Meaning S V) (old new : View S V) (order : OrderView) → old.council.order ≡ Some order → StepRefuseTurnExchange m old new → LeavesOtherCalls old new [] × (new.council.order ≡ Some (told_so (op.Stopped (answer.NoMemory false)) order))
 refuses_asking {S} {V} m old new order is_order by = (
-  subst (λ (w : View S V). Leaves old w []) (sym by.view) (leaves by.refuses),
+  subst (λ (w : View S V). LeavesOtherCalls old w []) (sym by.view) (leaves by.refuses),
   ap (λ (w : View S V). w.council.order) by.view ∙ ap (option_map (told_so (op.Stopped (answer.NoMemory false)))) (same_order by.refuses ∙ is_order),
 )
   where
-    leaves : {middle : View S V} → frames.FindsNoRoom m old middle → Leaves old (council.told_view middle (op.Stopped (answer.NoMemory false))) []
+    leaves : {middle : View S V} → frames.FindsNoRoom m old middle → LeavesOtherCalls old (council.told_view middle (op.Stopped (answer.NoMemory false))) []
     leaves {middle} (frames.stays is) = leaves_desks old _ (council.told_view middle (op.Stopped (answer.NoMemory false))) [] (ap (λ (w : View S V). council.told_view w (op.Stopped (answer.NoMemory false))) is) refl refl refl (sym (append-nil old.marks))
     leaves {middle} (frames.kept id acceptor now there finds is) = leaves_desks old _ (council.told_view middle (op.Stopped (answer.NoMemory false))) [] (ap (λ (w : View S V). council.told_view w (op.Stopped (answer.NoMemory false))) is) refl refl refl (sym (append-nil old.marks))
 

@@ -57,14 +57,14 @@ use Rattle.cas_board_steps.proofs.Exchanges.Reads.{AreNobodys, nobodys_none, rea
 use Rattle.cas_board_steps.proofs.Fronts.{mine_append}
 use Rattle.cas_record.specs.declared.mark.Mark.{Mark}
 use Rattle.cas_board_steps.proofs.Eras.Counting.{lasts_told}
-use Rattle.cas_board_steps.proofs.Exchanges.Councils.{IsOrdered, IsProbed, has_order, is_ordered, has_probe, is_probed, has_harms, harms_are, asked_behind, behind_is, free_idle}
+use Rattle.cas_board_steps.proofs.Exchanges.Councils.{IsOrderedOnBoard, IsProbed, has_order, is_ordered, has_probe, is_probed, has_harms, harms_are, asked_behind, behind_is, free_idle}
 use Rattle.cas_board_steps.specs.Calls.Stages.{IsFirst, HasFirst, front_of}
 use Rattle.cas_board_steps.specs.declared.changes.Waiting.{Waiting}
 use Rattle.cas_board_steps.specs.declared.orders.ProbeOrder.{ProbeOrder}
 use Rattle.std.specs.Prelude.{IfSome}
 use Rattle.cas_board_steps.proofs.Calls.Holds.{Held}
 use Rattle.cas_board_steps.proofs.Calls.Stages.{some_waits, none_waits}
-use Rattle.cas_board_steps.proofs.Exchanges.Operating.{Leaves, leaves_desks, leaves_others, none_then, silently, operates, own_step_of, tells_after, tells_in, told_may_add, TurnsAsking, turns_asking, refuses_asking, refusal_planned, says_same, turns_planned, was_told_so}
+use Rattle.cas_board_steps.proofs.Exchanges.Operating.{LeavesOtherCalls, leaves_desks, leaves_others, none_then, silently, operates, own_step_of, tells_after, tells_in, told_may_add, TurnsAsking, turns_asking, refuses_asking, refusal_planned, says_same, turns_planned, was_told_so}
 
 -- ---- its order
 -- the question that it holds
@@ -88,7 +88,7 @@ own_order {own = own} by = record {
 pub order_held : {S V : Type 0} (old new : View S V) (asked : Asked) → NothingIsOpen (own_part old 0) → IsKept old → StepOrder old asked new → Held old new (Makes 0 old new [] × HasOrder asked (own_part new 0))
 order_held {S} {V} old new asked free kept by =
     let idle = free_idle old free in
-    let leaves : Leaves old new [] = leaves_desks old _ new [] by.view refl refl refl (sym (append-nil old.marks)) in
+    let leaves : LeavesOtherCalls old new [] = leaves_desks old _ new [] by.view refl refl refl (sym (append-nil old.marks)) in
     let held = silently old new leaves kept idle.no_call in
     record {
       does = (
@@ -141,7 +141,7 @@ may_probe view asks_for key kept has =
 
 -- the members are asked, or the operator is told why not
 record AsksOrTells {S V : Type 0} (old new : View S V) (asks_for : Inquiry) (key : List ℕ) : Type 0 where
-  leaves : Leaves old new []
+  leaves : LeavesOtherCalls old new []
   order : new.council.order ≡ Some (new_order (asked_for asks_for key))
   exchange : ExchangeView
   is_open : new.council.exchange ≡ Some exchange
@@ -153,7 +153,7 @@ record AsksOrTells {S V : Type 0} (old new : View S V) (asks_for : Inquiry) (key
   since : exchange.since ≡ length old.marks
 
 record AsksNobody {S V : Type 0} (old new : View S V) (asks_for : Inquiry) (key : List ℕ) : Type 0 where
-  leaves : Leaves old new []
+  leaves : LeavesOtherCalls old new []
   why : Answer
   order : new.council.order ≡ Some (told_so (op.Stopped why) (new_order (asked_for asks_for key)))
   exchange : new.council.exchange ≡ None
@@ -164,10 +164,10 @@ names_each : (members : List ℕ) → map (λ (p : ProbeOf). p.acceptor) (map (�
 names_each [] = refl
 names_each (member ∷ members) = ap (λ (l : List ℕ). member ∷ l) (names_each members)
 
-asks_or_not : {S V : Type 0} (m : Meaning S V) (old new : View S V) (asks_for : Inquiry) (key : List ℕ) → IsOrdered old (asked_for asks_for key) → StepAskAll m old (Probe key) new → AsksOrTells old new asks_for key ⊎ AsksNobody old new asks_for key
+asks_or_not : {S V : Type 0} (m : Meaning S V) (old new : View S V) (asks_for : Inquiry) (key : List ℕ) → IsOrderedOnBoard old (asked_for asks_for key) → StepAskAll m old (Probe key) new → AsksOrTells old new asks_for key ⊎ AsksNobody old new asks_for key
 asks_or_not {S} {V} m old new asks_for key was by = by_case by.asks
   where
-    stopped : (why : Answer) → Leaves old new [] → new.council.order ≡ option_map (told_so (op.Stopped why)) old.council.order → new.council.exchange ≡ old.council.exchange → rescanned_of new.council.plan ≡ rescanned_of old.council.plan → stops_probe why ≡ true → AsksOrTells old new asks_for key ⊎ AsksNobody old new asks_for key
+    stopped : (why : Answer) → LeavesOtherCalls old new [] → new.council.order ≡ option_map (told_so (op.Stopped why)) old.council.order → new.council.exchange ≡ old.council.exchange → rescanned_of new.council.plan ≡ rescanned_of old.council.plan → stops_probe why ≡ true → AsksOrTells old new asks_for key ⊎ AsksNobody old new asks_for key
     stopped why leaves order exchange planned stops = inr (record { leaves = leaves; why = why; order = order ∙ ap (option_map (told_so (op.Stopped why))) was.order; exchange = exchange ∙ was.exchange; planned = planned; stops = stops })
 
     by_case : AsksAll m old (Probe key) by.desk new → AsksOrTells old new asks_for key ⊎ AsksNobody old new asks_for key
@@ -207,7 +207,7 @@ ask_held {S} {V} m old new what asks_for key is has kept by_what some = elim (as
   | inr stopped ↦ absurd (cc (subst (λ (o : Option ExchangeView). IsSome o) stopped.exchange some))
 ]
   where
-    was : IsOrdered old (asked_for asks_for key)
+    was : IsOrderedOnBoard old (asked_for asks_for key)
     was = is_ordered old (asked_for asks_for key) has
 
 -- what a stop says is what the operator is told
@@ -252,7 +252,7 @@ ask_told {S} {V} m old mid new what asks_for key told is has kept by_what none s
       }
 ]
   where
-    was : IsOrdered old (asked_for asks_for key)
+    was : IsOrderedOnBoard old (asked_for asks_for key)
     was = is_ordered old (asked_for asks_for key) has
 
 -- ---- its frames
@@ -369,7 +369,7 @@ gathers_by {S} {V} m old new asks_for key members has step_ = subst (λ (e : ste
 -- it tells what was found, with its key, or that it stops; what it marks is nobody's
 record GathersProbe {S V : Type 0} (m : Meaning S V) (old new : View S V) (asks_for : Inquiry) (key members : List ℕ) : Type 0 where
   marks : List Mark
-  leaves : Leaves old new marks
+  leaves : LeavesOtherCalls old new marks
   nobodys : AreNobodys marks
   said : OpAnswer
   order : new.council.order ≡ Some (told_so said (new_order (asked_for asks_for key)))
@@ -472,10 +472,10 @@ gathers_probe {S} {V} m old new asks_for key members was by = by_case by.gathers
     asks : by.at.exchange.question ≡ Probe key
     asks = ap (λ (x : ExchangeView). x.question) same_exchange ∙ was.question
 
-    leaves : (changed : View S V) → new ≡ changed → changed.last_proposer ≡ old.last_proposer → changed.desks ≡ old.desks → changed.callers ≡ old.callers → changed.marks ≡ old.marks → Leaves old new []
+    leaves : (changed : View S V) → new ≡ changed → changed.last_proposer ≡ old.last_proposer → changed.desks ≡ old.desks → changed.callers ≡ old.callers → changed.marks ≡ old.marks → LeavesOtherCalls old new []
     leaves changed is last_proposer desks callers marks = leaves_desks old changed new [] is last_proposer desks callers (marks ∙ sym (append-nil old.marks))
 
-    stopped : (why : Answer) → Leaves old new [] → new.council.order ≡ option_map (told_so (op.Stopped why)) old.council.order → rescanned_of new.council.plan ≡ rescanned_of old.council.plan → stops_probe why ≡ true → GathersProbe m old new asks_for key members
+    stopped : (why : Answer) → LeavesOtherCalls old new [] → new.council.order ≡ option_map (told_so (op.Stopped why)) old.council.order → rescanned_of new.council.plan ≡ rescanned_of old.council.plan → stops_probe why ≡ true → GathersProbe m old new asks_for key members
     stopped why left order planned stops = record {
       marks = [];
       leaves = left;
@@ -508,7 +508,7 @@ gathers_probe {S} {V} m old new asks_for key members was by = by_case by.gathers
         let same : everyone new ≡ named_in found = ap (λ (l : List Era). union_of (era_in l 0).prep (era_in l 0).acc) eras ∙ sym (steady.asking.asks by.at.exchange key by.at.is_open asks).1 ∙ sym (heard_all m old by.at.exchange by.at.is_open steady) ∙ ap tellers_of (sym keeps) in
         subst (AreAllConfirmers (reverse new.marks)) same (all_confirmers m new now.safe (now.remembered shelves disks) now.asking.unled)
 
-    finds : (other : List ℕ) (found : Probes) (marks : List Mark) → by.at.exchange.crashed ≡ false → by.at.exchange.question ≡ Probe other → found.probes.items ≡ by.at.exchange.told → Leaves old new marks → AreNobodys marks → new.eras ≡ old.eras → new.council.order ≡ option_map (told_so (op.Probed other found)) old.council.order
+    finds : (other : List ℕ) (found : Probes) (marks : List Mark) → by.at.exchange.crashed ≡ false → by.at.exchange.question ≡ Probe other → found.probes.items ≡ by.at.exchange.told → LeavesOtherCalls old new marks → AreNobodys marks → new.eras ≡ old.eras → new.council.order ≡ option_map (told_so (op.Probed other found)) old.council.order
         → rescanned_of new.council.plan ≡ rescanned_of old.council.plan → GathersProbe m old new asks_for key members
     finds other found marks up question keeps left nobodys eras order planned =
         let same_key : other ≡ key = cc (sym question ∙ asks) in

@@ -36,7 +36,7 @@ use Rattle.cas_model.specs.View.{Meaning, View, CallView, CallerView, IsAt, with
 use Rattle.cas_model.proofs.Around.{Whole, around, around_more, settles, leaves_both}
 use Rattle.cas_model.proofs.Calls.Caches.{IsKeptOr, kept, held, kept_or_held, one_after}
 use Rattle.cas_model.proofs.Calls.Draws.{vault_goes_on}
-use Rattle.cas_model.proofs.Calls.Ends.{IsQuiet, quiet_true, quiet_ends, quiets, call_told, none_left, others_left, all_joined_true}
+use Rattle.cas_model.proofs.Calls.Ends.{IsDeskQuiet, quiet_true, quiet_ends, quiets, call_told, none_left, others_left, all_joined_true}
 use Rattle.cas_protocol.proofs.Events.{keeps}
 use Rattle.cas_model.proofs.Others.{LeavesCalls, vault_still, messages_still, caller_still, ended_later}
 use Rattle.cas_model.proofs.Places.{own_set, some_is, contains_none}
@@ -150,7 +150,7 @@ counts {S} {V} m cluster global old id caller call desk now round outcome by tel
             (subst (λ (e : ℕ). IsHeldReady cluster global.log global.made id e round.key (record { ballot = is.0; state = outcome.state; read = round.ballot; by = by })) same_era promise))
         by_case (held h) = of.cached key ready h
 
-    quiet : IsQuiet m cluster after.log global.made id (era_at old id).number now
+    quiet : IsDeskQuiet m cluster after.log global.made id (era_at old id).number now
     quiet = record {
       same_id = ap (λ (d : DeskView V). d.id) ends.desk ∙ of.same_id;
       known = of.known;
@@ -191,8 +191,8 @@ ended_history cluster global id number rounds key told meets history begun open_
 
 -- a desk whose round was closed for the end of its call
 closed_quiet : {S V : Type 0} (m : Meaning S V) (cluster : Cluster) (log : List Happening) (all : List Made) (id era : ℕ) (caller : CallerView) (waiting : List Message) (desk now : DeskView V) → m.disks.tells
-    → IsDeskTrue m cluster log all era id caller waiting desk → ((desk.round ≡ None) × (now ≡ desk)) ⊎ ((round : Round) × (desk.round ≡ Some round) × EndsRound m.disks desk now round None) → IsQuiet m cluster log all id era now
-closed_quiet m cluster log all id era caller waiting desk now tells of (inl idle) = subst (IsQuiet m cluster log all id era) (sym idle.1)
+    → IsDeskTrue m cluster log all era id caller waiting desk → ((desk.round ≡ None) × (now ≡ desk)) ⊎ ((round : Round) × (desk.round ≡ Some round) × EndsRound m.disks desk now round None) → IsDeskQuiet m cluster log all id era now
+closed_quiet m cluster log all id era caller waiting desk now tells of (inl idle) = subst (IsDeskQuiet m cluster log all id era) (sym idle.1)
     (record { same_id = of.same_id; known = of.known; vault = of.vault; cached = of.cached; one_each = of.one_each; none_open = idle.0 })
 closed_quiet m cluster log all id era caller waiting desk now tells of (inr closes) = quiet_ends m cluster log all id era caller waiting desk now closes.0 tells of closes.2
 
@@ -241,10 +241,10 @@ ends_call {S} {V} m cluster global old id caller call told desk now tells at_cal
     history : HasHistory cluster after
     history = ended_history cluster global id caller.number call.rounds call.key told whole.meets whole.history (record { program = call.program; stands = call_true.begun }) call_true.open_yet (call_true.told told is_told)
 
-    quiet : IsQuiet m cluster global.log global.made id era now
+    quiet : IsDeskQuiet m cluster global.log global.made id era now
     quiet = closed_quiet m cluster global.log global.made id era caller (queue_at old.flow id).messages desk now tells (whole.parties.desks id tt desk caller at_desk at_caller) closed
 
-    quiet_after : IsQuiet m cluster after.log global.made id era now
+    quiet_after : IsDeskQuiet m cluster after.log global.made id era now
     quiet_after = record {
       same_id = quiet.same_id;
       known = quiet.known;

@@ -117,7 +117,7 @@ short_accept cluster log all id number call round by got need orderly accepting 
 
 -- ---- a desk without an open round
 -- what it knows once no round is open there
-pub record IsQuiet {S V : Type 0} (m : Meaning S V) (cluster : Cluster) (log : List Happening) (all : List Made) (id era : ℕ) (desk : DeskView V) : Type 0 where
+pub record IsDeskQuiet {S V : Type 0} (m : Meaning S V) (cluster : Cluster) (log : List Happening) (all : List Made) (id era : ℕ) (desk : DeskView V) : Type 0 where
   pub same_id : desk.id ≡ id
   pub known : id ≤ cluster.last_proposer
   pub vault : IsVaultTrue m log id era desk.vault
@@ -125,7 +125,7 @@ pub record IsQuiet {S V : Type 0} (m : Meaning S V) (cluster : Cluster) (log : L
   pub one_each : HaveOneEach desk.cache
   pub none_open : desk.round ≡ None
 
-pub quiet_true : {S V : Type 0} (m : Meaning S V) (cluster : Cluster) (log : List Happening) (all : List Made) (id era : ℕ) (caller : CallerView) (waiting : List Message) (desk : DeskView V) → waiting ≡ [] → IsQuiet m cluster log all id era desk
+pub quiet_true : {S V : Type 0} (m : Meaning S V) (cluster : Cluster) (log : List Happening) (all : List Made) (id era : ℕ) (caller : CallerView) (waiting : List Message) (desk : DeskView V) → waiting ≡ [] → IsDeskQuiet m cluster log all id era desk
     → IsDeskTrue m cluster log all era id caller waiting desk
 quiet_true m cluster log all id era caller waiting desk none is = record {
   same_id = is.same_id;
@@ -146,7 +146,7 @@ same_or_without m cluster log all id era key old new (inr fewer) were one =
 
 pub quiet_fails : {S V : Type 0} (m : Meaning S V) (cluster : Cluster) (log : List Happening) (all : List Made) (id era : ℕ) (caller : CallerView) (waiting : List Message) (key : List ℕ) {promises : List (List ℕ × Ready)} (desk now : DeskView V) → m.disks.tells
     → IsDeskTrue m cluster log all era id caller waiting desk → FailsToDraw m.disks promises desk now → ((now.cache ≡ desk.cache) ⊎ (now.cache ≡ without key desk.cache))
-    → IsQuiet m cluster log all id era now
+    → IsDeskQuiet m cluster log all id era now
 quiet_fails {S} {V} m cluster log all id era caller waiting key desk now tells of by fewer =
     let cache = same_or_without m cluster log all id era key desk.cache now.cache fewer of.cached of.one_each in
     record {
@@ -159,7 +159,7 @@ quiet_fails {S} {V} m cluster log all id era caller waiting key desk now tells o
     }
 
 quiet_loses : {S V : Type 0} (m : Meaning S V) (cluster : Cluster) (log : List Happening) (all : List Made) (id era : ℕ) (caller : CallerView) (waiting : List Message) (key : List ℕ) (desk now : DeskView V) (ballot : Option Ballot) → m.disks.tells
-    → IsDeskTrue m cluster log all era id caller waiting desk → (by : LosesMemory m.disks key desk now ballot) → MayHaveDrawn m.disks id desk.vault by.middle ballot → IsQuiet m cluster (drew_log ballot key era log) all id era now
+    → IsDeskTrue m cluster log all era id caller waiting desk → (by : LosesMemory m.disks key desk now ballot) → MayHaveDrawn m.disks id desk.vault by.middle ballot → IsDeskQuiet m cluster (drew_log ballot key era log) all id era now
 quiet_loses {S} {V} m cluster log all id era caller waiting key desk now ballot tells of by drawn =
     let cache = same_or_without m cluster (drew_log ballot key era log) all id era key desk.cache now.cache by.cache (drew_ready cluster log all id era desk.cache key ballot of.cached) of.one_each in
     record {
@@ -172,7 +172,7 @@ quiet_loses {S} {V} m cluster log all id era caller waiting key desk now ballot 
     }
 
 pub quiet_ends : {S V : Type 0} (m : Meaning S V) (cluster : Cluster) (log : List Happening) (all : List Made) (id era : ℕ) (caller : CallerView) (waiting : List Message) (desk now : DeskView V) (round : Round) → m.disks.tells
-    → IsDeskTrue m cluster log all era id caller waiting desk → EndsRound m.disks desk now round None → IsQuiet m cluster log all id era now
+    → IsDeskTrue m cluster log all era id caller waiting desk → EndsRound m.disks desk now round None → IsDeskQuiet m cluster log all id era now
 quiet_ends {S} {V} m cluster log all id era caller waiting desk now round tells of by =
     let cache = same_or_without m cluster log all id era round.key desk.cache now.cache (inr (ap (λ (d : DeskView V). d.cache) by.desk)) of.cached of.one_each in
     record {
@@ -187,7 +187,7 @@ quiet_ends {S} {V} m cluster log all id era caller waiting desk now round tells 
 -- ---- the view then
 -- the proposer's round is closed, its frames are gone, and its caller is told how
 pub quiets : {S V : Type 0} (m : Meaning S V) (cluster : Cluster) (global : GlobalState) (old : View S V) (id : ℕ) (caller : CallerView) (call : CallView) (now : DeskView V) (flow : FlowView)
-    → Around m cluster global old id → IsCallerTrue global.log global.made id caller → IsCallTrue global.log global.made id caller.number call → IsQuiet m cluster global.log global.made id (era_at old id).number now
+    → Around m cluster global old id → IsCallerTrue global.log global.made id caller → IsCallTrue global.log global.made id caller.number call → IsDeskQuiet m cluster global.log global.made id (era_at old id).number now
     → (queue_at flow id).messages ≡ [] → ((p : ℕ) → (p ≡ id → ⊥) → (queue_at flow p).messages ≡ (queue_at old.flow p).messages) → AreMessagesTrue global.log flow.late
     → Whole m cluster global (record (with_call (with_desk old id now) id caller call) { flow = flow })
 quiets {S} {V} m cluster global old id caller call now flow rest was call_true quiet none others late =

@@ -223,11 +223,11 @@ held_collecting {S} {V} m old new by was =
 -- ---- what is counted
 -- a round of proposer 0 is counted: of the marks that were reserved for its call one is left over, and the ballot that its caller is told is
 -- within its limits
-pub record IsCounted {S V : Type 0} (old middle : View S V) : Type 0 where
+pub record IsRoundCounted {S V : Type 0} (old middle : View S V) : Type 0 where
   pub room : length middle.marks + reserved_of middle.callers + 1 ≤ length old.marks + reserved_of old.callers
   pub fits : (of : OpenCallAt middle 0) (state : State) (took : Took) (ballot : Ballot) → of.call.told ≡ Some (answer.Done state took ballot) → FitsBallot ballot
 
-pub is_counted : {S V : Type 0} (m : Meaning S V) (old middle : View S V) → IsSound old → StepCount m old 0 middle → length old.marks < length middle.marks → IsCounted old middle
+pub is_counted : {S V : Type 0} (m : Meaning S V) (old middle : View S V) → IsSound old → StepCount m old 0 middle → length old.marks < length middle.marks → IsRoundCounted old middle
 is_counted {S} {V} m old middle was by more = in_case by.counts
   where
     at : OpenRoundAt old 0
@@ -247,7 +247,7 @@ is_counted {S} {V} m old middle was by more = in_case by.counts
         let its : of.caller ≡ next = own_set old.callers 0 next of.caller (subst (λ (l : List CallerView). IsAt l 0 of.caller) callers of.at_caller) in
         some_is (sym of.is_open ∙ ap (λ (c : CallerView). c.call) its ∙ is)
 
-    in_case : CountsOrEnds m old 0 at.desk at.round caller at.of_call.call middle → IsCounted old middle
+    in_case : CountsOrEnds m old 0 at.desk at.round caller at.of_call.call middle → IsRoundCounted old middle
     in_case (calls.counts now by_whom outcome quorum confirmers proposed ends view) =
         let told : CallView = over at.of_call.call (answer.Done outcome.state outcome.took at.round.ballot) in
         let mark : Acknowledgment = record { key = at.round.key; ballot = at.round.ballot; era = at.round.era.number; by = by_whom } in

@@ -53,7 +53,7 @@ use Rattle.cas_record.proofs.PlaceLemmas.{stands_at, stands_deeper, stands_part}
 use Rattle.cas_slot.specs.declared.ages.Ages.{Ages as LeastAges}
 use Rattle.cas_slot.specs.declared.message.Ask.TheVariants as ask
 use Rattle.cas_slot.specs.declared.message.Request.{Request}
-use Rattle.cas_model.proofs.Calls.Ends.{quiet_true, quiet_ends, IsQuiet}
+use Rattle.cas_model.proofs.Calls.Ends.{quiet_true, quiet_ends, IsDeskQuiet}
 use Rattle.cas_model.proofs.Eras.InEras.{one_changed, up_kept, era_kept, left_in, down_in}
 use Rattle.cas_model.proofs.Collection.Renewals.{counted_collection, ended_collection, left_collection, left_renewed, down_renewed, held_set}
 use Rattle.cas_model.proofs.Steps.{round_at, prepare_at, call_at}
@@ -495,7 +495,7 @@ one_renewed key None cache one = one
 one_renewed key (Some round) cache one = one_without round.key cache one
 
 quiet_renewed : {S V : Type 0} (m : Meaning S V) (cluster : Cluster) (log : List Happening) (all : List Made) (id era : ℕ) (caller : CallerView) (waiting : List Message) (key : List ℕ) (tomb : Ballot) (age : ℕ) (desk now : DeskView V) → m.disks.tells
-    → IsDeskTrue m cluster log all era id caller waiting desk → Renews m.disks key tomb age desk now → IsQuiet m cluster log all id era now
+    → IsDeskTrue m cluster log all era id caller waiting desk → Renews m.disks key tomb age desk now → IsDeskQuiet m cluster log all id era now
 quiet_renewed {S} {V} m cluster log all id era caller waiting key tomb age desk now tells of by = record {
   same_id = ap (λ (d : DeskView V). d.id) by.desk ∙ of.same_id;
   known = of.known;
@@ -522,7 +522,7 @@ now_renewed {V} m key tomb age desk now tells one by = record {
 }
 
 -- the desk that left its round
-record HasLeft {V : Type 0} (DeskTurns : DeskView V → DeskView V → Type 0) (old new : List (DeskView V)) (id : ℕ) : Type 0 where
+record HasLeftRound {V : Type 0} (DeskTurns : DeskView V → DeskView V → Type 0) (old new : List (DeskView V)) (id : ℕ) : Type 0 where
   desk : DeskView V
   now : DeskView V
   at : IsAt old id desk
@@ -530,7 +530,7 @@ record HasLeft {V : Type 0} (DeskTurns : DeskView V → DeskView V → Type 0) (
   desks : new ≡ slice_set old id now
 
 has_left : {S V : Type 0} (DeskTurns : DeskView V → DeskView V → Type 0) (closed : CallView → CallView) (old new : View S V) (id : ℕ) → LeavesRound DeskTurns closed old id new
-    → HasLeft DeskTurns old.desks new.desks id
+    → HasLeftRound DeskTurns old.desks new.desks id
 has_left {S} {V} DeskTurns closed old new id (stops.idle desk now at none turns is) = record { desk = desk; now = now; at = at; turns = turns; desks = ap (λ (w : View S V). w.desks) is }
 has_left {S} {V} DeskTurns closed old new id (stops.closes desk now round of_call at is_round turns is) = record { desk = desk; now = now; at = at; turns = turns; desks = ap (λ (w : View S V). w.desks) is }
 
@@ -592,7 +592,7 @@ renews {S} {V} m old proposer new disks is by = by_case by.renews
         next : CollectionView
         next = record (confirmed_step c) { ages = c.ages ++ age ∷ [] }
 
-        left : HasLeft (Renews m.disks key tomb age) old.desks middle.desks proposer
+        left : HasLeftRound (Renews m.disks key tomb age) old.desks middle.desks proposer
         left = has_left (Renews m.disks key tomb age) (closed_by (answer.Aged age) (cause.Aged age)) old middle proposer leaves
 
         whole : Whole m is.followed.cluster global middle

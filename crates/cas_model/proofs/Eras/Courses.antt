@@ -45,13 +45,13 @@ path_settles era (Enter next ∷ left) is = absurd is
 path_settles era (Finished ∷ left) is = refl
 
 -- where an era is entered, it follows, and the steps after it are a path from it
-pub record Leads (era next : Era) (left : List PlanStep) : Type 0 where
+pub record LeadsToEra (era next : Era) (left : List PlanStep) : Type 0 where
   pub follows : Follows era next
   pub path : IsPath next (rest_of left)
 
-pub leads : (era next : Era) (left : List PlanStep) → entering left ≡ Some next → IsStart era left → Leads era next left
+pub leads : (era next : Era) (left : List PlanStep) → entering left ≡ Some next → IsStart era left → LeadsToEra era next left
 leads era next [] is start = absurd (cc is)
-leads era next (Enter other ∷ left) is start = subst (λ (e : Era). Leads era e (Enter other ∷ left)) (some_is is) (record { follows = start.0; path = start.1 })
+leads era next (Enter other ∷ left) is start = subst (λ (e : Era). LeadsToEra era e (Enter other ∷ left)) (some_is is) (record { follows = start.0; path = start.1 })
 leads era next (Settle ∷ left) is start = absurd (cc is)
 leads era next (Finished ∷ left) is start = absurd (cc is)
 
@@ -230,7 +230,7 @@ one_entered last_proposer eras plan entries next is_next more was = record {
   };
 }
   where
-    leading : Leads plan.progress.era next plan.progress.left
+    leading : LeadsToEra plan.progress.era next plan.progress.left
     leading = leads plan.progress.era next plan.progress.left is_next was.under_way.start
 
     low : suc plan.entered ≤ last_proposer
@@ -295,7 +295,7 @@ last_entered last_proposer eras plan entries next is_next last was = record {
   };
 }
   where
-    leading : Leads plan.progress.era next plan.progress.left
+    leading : LeadsToEra plan.progress.era next plan.progress.left
     leading = leads plan.progress.era next plan.progress.left is_next was.under_way.start
 
     in_next : (p : ℕ) (era : Era) → p < plan.entered → WorksIn plan p era → era ≡ next

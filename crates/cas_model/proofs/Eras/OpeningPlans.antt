@@ -25,9 +25,9 @@ use Rattle.cas_model.specs.Eras.Step.{IsPlanned, new_plan, used_with}
 use Rattle.cas_model.specs.View.{Meaning, View, era_at}
 use Rattle.cas_model.proofs.Eras.Courses.{course, course_opened}
 use Rattle.cas_model.proofs.Frames.Harms.{member_low}
-use Rattle.cas_model.proofs.Eras.Plans.{Begins, planned_starts, planned_meets, start_next, IsMemberOfOne, IsMemberThen, already, joins, planned_members}
+use Rattle.cas_model.proofs.Eras.Plans.{BeginsPlan, planned_starts, planned_meets, start_next, IsMemberOfOne, IsMemberThen, already, joins, planned_members}
 use Rattle.cas_model.proofs.Eras.Steps.{entry_there}
-use Rattle.cas_model.proofs.Eras.Wider.{IsAhead, wider_exchange, wider_logged}
+use Rattle.cas_model.proofs.Eras.Wider.{IsAheadOfBase, wider_exchange, wider_logged}
 use Rattle.cas_model.proofs.Eras.Widening.{IsWidening, widens}
 
 -- with no change under way all proposers work in the last era of the cluster
@@ -79,7 +79,7 @@ plan_opened {S} {V} m old asked progress next same_exchange is_plan is_used none
     settled : IsSettled (course old.last_proposer old.eras None (entries_in old.marks))
     settled = on.is_course.under_way
 
-    begins : Begins asked (era_at old 0) progress
+    begins : BeginsPlan asked (era_at old 0) progress
     begins = planned_starts (era_at old 0) used asked progress settled.whole planned
 
     later : List Era
@@ -111,7 +111,7 @@ plan_opened {S} {V} m old asked progress next same_exchange is_plan is_used none
     in_base : (acceptor : ℕ) → has_member (era_at old 0).prep acceptor ≡ true → has_member (is.cluster.members progress.era.number) acceptor ≡ true
     in_base acceptor member = is_era.prep_members acceptor (subst (λ (e : Era). has_member e.prep acceptor ≡ true) (sym begins.era) member)
 
-    ahead : IsAhead is.cluster is.logged.global.log progress.era later used
+    ahead : IsAheadOfBase is.cluster is.logged.global.log progress.era later used
     ahead = record {
       all_in = λ era entered. elim (on.is_course.entries.none_beyond _ (entry_there old.marks 0 era (subst (Stands (EraEntered 0 era)) is.logged.agrees.marks (entered 0 (omega arith))))) [
         | inl few ↦ omega (arith, few, ap (λ (e : Era). e.number) begins.era)

@@ -73,7 +73,7 @@ no_less ids id set =
 
 -- ---- steps that begin a change
 -- they start from the era, which is left as it is only where it is the first, all eras of them meet, and the last is as it was asked for
-record Goes (asked : Asked) (era : Era) (left : List PlanStep) : Type 0 where
+record PlanGoes (asked : Asked) (era : Era) (left : List PlanStep) : Type 0 where
   pub start : IsStart era left
   pub leads : IsAskedEra asked (last_era era (eras_in left))
   pub first : (next : Era) → entering left ≡ Some next → era.number ≡ 0
@@ -84,18 +84,18 @@ positive zero is = absurd (cc is)
 positive (suc n) is = omega arith
 
 at_once : (asked : Asked) (era next : Era) → Follows era next → IsWhole next → IsAskedEra asked next → NeighboursMeet (era ∷ next ∷ []) → (settled : Bool) → (era.number == 0) ≡ settled
-    → Goes asked era ((if settled then [] else Settle ∷ []) ++ Enter next ∷ [])
+    → PlanGoes asked era ((if settled then [] else Settle ∷ []) ++ Enter next ∷ [])
 at_once asked era next follows whole leads meets true is = record { start = (follows, whole); leads = leads; first = λ e enters. nat_same is; meets = meets }
 at_once asked era next follows whole leads meets false is = record { start = (positive era.number is, follows, whole); leads = leads; first = λ e enters. absurd (cc enters); meets = meets }
 
 by_half : (asked : Asked) (era half last : Era) → Follows era half → Follows half last → IsWhole last → IsAskedEra asked last → NeighboursMeet (era ∷ half ∷ last ∷ []) → (settled : Bool) → (era.number == 0) ≡ settled
-    → Goes asked era ((if settled then [] else Settle ∷ []) ++ Enter half ∷ Settle ∷ Enter last ∷ [])
+    → PlanGoes asked era ((if settled then [] else Settle ∷ []) ++ Enter half ∷ Settle ∷ Enter last ∷ [])
 by_half asked era half last first second whole leads meets true is =
     record { start = (first, (omega (arith, first.number), second, whole)); leads = leads; first = λ e enters. nat_same is; meets = meets }
 by_half asked era half last first second whole leads meets false is =
     record { start = (positive era.number is, first, (omega (arith, first.number), second, whole)); leads = leads; first = λ e enters. absurd (cc enters); meets = meets }
 
-join_goes : (era : Era) (id : ℕ) → IsWhole era → length era.prep < 9 → has_majorities era ≡ true → Goes (Join id) era (join_steps era id)
+join_goes : (era : Era) (id : ℕ) → IsWhole era → length era.prep < 9 → has_majorities era ≡ true → PlanGoes (Join id) era (join_steps era id)
 join_goes era id whole room majorities = by_parity (length era.prep % 2 == 1)
   where
     more : List ℕ
@@ -123,14 +123,14 @@ join_goes era id whole room majorities = by_parity (length era.prep % 2 == 1)
     there low = has-members_where (λ n. n == id || has_member era.prep n) id low ∙ or_left (id == id) (has_member era.prep id) (nat_is refl)
 
     by_parity : (odd : Bool)
-        → Goes (Join id) era (if odd then settle_first era ++ Enter half ∷ Settle ∷ Enter (majority_era (era.number + 2) more) ∷ [] else (settle_first era ++ Enter (majority_era (era.number + 1) more) ∷ []))
+        → PlanGoes (Join id) era (if odd then settle_first era ++ Enter half ∷ Settle ∷ Enter (majority_era (era.number + 2) more) ∷ [] else (settle_first era ++ Enter (majority_era (era.number + 1) more) ∷ []))
     by_parity true = by_half (Join id) era half (majority_era (era.number + 2) more) (follows_by era (era.number + 1) era.prep more (omega arith) two.small_set two.large_set whole.some some half_few)
         (follows_by half (era.number + 2) more more (omega arith) two.large_set two.large_set some some all_few) (whole_by (era.number + 2) more two.large_set some few) there
         (from_era era _ whole.one_set majorities (table.halves_up era.number era.prep more two)).chain (era.number == 0) refl
     by_parity false = at_once (Join id) era (majority_era (era.number + 1) more) (follows_by era (era.number + 1) more more (omega arith) two.large_set two.large_set some some all_few)
         (whole_by (era.number + 1) more two.large_set some few) there (from_era era _ whole.one_set majorities (table.at_once_up era.number era.prep more two)).chain (era.number == 0) refl
 
-leave_goes : (era : Era) (id : ℕ) → IsWhole era → 1 < length era.prep → has_majorities era ≡ true → Goes (Leave id) era (leave_steps era id)
+leave_goes : (era : Era) (id : ℕ) → IsWhole era → 1 < length era.prep → has_majorities era ≡ true → PlanGoes (Leave id) era (leave_steps era id)
 leave_goes era id whole several majorities = by_parity (length era.prep % 2 == 0)
   where
     less : List ℕ
@@ -159,7 +159,7 @@ leave_goes era id whole several majorities = by_parity (length era.prep % 2 == 0
         (not_tells (id == id) (and_left (not (id == id)) (has_member era.prep id) (members_where_tells (λ n. not (n == id) && has_member era.prep n) id is))))
 
     by_parity : (even : Bool)
-        → Goes (Leave id) era (if even then settle_first era ++ Enter half ∷ Settle ∷ Enter (majority_era (era.number + 2) less) ∷ [] else (settle_first era ++ Enter (majority_era (era.number + 1) less) ∷ []))
+        → PlanGoes (Leave id) era (if even then settle_first era ++ Enter half ∷ Settle ∷ Enter (majority_era (era.number + 2) less) ∷ [] else (settle_first era ++ Enter (majority_era (era.number + 1) less) ∷ []))
     by_parity true = by_half (Leave id) era half (majority_era (era.number + 2) less) (follows_by era (era.number + 1) less era.prep (omega arith) two.small_set two.large_set some whole.some half_few)
         (follows_by half (era.number + 2) less less (omega arith) two.small_set two.small_set some some all_few) (whole_by (era.number + 2) less two.small_set some few) gone
         (from_era era _ whole.one_set majorities (table.halves_down era.number less era.prep two)).chain (era.number == 0) refl
@@ -167,7 +167,7 @@ leave_goes era id whole several majorities = by_parity (length era.prep % 2 == 0
         (whole_by (era.number + 1) less two.small_set some few) gone (from_era era _ whole.one_set majorities (table.at_once_down era.number less era.prep two)).chain (era.number == 0) refl
 
 -- the sizes that are asked for are the last ones
-resize_goes : (era : Era) (p a : ℕ) → IsWhole era → are_sizes (length era.prep) p a ≡ true → Goes (Resize p a) era (resize_steps era p a)
+resize_goes : (era : Era) (p a : ℕ) → IsWhole era → are_sizes (length era.prep) p a ≡ true → PlanGoes (Resize p a) era (resize_steps era p a)
 resize_goes era p a whole are = by_sizes (meets_sizes era p a) refl
   where
     few : length era.prep ≤ 9
@@ -183,7 +183,7 @@ resize_goes era p a whole are = by_sizes (meets_sizes era p a) refl
     half = sized_era (era.number + 1) era.prep (greater_of era.need_prep p) (greater_of era.need_acc a)
 
     by_sizes : (meet : Bool) → meets_sizes era p a ≡ meet
-        → Goes (Resize p a) era (if meet then settle_first era ++ Enter (sized_era (era.number + 1) era.prep p a) ∷ []
+        → PlanGoes (Resize p a) era (if meet then settle_first era ++ Enter (sized_era (era.number + 1) era.prep p a) ∷ []
         else (settle_first era ++ Enter half ∷ Settle ∷ Enter (sized_era (era.number + 2) era.prep p a) ∷ []))
     by_sizes true meet = at_once (Resize p a) era (sized_era (era.number + 1) era.prep p a) (follows_in era (era.number + 1) era.prep p a (omega arith) whole.member_set whole.some few now)
         (whole_in (era.number + 1) era.prep p a whole.member_set whole.some few now) (refl, refl)
@@ -196,9 +196,9 @@ resize_goes era p a whole are = by_sizes (meets_sizes era p a) refl
 -- ---- the plans of the table
 record IsOfTable (asked : Asked) (from : Era) (progress : Progress) : Type 0 where
   pub era : progress.era ≡ from
-  pub goes : Goes asked progress.era progress.left
+  pub goes : PlanGoes asked progress.era progress.left
 
-of_table : (asked : Asked) (from : Era) (left : List PlanStep) (progress : Progress) → progress ≡ record { era = from; left = left } → Goes asked from left → IsOfTable asked from progress
+of_table : (asked : Asked) (from : Era) (left : List PlanStep) (progress : Progress) → progress ≡ record { era = from; left = left } → PlanGoes asked from left → IsOfTable asked from progress
 of_table asked from left progress is goes = subst (IsOfTable asked from) (sym is) (record { era = refl; goes = goes })
 
 -- where one joins, it is new, there is room for it, and sizes are majorities
@@ -221,16 +221,16 @@ has_joined era used id progress planned = by_tests (has_member era.prep id) (has
     by_tests false false false false unused room majorities is = absurd (cc is)
 
 -- where a member leaves, others stay, and sizes are majorities
-record HasLeft (era : Era) (id : ℕ) (progress : Progress) : Type 0 where
+record HasLeftMembers (era : Era) (id : ℕ) (progress : Progress) : Type 0 where
   pub is : progress ≡ record { era = era; left = leave_steps era id }
   pub several : 1 < length era.prep
   pub majorities : has_majorities era ≡ true
 
-has_left : (era : Era) (id : ℕ) (progress : Progress) → Ok progress ≡ leave_of era id → HasLeft era id progress
+has_left : (era : Era) (id : ℕ) (progress : Progress) → Ok progress ≡ leave_of era id → HasLeftMembers era id progress
 has_left era id progress planned = by_tests (has_member era.prep id) (nat_le (length era.prep) 1) (has_majorities era) refl refl planned
   where
     by_tests : (a b c : Bool) → nat_le (length era.prep) 1 ≡ b → has_majorities era ≡ c
-        → Ok progress ≡ (if a then (if b then Err Last else if c then Ok (record { era = era; left = leave_steps era id }) else Err NotMajority) else Err NotIn) → HasLeft era id progress
+        → Ok progress ≡ (if a then (if b then Err Last else if c then Ok (record { era = era; left = leave_steps era id }) else Err NotMajority) else Err NotIn) → HasLeftMembers era id progress
     by_tests false b c several majorities is = absurd (cc is)
     by_tests true true c several majorities is = absurd (cc is)
     by_tests true false true several majorities is = record { is = cc is; several = leb-false (length era.prep) 1 several; majorities = majorities }
@@ -260,7 +260,7 @@ planned_of_table era used asked progress whole (plans.resizes p a asked_so plann
     subst (λ (of : Asked). IsOfTable of era progress) (sym asked_so) (of_table (Resize p a) era (resize_steps era p a) progress by.is (resize_goes era p a whole by.are))
 
 -- how a change of membership begins
-pub record Begins (asked : Asked) (from : Era) (progress : Progress) : Type 0 where
+pub record BeginsPlan (asked : Asked) (from : Era) (progress : Progress) : Type 0 where
   pub era : progress.era ≡ from
   pub start : IsStart progress.era progress.left
   -- it ends as it was asked for
@@ -268,7 +268,7 @@ pub record Begins (asked : Asked) (from : Era) (progress : Progress) : Type 0 wh
   -- only the first era is left as it is
   pub first : (next : Era) → entering progress.left ≡ Some next → progress.era.number ≡ 0
 
-pub planned_starts : (era : Era) (used : List ℕ) (asked : Asked) (progress : Progress) → IsWhole era → IsPlanned era used asked (Ok progress) → Begins asked era progress
+pub planned_starts : (era : Era) (used : List ℕ) (asked : Asked) (progress : Progress) → IsWhole era → IsPlanned era used asked (Ok progress) → BeginsPlan asked era progress
 planned_starts era used asked progress whole planned =
     let of = planned_of_table era used asked progress whole planned in
     record { era = of.era; start = of.goes.start; leads = of.goes.leads; first = of.goes.first }

@@ -19,7 +19,7 @@ use Rattle.cas_protocol.specs.Protocol.{Made, GlobalState, IsLeaving, Enters, wi
 use Rattle.cas_model.specs.View.{Meaning, View}
 use Rattle.cas_model.proofs.Around.{Around, around_more, IsOf}
 use Rattle.cas_model.proofs.Calls.Draws.{Lasts}
-use Rattle.cas_model.proofs.Calls.Ends.{IsQuiet}
+use Rattle.cas_model.proofs.Calls.Ends.{IsDeskQuiet}
 use Rattle.cas_protocol.proofs.Events.{keeps}
 use Rattle.cas_model.proofs.Places.{contains_none, has_append}
 
@@ -125,7 +125,7 @@ entered_vault m log id era still none was = record {
 -- one without promise and round works on in the next era
 pub quiet_entered : {S V : Type 0} (m : Meaning S V) (cluster : Cluster) (log : List Happening) (all : List Made) (id era : ℕ) (old now : DeskView V) → now.id ≡ old.id → now.cache ≡ [] → now.round ≡ None
     → Lasts m.disks old.vault now.vault → (Stands (Entered id (suc (suc era))) log → ⊥) → old.id ≡ id → id ≤ cluster.last_proposer → IsVaultTrue m log id era old.vault
-    → IsQuiet m cluster (Entered id (suc era) ∷ log) all id (suc era) now
+    → IsDeskQuiet m cluster (Entered id (suc era) ∷ log) all id (suc era) now
 quiet_entered m cluster log all id era old now same_id no_promise none still beyond own known vault = record {
   same_id = same_id ∙ own;
   known = known;

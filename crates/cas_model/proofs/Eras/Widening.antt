@@ -92,12 +92,12 @@ has_era cluster base next follows = record {
 
 -- ---- after the last era
 -- the quorums of the cluster meet, and this is its last era
-record IsLast (cluster : Cluster) (base : Era) : Type 0 where
+record IsLastEra (cluster : Cluster) (base : Era) : Type 0 where
   pub meets : ClusterMeets cluster
   pub is_era : IsEraOf cluster base
   pub none_beyond : (number : ℕ) → base.number < number → IsNoEra cluster number
 
-new_meets : (cluster : Cluster) (base next : Era) → Follows base next → Meet base next → Meet next next → IsLast cluster base → ClusterMeets (with_era cluster next)
+new_meets : (cluster : Cluster) (base next : Era) → Follows base next → Meet base next → Meet next next → IsLastEra cluster base → ClusterMeets (with_era cluster next)
 new_meets cluster base next follows neighbours same last m n low high prepared accepted prepares accepts = by_number (same_or_not m next.number) (same_or_not n next.number)
   where
     -- of the numbers around that of the new era only that of the base has quorums
@@ -136,7 +136,7 @@ new_meets cluster base next follows neighbours same last m n low high prepared a
     by_number (inr m_other) (inl n_is) = after_base (around m m_other (omega (arith, n_is, low)) (omega (arith, n_is, high))) m_other n_is
     by_number (inr m_other) (inr n_other) = last.meets m n low high prepared accepted (old_prepares m_other) (old_accepts n_other)
 
-new_last : (cluster : Cluster) (base next : Era) → Follows base next → Meet base next → Meet next next → IsLast cluster base → IsLast (with_era cluster next) next
+new_last : (cluster : Cluster) (base next : Era) → Follows base next → Meet base next → Meet next next → IsLastEra cluster base → IsLastEra (with_era cluster next) next
 new_last cluster base next follows neighbours same last = record {
   meets = new_meets cluster base next follows neighbours same last;
   is_era = has_era cluster base next follows;
@@ -196,7 +196,7 @@ new_member cluster next number acceptor member = elim (same_or_not number next.n
   | inr other ↦ inl (subst (λ (l : List ℕ). has_member l acceptor ≡ true) (other_members cluster next number other) member)
 ]
 
-further : (cluster wider : Cluster) (base next : Era) (later : List Era) → Follows base next → IsLast cluster base → IsWidening (with_era cluster next) wider next later → IsWidening cluster wider base (next ∷ later)
+further : (cluster wider : Cluster) (base next : Era) (later : List Era) → Follows base next → IsLastEra cluster base → IsWidening (with_era cluster next) wider next later → IsWidening cluster wider base (next ∷ later)
 further cluster wider base next later follows last rest = record {
   meets = rest.meets;
   widened = widened_on (new_widened cluster next (last.none_beyond next.number (omega (arith, follows.number)))) rest.widened;
@@ -215,7 +215,8 @@ further cluster wider base next later follows last rest = record {
   none_beyond = λ number far. rest.none_beyond number (omega (arith, far, follows.number));
 }
 
-widens_last : (cluster : Cluster) (base : Era) (later : List Era) → IsLast cluster base → AreNext base later → NeighboursMeet (base ∷ later) → (wider : Cluster) × IsWidening cluster wider base later
+widens_last : (cluster : Cluster) (base : Era) (later : List Era) → IsLastEra cluster base → AreNext base later → NeighboursMeet (base ∷ later)
+    → (wider : Cluster) × IsWidening cluster wider base later
 widens_last cluster base [] last follows meet = (
   cluster,
   record {

@@ -34,7 +34,7 @@ use Rattle.cas_record.proofs.Logs.Listings.{marks_part}
 
 -- ---- floors
 -- all are in no era beyond the base, and who becomes a member was one in the base or was never used
-pub record IsAhead (cluster : Cluster) (log : List Happening) (base : Era) (later : List Era) (used : List ℕ) : Type 0 where
+pub record IsAheadOfBase (cluster : Cluster) (log : List Happening) (base : Era) (later : List Era) (used : List ℕ) : Type 0 where
   pub all_in : (era : ℕ) → AllEntered cluster era (marks_of log) → era ≤ base.number
   pub joins : (acceptor : ℕ) → IsMemberOfOne later acceptor → (has_member (cluster.members base.number) acceptor ≡ true) ⊎ (has_member used acceptor ≡ false)
 
@@ -62,7 +62,7 @@ unused_aged cluster log used acceptor key floor orderly are unused = record { ag
         absurd (not_both (has_member used acceptor) (subst (λ (a : ℕ). has_member used a ≡ true) to (are.members may.era request.to may.member)) unused)
 
 wider_clear : (cluster wider : Cluster) (base : Era) (later : List Era) (log : List Happening) (used : List ℕ) (key : List ℕ) (floor : Ballot) → IsWidening cluster wider base later
-    → IsAhead cluster log base later used → AreUsed cluster used → Orderly cluster log
+    → IsAheadOfBase cluster log base later used → AreUsed cluster used → Orderly cluster log
     → IsFloorClear cluster log key floor → IsFloorClear wider log key floor
 wider_clear cluster wider base later log used key floor more ahead are orderly was = record {
   era = was.era;
@@ -101,7 +101,8 @@ wider_opened w was = record {
   took = was.took;
 }
 
-wider_history : (cluster wider : Cluster) (base : Era) (later : List Era) (global : GlobalState) (used : List ℕ) → IsWidening cluster wider base later → IsAhead cluster global.log base later used
+wider_history : (cluster wider : Cluster) (base : Era) (later : List Era) (global : GlobalState) (used : List ℕ) → IsWidening cluster wider base later
+    → IsAheadOfBase cluster global.log base later used
     → AreUsed cluster used
     → HasHistory cluster global → HasHistory wider global
 wider_history cluster wider base later global used more ahead are was = record {
@@ -122,13 +123,13 @@ wider_history cluster wider base later global used more ahead are was = record {
 
 -- ---- the exchange
 -- as the log was at an earlier time
-ahead_before : (cluster : Cluster) (log older : List Happening) (base : Era) (later : List Era) (used : List ℕ) → IsOlderPart older log → IsAhead cluster log base later used
-    → IsAhead cluster older base later used
+ahead_before : (cluster : Cluster) (log older : List Happening) (base : Era) (later : List Era) (used : List ℕ) → IsOlderPart older log → IsAheadOfBase cluster log base later used
+    → IsAheadOfBase cluster older base later used
 ahead_before cluster log older base later used part ahead = record { all_in = λ era entered. ahead.all_in era (λ proposer known. stands_part (entered proposer known) (marks_part part)); joins = ahead.joins }
 
 -- what a read knows of its floors and its quorums stays
 pub wider_exchange : (cluster wider : Cluster) (base : Era) (later : List Era) (log : List Happening) (used : List ℕ) (exchange : ExchangeView) → IsWidening cluster wider base later
-    → IsAhead cluster log base later used → AreUsed cluster used → Orderly cluster log
+    → IsAheadOfBase cluster log base later used → AreUsed cluster used → Orderly cluster log
     → IsExchangeTrue cluster log exchange → IsExchangeTrue wider log exchange
 wider_exchange cluster wider base later log used exchange more ahead are orderly was = record {
   own = was.own;
@@ -216,7 +217,7 @@ wider_agrees m cluster wider base later global view next more low council was = 
 }
 
 pub wider_logged : {S V : Type 0} (m : Meaning S V) (cluster wider : Cluster) (base : Era) (later : List Era) (view : View S V) (next : Council) → IsWidening cluster wider base later
-    → ((id : ℕ) → id ≤ view.last_proposer → (era_at view id).number ≤ base.number) → (is : IsLogged m cluster view) → IsAhead cluster is.global.log base later view.council.used
+    → ((id : ℕ) → id ≤ view.last_proposer → (era_at view id).number ≤ base.number) → (is : IsLogged m cluster view) → IsAheadOfBase cluster is.global.log base later view.council.used
     → IsCouncilTrue wider is.global.log next → IsLogged m wider (with_council view next)
 wider_logged m cluster wider base later view next more low is ahead council = record {
   meets = more.meets;

@@ -119,13 +119,13 @@ was_probed cluster global exchange key era history is asks reads place one promi
     }
 
 -- who told the ballot
-record TellsOf (ballot : Ballot) (told : Option Tell) : Type 0 where
+record TellsBallot (ballot : Ballot) (told : Option Tell) : Type 0 where
   promise : Ballot
   accepted : Option Accepted
   is : told ≡ Some (tell.Probed promise accepted)
   same : accepted_ballot accepted ≡ ballot
 
-tells_of : (ballot : Ballot) (told : Option Tell) → tells_ballot ballot told ≡ true → TellsOf ballot told
+tells_of : (ballot : Ballot) (told : Option Tell) → tells_ballot ballot told ≡ true → TellsBallot ballot told
 tells_of ballot (Some (tell.Probed promise accepted)) e = record { promise = promise; accepted = accepted; is = refl; same = ballot_same e }
 tells_of ballot told e = absurd (cc e)
 
@@ -133,7 +133,7 @@ same_accepted : {p q : Ballot} {a b : Option Accepted} → Some (tell.Probed p a
 same_accepted is = cc is
 
 -- an acceptor that holds the ballot told so
-pub record Holds (ballot : Ballot) (found : List Answered) (acceptor : ℕ) : Type 0 where
+pub record HoldsBallot (ballot : Ballot) (found : List Answered) (acceptor : ℕ) : Type 0 where
   pub place : ℕ
   pub one : Answered
   pub at : IsAt found place one
@@ -143,7 +143,7 @@ pub record Holds (ballot : Ballot) (found : List Answered) (acceptor : ℕ) : Ty
   pub told : one.told ≡ Some (tell.Probed promise accepted)
   pub same_ballot : accepted_ballot accepted ≡ ballot
 
-pub holds : (ballot : Ballot) (found : List Answered) (acceptor : ℕ) → has_member (holders_of ballot found) acceptor ≡ true → Holds ballot found acceptor
+pub holds : (ballot : Ballot) (found : List Answered) (acceptor : ℕ) → has_member (holders_of ballot found) acceptor ≡ true → HoldsBallot ballot found acceptor
 holds ballot found acceptor is =
     let tells = tells_of ballot (told_by found acceptor) (members_where_tells (λ a. tells_ballot ballot (told_by found a)) acceptor is) in
     let said = answer_of found acceptor (tell.Probed tells.promise tells.accepted) tells.is in

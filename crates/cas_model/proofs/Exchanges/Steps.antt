@@ -61,7 +61,7 @@ use Rattle.cas_model.proofs.Around.{Whole, whole_of, whole_more, logged, around,
 use Rattle.cas_model.proofs.Collection.Renewing.{asks_by}
 use Rattle.cas_model.proofs.Calls.Asks.{IsOfNoKey, asked_log, asked_global, asked_around, asked_vault, asked_caller, asked_still, asked_later, asked_messages, asked_marks, asked_ready, asked_plan, asked_tag, IsTag, may_question, where_drawn, goes_same}
 use Rattle.cas_model.proofs.Calls.Draws.{drew, drew_in_hand, drew_marks}
-use Rattle.cas_model.proofs.Calls.Ends.{lost, none_left, others_left, all_joined_true, IsQuiet, quiet_true, quiet_fails}
+use Rattle.cas_model.proofs.Calls.Ends.{lost, none_left, others_left, all_joined_true, IsDeskQuiet, quiet_true, quiet_fails}
 use Rattle.cas_protocol.proofs.Events.{keeps}
 use Rattle.cas_model.proofs.Frames.Steps.{marked, taken_flows, replied_flows, answer_marks, refuses_stray}
 use Rattle.cas_model.proofs.Calls.Rounds.{none_waits}
@@ -350,7 +350,7 @@ asks_whole m cluster global view age tag question tos desk caller at_desk at_cal
 
 -- a desk without an open round that stays quiet
 quiets_desk : {S V : Type 0} (m : Meaning S V) (cluster : Cluster) (global : GlobalState) (old : View S V) (id : ℕ) (desk now : DeskView V) → IsAt old.desks id desk → desk.round ≡ None
-    → ((caller : CallerView) → IsAt old.callers id caller → IsQuiet m cluster global.log global.made id (era_at old id).number now) → Whole m cluster global old
+    → ((caller : CallerView) → IsAt old.callers id caller → IsDeskQuiet m cluster global.log global.made id (era_at old id).number now) → Whole m cluster global old
     → Whole m cluster global (with_desk old id now)
 quiets_desk {S} {V} m cluster global old id desk now at_desk idle quiet whole =
     settles m cluster global old (with_desk old id now) id (around m cluster global old id whole) (leaves_desk old id now old.flow (λ p other. refl))

@@ -19,7 +19,7 @@ use Rattle.cas_model.specs.Step as step
 use Rattle.cas_model.specs.Step.{Event, Step}
 use Rattle.cas_model.specs.Stops.Step.{CrashesDesk, broken_off_view}
 use Rattle.cas_model.specs.View.{Meaning, View}
-use Rattle.cas_model.proofs.Marks.{IsPlain, ArePlain, Adds, adds_by, tells_or_not, leaves}
+use Rattle.cas_model.proofs.Marks.{IsPlain, ArePlain, AddsMarks, adds_by, tells_or_not, leaves}
 use Rattle.cas_model.proofs.Places.{contains_append, contains_none, newest_or_older}
 
 -- ---- answers
@@ -114,7 +114,7 @@ floor_marks (o ∷ floors) a b has = elim (newest_or_older (map mark_of floors) 
 
 -- ---- steps
 module _ {S V : Type 0} where
-  adds_so : (old new : View S V) → Adds StopsUndone old new → AreTellingsSafe old → AreTellingsSafe new
+  adds_so : (old new : View S V) → AddsMarks StopsUndone old new → AreTellingsSafe old → AreTellingsSafe new
   adds_so old new adds was = record {
     marked = subst AreToldAnswers (sym adds.marks) (both_marks old.marks adds.more was.marked (plain_marks adds.more adds.plain));
     last = adds.passing was.last;

@@ -18,16 +18,16 @@ use Rattle.cas_record.specs.Logs.Lawful.{Cluster, Lawful}
 use Rattle.cas_record.specs.Logs.Orderly.{Orderly}
 use Rattle.cas_record.specs.Places.{Stands, here}
 use Rattle.cas_record.proofs.Tests.{nat_same, nat_is}
-use Rattle.cas_protocol.specs.Acceptors.{IsElsewhere, IsLeft, deeds_of, votes_of, done_log, answered_log}
+use Rattle.cas_protocol.specs.Acceptors.{IsElsewhere, IsLeft, events_of, votes_of, done_log, answered_log}
 use Rattle.cas_protocol.specs.Laws.{LogTellsKept}
 use Rattle.cas_model.specs.Parties.{IsAcceptorTrue, WasMade, IsRoundTell}
 use Rattle.cas_protocol.specs.Protocol.{Made, GlobalState, kept_but, Answers, StopsWithin as StopsWithinEvent}
 use Rattle.cas_model.specs.Frames.Acceptors.{AnswersByTable, StopsWithin, FindsNoMemory, CrashesShelf, StartsShelf, FailsToStart}
 use Rattle.cas_model.specs.View.{Meaning, View, IsAt, with_acceptor}
-use Rattle.cas_protocol.proofs.Along.{along, lawful_front, orderly_front, deeds_each, votes_each}
-use Rattle.cas_protocol.proofs.Answered.{deeds_marks}
+use Rattle.cas_protocol.proofs.Along.{along, lawful_front, orderly_front, events_each, votes_each}
+use Rattle.cas_protocol.proofs.Answered.{events_marks}
 use Rattle.cas_model.proofs.Around.{Parties, parties_more, parties_seen, Everyone, Whole}
-use Rattle.cas_protocol.proofs.Events.{keeps, deeds_elsewhere}
+use Rattle.cas_protocol.proofs.Events.{keeps, events_elsewhere}
 use Rattle.cas_model.proofs.Others.{IsOfOthers, asks_nothing, no_floor_of, acceptor_still}
 use Rattle.cas_model.proofs.Places.{but_set}
 use Rattle.cas_protocol.proofs.Staying.{stops, left_is}
@@ -45,8 +45,8 @@ parties_done : {S V : Type 0} (m : Meaning S V) (cluster : Cluster) (log : List 
     → Lawful cluster (done_log to old request tell log) → Orderly cluster (done_log to old request tell log)
     → Parties m cluster log all view Everyone → Parties m cluster (done_log to old request tell log) all view Everyone
 parties_done m cluster log all view to old request tell lawful orderly was =
-    along cluster IsQuiet (λ l. Parties m cluster l all view Everyone) (quiet_step m cluster all view) (deeds_of to old request.ask tell) log
-    (deeds_each IsQuiet to old request.ask tell (record { promised = λ key ballot told p. tt; took = λ key ballot ride p. tt; dropped = λ key tomb p. tt; raised = λ least p. tt })) lawful orderly was
+    along cluster IsQuiet (λ l. Parties m cluster l all view Everyone) (quiet_step m cluster all view) (events_of to old request.ask tell) log
+    (events_each IsQuiet to old request.ask tell (record { promised = λ key ballot told p. tt; took = λ key ballot ride p. tt; dropped = λ key tomb p. tt; raised = λ least p. tt })) lawful orderly was
 
 parties_answered : {S V : Type 0} (m : Meaning S V) (cluster : Cluster) (log : List Happening) (all : List Made) (view : View S V) (to : ℕ) (old : Contents) (request : Request) (reply : Reply)
     → Lawful cluster (answered_log to old request reply log) → Orderly cluster (answered_log to old request reply log)
@@ -67,7 +67,7 @@ other_done : {S V : Type 0} (m : Meaning S V) (cluster : Cluster) (log : List Ha
     → Lawful cluster (done_log to old request tell log) → Orderly cluster (done_log to old request tell log)
     → IsAcceptorTrue m log id kept acceptor → IsAcceptorTrue m (done_log to old request tell log) id kept acceptor
 other_done m cluster log id to kept old acceptor request tell other lawful orderly was =
-    along cluster (IsElsewhere id) (λ l. IsAcceptorTrue m l id kept acceptor) (other_step m cluster id kept acceptor) (deeds_of to old request.ask tell) log (deeds_elsewhere id to old request.ask tell other) lawful orderly was
+    along cluster (IsElsewhere id) (λ l. IsAcceptorTrue m l id kept acceptor) (other_step m cluster id kept acceptor) (events_of to old request.ask tell) log (events_elsewhere id to old request.ask tell other) lawful orderly was
 
 other_answered : {S V : Type 0} (m : Meaning S V) (cluster : Cluster) (log : List Happening) (id to : ℕ) (kept old : Contents) (acceptor : AcceptorView S) (request : Request) (reply : Reply) → (to ≡ id → ⊥)
     → Lawful cluster (answered_log to old request reply log) → Orderly cluster (answered_log to old request reply log)
@@ -151,7 +151,7 @@ pub answered_marks : (global : GlobalState) (request : Request) (reply : Reply) 
     → marks_of (answered_global global request reply new).log ≡ marks_of (votes_of request.to request.ask reply.tell) ++ marks_of global.log
 answered_marks global request reply new =
     votes_marks request.to request.ask reply.tell (done_log request.to (global.kept request.to) request reply.tell global.log)
-    ∙ ap (λ (l : List Mark). marks_of (votes_of request.to request.ask reply.tell) ++ l) (deeds_marks request.to (global.kept request.to) global.log request.ask reply.tell)
+    ∙ ap (λ (l : List Mark). marks_of (votes_of request.to request.ask reply.tell) ++ l) (events_marks request.to (global.kept request.to) global.log request.ask reply.tell)
   where
     votes_marks : (to : ℕ) (question : Ask) (answer : Tell) (log : List Happening) → marks_of (votes_of to question answer ++ log) ≡ marks_of (votes_of to question answer) ++ marks_of log
     votes_marks to (ask.Accept key ballot era ride state) tell.Accepted log = refl
@@ -312,7 +312,7 @@ starts {S} {V} m cluster global view id acceptor now tells at by whole = elim (t
             parties = parties_seen m cluster after.log global.made view (with_acceptor view id now) Everyone refl refl refl refl refl refl
                 (parties_done m cluster global.log global.made view request.to (global.kept request.to) request tell history.lawful history.orderly whole.parties);
           };
-          marks = deeds_marks request.to (global.kept request.to) global.log request.ask tell;
+          marks = events_marks request.to (global.kept request.to) global.log request.ask tell;
         }
 
     by_left : IsLeft global.log id (global.kept id) (Ok new) → IsUpAgain m cluster global (with_acceptor view id now)

@@ -50,11 +50,11 @@ abbrev queue_of : List Message → Bool → ℕ → QueueView
 queue_of messages again room = record { messages = messages; again = again; room = room }
 
 -- so many marks may be made as a queue goes on, and there is room for the replies still, beside so many more
-pub record Counts (queue rest : QueueView) (votes more : ℕ) : Type 0 where
+pub record CountsInQueue (queue rest : QueueView) (votes more : ℕ) : Type 0 where
   pub count : votes + 2 * requests_in rest.messages + handled_once queue ≤ 2 * requests_in queue.messages + handled_once rest
   pub room : requests_in queue.messages ≤ queue.room + handled_once queue → requests_in rest.messages ≤ rest.room - more + handled_once rest
 
-popped_counts : (messages : List Message) (again : Bool) (room : ℕ) → Counts (queue_of messages again room) (popped (queue_of messages again room)) 0 0
+popped_counts : (messages : List Message) (again : Bool) (room : ℕ) → CountsInQueue (queue_of messages again room) (popped (queue_of messages again room)) 0 0
 popped_counts [] true room = record { count = omega arith; room = λ low. omega (arith, low) }
 popped_counts [] false room = record { count = omega arith; room = λ low. omega (arith, low) }
 popped_counts (message.Request request ∷ rest) true room = record { count = omega arith; room = λ low. omega (arith, low) }
@@ -62,12 +62,12 @@ popped_counts (message.Request request ∷ rest) false room = record { count = o
 popped_counts (message.Reply reply ∷ rest) true room = record { count = omega arith; room = λ low. omega (arith, low) }
 popped_counts (message.Reply reply ∷ rest) false room = record { count = omega arith; room = λ low. omega (arith, low) }
 
-again_counts : (messages : List Message) (room : ℕ) → Counts (queue_of messages false room) (queue_of messages true room) 0 0
+again_counts : (messages : List Message) (room : ℕ) → CountsInQueue (queue_of messages false room) (queue_of messages true room) 0 0
 again_counts [] room = record { count = omega arith; room = λ low. omega (arith, low) }
 again_counts (message.Request request ∷ rest) room = record { count = omega arith; room = λ low. omega (arith, low) }
 again_counts (message.Reply reply ∷ rest) room = record { count = omega arith; room = λ low. omega (arith, low) }
 
-counts : (messages : List Message) (again : Bool) (room : ℕ) (v : Verdict) → Counts (queue_of messages again room) (queue_after (queue_of messages again room) v) 0 0
+counts : (messages : List Message) (again : Bool) (room : ℕ) (v : Verdict) → CountsInQueue (queue_of messages again room) (queue_after (queue_of messages again room) v) 0 0
 counts messages true room v = popped_counts messages true room
 counts messages false room verdict.Deliver = popped_counts messages false room
 counts messages false room verdict.Lose = popped_counts messages false room
@@ -77,7 +77,7 @@ counts messages false room verdict.Hold = record { count = omega arith; room = �
 
 -- a request that is handled may have one vote, and one reply
 request_counts : (messages : List Message) (again : Bool) (room : ℕ) (v : Verdict) (request : Request) → slice_get messages 0 ≡ Some (message.Request request) → fall_of again v ≡ Handle
-    → Counts (queue_of messages again room) (queue_after (queue_of messages again room) v) 1 1
+    → CountsInQueue (queue_of messages again room) (queue_after (queue_of messages again room) v) 1 1
 request_counts [] again room v request e handle = absurd (cc e)
 request_counts (message.Reply reply ∷ rest) again room v request e handle = absurd (cc e)
 request_counts (message.Request r ∷ rest) true room v request e handle = record { count = omega arith; room = λ low. omega (arith, low) }
@@ -105,7 +105,7 @@ pub record Moves (asked : List ℕ) (queue rest : QueueView) (votes : ℕ) : Typ
   pub about : (each : Message) → Contains rest.messages each → Contains queue.messages each ⊎ (has_member asked (head_of each).1 ≡ true)
   pub requests : (request : Request) → Contains rest.messages (message.Request request) → Contains queue.messages (message.Request request)
   pub replies : (reply : Reply) → Contains rest.messages (message.Reply reply) → Contains queue.messages (message.Reply reply) ⊎ IsAnswer queue reply
-  pub counted : Counts queue rest votes 0
+  pub counted : CountsInQueue queue rest votes 0
 
 -- the first one is taken
 pub taken_moves : (flow : FlowView) (id : ℕ) (v : Verdict) {front : Message} (asked : List ℕ) → slice_get (queue_at flow id).messages 0 ≡ Some front → Moves asked (queue_at flow id) (queue_at (taken flow id v) id) 0
@@ -113,7 +113,7 @@ taken_moves flow id v {front} asked e = record {
   about = λ each h. inl ((taken_thins flow id v e).before each h);
   requests = λ request h. (taken_thins flow id v e).before (message.Request request) h;
   replies = λ reply h. inl ((taken_thins flow id v e).before (message.Reply reply) h);
-  counted = subst (λ (q : QueueView). Counts (queue_at flow id) q 0 0) (sym (taken_own flow id v e)) (counts (queue_at flow id).messages (queue_at flow id).again (queue_at flow id).room v);
+  counted = subst (λ (q : QueueView). CountsInQueue (queue_at flow id) q 0 0) (sym (taken_own flow id v e)) (counts (queue_at flow id).messages (queue_at flow id).again (queue_at flow id).room v);
 }
 
 replied_own : (flow : FlowView) (id : ℕ) (v : Verdict) (reply : Reply) {front : Message} → slice_get (queue_at flow id).messages 0 ≡ Some front
@@ -156,8 +156,8 @@ replied_moves flow id v request reply asked votes e handle member answers few = 
     thins : Thins (queue_at flow id).messages (queue_at (taken flow id v) id).messages request.to
     thins = taken_thins flow id v e
 
-    both : Counts (queue_at flow id) (queue_at (taken flow id v) id) 1 1
-    both = subst (λ (q : QueueView). Counts (queue_at flow id) q 1 1) (sym (taken_own flow id v e)) (request_counts (queue_at flow id).messages (queue_at flow id).again (queue_at flow id).room v request e handle)
+    both : CountsInQueue (queue_at flow id) (queue_at (taken flow id v) id) 1 1
+    both = subst (λ (q : QueueView). CountsInQueue (queue_at flow id) q 1 1) (sym (taken_own flow id v e)) (request_counts (queue_at flow id).messages (queue_at flow id).again (queue_at flow id).room v request e handle)
 
 -- ---- what a call spends
 -- the acceptors are some of those that were asked
@@ -220,17 +220,17 @@ no_votes id (ask.Probe tag key) answer e = absurd (cc e)
 
 -- ---- an open round goes on
 -- what it is about stays
-record Stays (round now : Round) : Type 0 where
+record RoundStays (round now : Round) : Type 0 where
   pub key : now.key ≡ round.key
   pub era : now.era ≡ round.era
   pub ballot : now.ballot ≡ round.ballot
   pub ride : now.ride ≡ round.ride
   pub preparing : is_preparing now.phase ≡ is_preparing round.phase
 
-stays_same : (round : Round) → Stays round round
+stays_same : (round : Round) → RoundStays round round
 stays_same round = record { key = refl; era = refl; ballot = refl; ride = refl; preparing = refl }
 
-stays_heard : (round now : Round) (reply : Reply) → Hears round reply now → Stays round now
+stays_heard : (round now : Round) (reply : Reply) → Hears round reply now → RoundStays round now
 stays_heard round now reply by = record {
   key = ap (λ (r : Round). r.key) by.same;
   era = ap (λ (r : Round). r.era) by.same;
@@ -239,7 +239,7 @@ stays_heard round now reply by = record {
   preparing = by.same_phase;
 }
 
-open_goes_on : (era : Era) (caller : CallerView) (call new : CallView) (queue rest : QueueView) (round now : Round) (votes : ℕ) (was : IsOpenSafe era caller queue round) → was.call ≡ call → Stays round now
+open_goes_on : (era : Era) (caller : CallerView) (call new : CallView) (queue rest : QueueView) (round now : Round) (votes : ℕ) (was : IsOpenSafe era caller queue round) → was.call ≡ call → RoundStays round now
     → Spends (asked_in era round.phase) call new votes → Moves (asked_in era round.phase) queue rest votes → (is_preparing round.phase ≡ true → votes ≡ 0) → IsOpenSafe era (recalled caller new) rest now
 open_goes_on era caller call new queue rest round now votes was same stays spends moves unvoted = record {
   call = new;
@@ -271,7 +271,7 @@ open_goes_on era caller call new queue rest round now votes was same stays spend
     harmed_same = ap (λ (c : CallView). length c.harmed) same
 
 party_goes_on : {V : Type 0} (era : Era) (few more id : ℕ) (desk next : DeskView V) (caller : CallerView) (call new : CallView) (queue rest : QueueView) (round now : Round) (votes : ℕ) → few ≤ more
-    → IsPartySafe era few id desk caller queue → desk.round ≡ Some round → next ≡ record desk { round = Some now } → (was : IsOpenSafe era caller queue round) → was.call ≡ call → Stays round now
+    → IsPartySafe era few id desk caller queue → desk.round ≡ Some round → next ≡ record desk { round = Some now } → (was : IsOpenSafe era caller queue round) → was.call ≡ call → RoundStays round now
     → Spends (asked_in era round.phase) call new votes → Moves (asked_in era round.phase) queue rest votes → (is_preparing round.phase ≡ true → votes ≡ 0) → new.reserved ≤ most_round_marks → IsPartySafe era more id next (recalled caller new) rest
 party_goes_on {V} era few more id desk next caller call new queue rest round now votes low party is_round next_is was same stays spends moves unvoted fewer = subst (λ (d : DeskView V). IsPartySafe era more id d (recalled caller new) rest) (sym next_is) (record {
   same_id = party.same_id;
@@ -284,7 +284,7 @@ party_goes_on {V} era few more id desk next caller call new queue rest round now
 })
 
 -- ---- the open round of a proposer with a frame that waits
-record IsOpenAt {S V : Type 0} (old : View S V) (id : ℕ) (caller : CallerView) (call : CallView) : Type 0 where
+record IsRoundOpenAt {S V : Type 0} (old : View S V) (id : ℕ) (caller : CallerView) (call : CallView) : Type 0 where
   pub desk : DeskView V
   pub at_desk : IsAt old.desks id desk
   pub round : Round
@@ -293,12 +293,12 @@ record IsOpenAt {S V : Type 0} (old : View S V) (id : ℕ) (caller : CallerView)
   pub same : safe.call ≡ call
 
 open_at : {S V : Type 0} (old : View S V) (id : ℕ) (caller : CallerView) (call : CallView) (front : Message) → IsSound old → IsAt old.callers id caller → caller.call ≡ Some call
-    → slice_get (queue_at old.flow id).messages 0 ≡ Some front → IsOpenAt old id caller call
+    → slice_get (queue_at old.flow id).messages 0 ≡ Some front → IsRoundOpenAt old id caller call
 open_at {S} {V} old id caller call front was at is_open waits =
     let desk = at_low old.desks id (omega (arith, low_at old.callers id at, was.desks, was.callers)) in
     by_round desk.0 desk.1 desk.0.round refl (was.parties id desk.0 caller desk.1 at).round
   where
-    by_round : (desk : DeskView V) → IsAt old.desks id desk → (r : Option Round) → desk.round ≡ r → IsRoundSafe (era_at old id) caller (queue_at old.flow id) r → IsOpenAt old id caller call
+    by_round : (desk : DeskView V) → IsAt old.desks id desk → (r : Option Round) → desk.round ≡ r → IsRoundSafe (era_at old id) caller (queue_at old.flow id) r → IsRoundOpenAt old id caller call
     by_round desk at_desk None e idle = absurd (cc (waits, ap (λ (l : List Message). slice_get l 0) idle.none_waits))
     by_round desk at_desk (Some round) e safe = record { desk = desk; at_desk = at_desk; round = round; is_round = e; safe = safe; same = some_is (sym safe.is_open ∙ is_open) }
 
@@ -308,17 +308,17 @@ some_reserved era caller queue round prep acc was = omega (arith, reserves_one e
 
 -- ---- a turn
 -- frames of other proposers stay
-pub record KeepsOthers (old new : FlowView) (id : ℕ) : Type 0 where
+pub record KeepsOtherFrames (old new : FlowView) (id : ℕ) : Type 0 where
   pub own : length new.own ≡ length old.own
   pub others : (p : ℕ) → (p ≡ id → ⊥) → queue_at new p ≡ queue_at old p
 
-pub taken_others : (flow : FlowView) (id : ℕ) (v : Verdict) → KeepsOthers flow (taken flow id v) id
+pub taken_others : (flow : FlowView) (id : ℕ) (v : Verdict) → KeepsOtherFrames flow (taken flow id v) id
 taken_others flow id v = record {
   own = length-set flow.own id (queue_after (queue_at flow id) v);
   others = λ p other. queue_other flow.own id p (queue_after (queue_at flow id) v) other;
 }
 
-pub replied_others : (flow : FlowView) (id : ℕ) (v : Verdict) (reply : Reply) → KeepsOthers flow (replied_flow flow id v reply) id
+pub replied_others : (flow : FlowView) (id : ℕ) (v : Verdict) (reply : Reply) → KeepsOtherFrames flow (replied_flow flow id v reply) id
 replied_others flow id v reply = record {
   own = length-set (taken flow id v).own id (pushed (queue_at (taken flow id v) id) (message.Reply reply)) ∙ (taken_others flow id v).own;
   others = λ p other. queue_other (taken flow id v).own id p (pushed (queue_at (taken flow id v) id) (message.Reply reply)) other ∙ (taken_others flow id v).others p other;
@@ -333,8 +333,8 @@ record KeepsDesks {V : Type 0} (old new : List (DeskView V)) (id : ℕ) (next : 
 -- the proposer's open round goes on, and marks are made
 turned : {S V : Type 0} (old : View S V) (id : ℕ) (caller : CallerView) (call new : CallView) (acceptors : List (AcceptorView S)) (desks : List (DeskView V)) (flow : FlowView) (more : List Mark) (desk next : DeskView V) (round now : Round) (votes : ℕ)
     → IsSound old → IsAt old.callers id caller → caller.call ≡ Some call → IsAt old.desks id desk → desk.round ≡ Some round → next ≡ record desk { round = Some now }
-    → (safe : IsOpenSafe (era_at old id) caller (queue_at old.flow id) round) → safe.call ≡ call → Stays round now
-    → KeepsIds old.acceptors acceptors → KeepsDesks old.desks desks id next → KeepsOthers old.flow flow id → length more + new.reserved ≤ call.reserved
+    → (safe : IsOpenSafe (era_at old id) caller (queue_at old.flow id) round) → safe.call ≡ call → RoundStays round now
+    → KeepsIds old.acceptors acceptors → KeepsDesks old.desks desks id next → KeepsOtherFrames old.flow flow id → length more + new.reserved ≤ call.reserved
     → Spends (asked_in (era_at old id) round.phase) call new votes → Moves (asked_in (era_at old id) round.phase) (queue_at old.flow id) (queue_at flow id) votes → (is_preparing round.phase ≡ true → votes ≡ 0)
     → IsSound (record old { acceptors = acceptors; desks = desks; callers = slice_set old.callers id (recalled caller new); flow = flow; marks = old.marks ++ more })
 turned {S} {V} old id caller call new acceptors desks flow more desk next round now votes was at_caller is_open at_desk is_round next_is safe same stays ids keeps others fits spends moves unvoted =
@@ -347,8 +347,8 @@ turned {S} {V} old id caller call new acceptors desks flow more desk next round 
     (omega (arith, was.room, fits, length-append old.marks more, reserved_set old.callers id caller (recalled caller new) at_caller, ap reserved_in is_open))
 
 -- the round is as it was
-turned_here : {S V : Type 0} (old : View S V) (id : ℕ) (caller : CallerView) (call new : CallView) (acceptors : List (AcceptorView S)) (flow : FlowView) (more : List Mark) (votes : ℕ) (is_at : IsOpenAt old id caller call)
-    → IsSound old → IsAt old.callers id caller → caller.call ≡ Some call → KeepsIds old.acceptors acceptors → KeepsOthers old.flow flow id → length more + new.reserved ≤ call.reserved
+turned_here : {S V : Type 0} (old : View S V) (id : ℕ) (caller : CallerView) (call new : CallView) (acceptors : List (AcceptorView S)) (flow : FlowView) (more : List Mark) (votes : ℕ) (is_at : IsRoundOpenAt old id caller call)
+    → IsSound old → IsAt old.callers id caller → caller.call ≡ Some call → KeepsIds old.acceptors acceptors → KeepsOtherFrames old.flow flow id → length more + new.reserved ≤ call.reserved
     → Spends (asked_in (era_at old id) is_at.round.phase) call new votes → Moves (asked_in (era_at old id) is_at.round.phase) (queue_at old.flow id) (queue_at flow id) votes → (is_preparing is_at.round.phase ≡ true → votes ≡ 0)
     → IsSound (record old { acceptors = acceptors; callers = slice_set old.callers id (recalled caller new); flow = flow; marks = old.marks ++ more })
 turned_here {S} {V} old id caller call new acceptors flow more votes is_at was at_caller is_open ids others fits spends moves unvoted =
@@ -367,7 +367,7 @@ harmed_safe {S} {V} old id v front caller call acceptors acceptor down was at is
     (member_low (asked_in (era_at old id) is_at.round.phase) acceptor (asked_set (era_at old id) is_at.round.phase (was.prep_sets id) (was.acc_sets id)) member) member)
     (taken_moves old.flow id v (asked_in (era_at old id) is_at.round.phase) waits) (λ e. refl)
   where
-    is_at : IsOpenAt old id caller call
+    is_at : IsRoundOpenAt old id caller call
     is_at = open_at old id caller call front was at is_open waits
 
     member : has_member (asked_in (era_at old id) is_at.round.phase) acceptor ≡ true
@@ -386,7 +386,7 @@ answers_safe {S} {V} m old id v caller call request acceptor now reply was at is
     (replied_moves old.flow id v request reply (asked_in (era_at old id) is_at.round.phase) (length (votes_marked request reply)) waits handle member (by.table.tag, by.table.phase) few)
     (λ e. no_votes request.to request.ask reply.tell (is_at.safe.asks e request (contains_at (queue_at old.flow id).messages 0 (message.Request request) waits)))
   where
-    is_at : IsOpenAt old id caller call
+    is_at : IsRoundOpenAt old id caller call
     is_at = open_at old id caller call (message.Request request) was at is_open waits
 
     few : length (votes_marked request reply) ≤ 1

@@ -252,7 +252,7 @@ seen_low members floors differ o has_o log of acceptor seen (in_ride t s) = by_r
     by_ride (taken p a h member is) = let none : seen ≡ zero_ballot = cc is in subst (λ (b : Ballot). BallotAtMost b o.ballot) (sym none) (zero_at_most o.ballot)
 
 -- the log so far, and that members take the newest floor
-record Begins (cluster : Cluster) (members : List ℕ) (floors : List Opening) (log : List Happening) : Type 0 where
+record BeginsLog (cluster : Cluster) (members : List ℕ) (floors : List Opening) (log : List Happening) : Type 0 where
   lawful : Lawful cluster log
   orderly : Orderly cluster log
   of : (h : Happening) (older : List Happening) → At h older log → IsOf members floors h
@@ -263,7 +263,7 @@ opening_behind [] o opening = opening
 opening_behind (b ∷ bs) o opening = let there = opening_behind bs o opening in record { state = there.state; older = there.older; at = past there.at; first = there.first }
 
 begins_takes : (cluster : Cluster) (members by : List ℕ) (floors : List Opening) (o : Opening) (rest : List Happening) → KeysDiffer floors → Has o floors → ((a : ℕ) → has_member members a ≡ true → has_member (cluster.members 0) a ≡ true)
-    → ((a : ℕ) → has_member by a ≡ true → has_member members a ≡ true) → HasOpening o.key o.ballot rest → Begins cluster members floors rest → Begins cluster members floors (takes by o ++ rest)
+    → ((a : ℕ) → has_member by a ≡ true → has_member members a ≡ true) → HasOpening o.key o.ballot rest → BeginsLog cluster members floors rest → BeginsLog cluster members floors (takes by o ++ rest)
 begins_takes cluster members [] floors o rest differ has_o all within opening was = was
 begins_takes cluster members (a ∷ by) floors o rest differ has_o all within opening was =
     let later = begins_takes cluster members by floors o rest differ has_o all (λ b e. within b (or_right (a == b) (has_member by b) e)) opening was in
@@ -282,7 +282,7 @@ begins_takes cluster members (a ∷ by) floors o rest differ has_o all within op
       first = later.first;
     }
 
-begins_first : (cluster : Cluster) (members : List ℕ) (floors : List Opening) → KeysDiffer floors → ((a : ℕ) → has_member members a ≡ true → has_member (cluster.members 0) a ≡ true) → Begins cluster members floors (first_log members floors)
+begins_first : (cluster : Cluster) (members : List ℕ) (floors : List Opening) → KeysDiffer floors → ((a : ℕ) → has_member members a ≡ true → has_member (cluster.members 0) a ≡ true) → BeginsLog cluster members floors (first_log members floors)
 begins_first cluster members [] differ all = record { lawful = tt; orderly = tt; of = λ h place at. absurd (none_at_nil at); first = tt }
 begins_first cluster members (o ∷ older) differ all =
     let before = begins_first cluster members older differ.1 all in

@@ -172,9 +172,9 @@ kept_down : {S V : Type 0} (m : Meaning S V) (view : View S V) (id : ℕ) (accep
 kept_down m view id acceptor at down = ap (kept_up m) at ∙ ap (λ (d : Bool). cond d nothing (m.shelves.contents acceptor.shelf)) down
 
 -- what it keeps for a key: nothing, or its floor
-data Keeps (floors : List Opening) (member : Bool) (key : List ℕ) (slot : Option Slot) : Type 0 where
-  keeps_none : (member ≡ true → (o : Opening) → Has o floors → o.key ≡ key → ⊥) → slot ≡ None → Keeps floors member key slot
-  keeps_floor : (o : Opening) → Has o floors → o.key ≡ key → member ≡ true → slot ≡ Some (slot_of o) → Keeps floors member key slot
+data KeepsFloor (floors : List Opening) (member : Bool) (key : List ℕ) (slot : Option Slot) : Type 0 where
+  keeps_none : (member ≡ true → (o : Opening) → Has o floors → o.key ≡ key → ⊥) → slot ≡ None → KeepsFloor floors member key slot
+  keeps_floor : (o : Opening) → Has o floors → o.key ≡ key → member ≡ true → slot ≡ Some (slot_of o) → KeepsFloor floors member key slot
 
 -- the key's floor is one of those with which it begins
 record IsFloorOf (floors : List Opening) (key : List ℕ) (floor : Ballot) : Type 0 where
@@ -326,7 +326,7 @@ opening_on_logged {S} {V} m shelves disks members used floors view is = logged m
         }
 
     -- what an acceptor keeps for a key
-    keeps_in : (id : ℕ) (key : List ℕ) (acceptor : AcceptorView S) → IsAt view.acceptors id acceptor → Finds key known → Keeps known (has_member members id) key (kept_at (kept id) key)
+    keeps_in : (id : ℕ) (key : List ℕ) (acceptor : AcceptorView S) → IsAt view.acceptors id acceptor → Finds key known → KeepsFloor known (has_member members id) key (kept_at (kept id) key)
     keeps_in id key acceptor at found = by_cases (true_or_false acceptor.down) (true_or_false (has_member members id)) found
       where
         of : IsOpenAcceptor m members floors id acceptor
@@ -338,7 +338,7 @@ opening_on_logged {S} {V} m shelves disks members used floors view is = logged m
         holds : acceptor.down ≡ false → has_member members id ≡ true → HoldsFloors floors (kept id)
         holds up member = subst (HoldsFloors floors) (sym (kept_is m view id acceptor at up)) (of.holds member up)
 
-        by_cases : (acceptor.down ≡ true) ⊎ (acceptor.down ≡ false) → (has_member members id ≡ true) ⊎ (has_member members id ≡ false) → Finds key known → Keeps known (has_member members id) key (kept_at (kept id) key)
+        by_cases : (acceptor.down ≡ true) ⊎ (acceptor.down ≡ false) → (has_member members id ≡ true) ⊎ (has_member members id ≡ false) → Finds key known → KeepsFloor known (has_member members id) key (kept_at (kept id) key)
         by_cases (inl down) (inr other) found = keeps_none (λ member. absurd (not_both (has_member members id) member other)) (nothing_at (kept_down m view id acceptor at down))
         by_cases (inl down) (inl member) (a_floor o h same) = let there = is.up o (in_floors o h) id member in
             absurd (not_both acceptor.down down (ap (λ (a : AcceptorView S). a.down) (some_same (sym at ∙ there.at)) ∙ there.up))
@@ -348,17 +348,17 @@ opening_on_logged {S} {V} m shelves disks members used floors view is = logged m
         by_cases (inr up) (inl member) (a_floor o h same) = keeps_floor o h same member (subst (λ (k : List ℕ). kept_at (kept id) k ≡ Some (slot_of o)) same ((holds up member).each o (in_floors o h)))
         by_cases (inr up) (inl member) (no_floor apart) = keeps_none (λ in_it. apart) ((holds up member).no_other key (λ o h. apart o (in_known o h)))
 
-    keeps_of : (id : ℕ) (key : List ℕ) → Keeps known (has_member members id) key (kept_at (kept id) key)
+    keeps_of : (id : ℕ) (key : List ℕ) → KeepsFloor known (has_member members id) key (kept_at (kept id) key)
     keeps_of id key = at_place (slice_get view.acceptors id) refl (find key known)
       where
-        at_place : (place : Option (AcceptorView S)) → slice_get view.acceptors id ≡ place → Finds key known → Keeps known (has_member members id) key (kept_at (kept id) key)
+        at_place : (place : Option (AcceptorView S)) → slice_get view.acceptors id ≡ place → Finds key known → KeepsFloor known (has_member members id) key (kept_at (kept id) key)
         at_place (Some acceptor) at found = keeps_in id key acceptor at found
         at_place None none_at found = keeps_none (absent found) (ap (λ (p : Option (AcceptorView S)). kept_at (kept_up m p) key) none_at ∙ none_kept key)
           where
             absent : Finds key known → has_member members id ≡ true → (o : Opening) → Has o known → o.key ≡ key → ⊥
             absent found member o h same = let there = is.up o (in_floors o h) id member in cc (sym none_at ∙ there.at)
 
-    slot_is : (id : ℕ) (key : List ℕ) → Keeps known (has_member members id) key (kept_at (kept id) key) → slot_told log id key ≡ told_of (kept_at (kept id) key)
+    slot_is : (id : ℕ) (key : List ℕ) → KeepsFloor known (has_member members id) key (kept_at (kept id) key) → slot_told log id key ≡ told_of (kept_at (kept id) key)
     slot_is id key (keeps_none apart is_none) = elim (true_or_false (has_member members id)) [
       | inl member ↦ none_told members known id key (apart member) ∙ ap told_of (sym is_none)
       | inr other ↦ strange_told members known id key other ∙ ap told_of (sym is_none)
@@ -366,7 +366,7 @@ opening_on_logged {S} {V} m shelves disks members used floors view is = logged m
     slot_is id key (keeps_floor o h same member slot) =
         subst (λ (k : List ℕ). slot_told log id k ≡ record { promise = zero_ballot; accepted = o.ballot }) same (floor_told members known differ id o h member) ∙ ap told_of (sym slot)
 
-    state_is : {member : Bool} (key : List ℕ) (slot : Option Slot) → Keeps known member key slot → IsAcceptedState (marks_of log) key (accepted_of slot)
+    state_is : {member : Bool} (key : List ℕ) (slot : Option Slot) → KeepsFloor known member key slot → IsAcceptedState (marks_of log) key (accepted_of slot)
     state_is key slot (keeps_none apart is_none) = subst (λ (s : Option Slot). IsAcceptedState (marks_of log) key (accepted_of s)) (sym is_none) tt
     state_is key slot (keeps_floor o h same member is_slot) = subst (λ (s : Option Slot). IsAcceptedState (marks_of log) key (accepted_of s)) (sym is_slot)
         (subst (λ (k : List ℕ). IsAcceptedState (marks_of log) k (accepted_of (Some (slot_of o)))) same

@@ -94,7 +94,7 @@ at_low (y ∷ xs) (suc place) low = at_low xs place (omega (arith, low))
 
 -- ---- a cluster but for one party
 -- what changes of it: acceptors that keep their identities, one proposer and its caller and frames, and more marks
-pub record Changes {S V : Type 0} (old new : View S V) (id : ℕ) : Type 0 where
+pub record ChangesOneParty {S V : Type 0} (old new : View S V) (id : ℕ) : Type 0 where
   pub last_proposer : new.last_proposer ≡ old.last_proposer
   pub eras : new.eras ≡ old.eras
   pub council : new.council ≡ old.council
@@ -127,7 +127,7 @@ desk_low view id desk was at = omega (arith, low_at view.desks id at, was.desks,
 pub caller_low : {S V : Type 0} (view : View S V) (id : ℕ) (caller : CallerView) → IsSound view → IsAt view.callers id caller → id ≤ 16
 caller_low view id caller was at = omega (arith, low_at view.callers id at, was.callers, was.few)
 
-pub safe_but : {S V : Type 0} (old new : View S V) (id : ℕ) → IsSound old → id ≤ 16 → Changes old new id
+pub safe_but : {S V : Type 0} (old new : View S V) (id : ℕ) → IsSound old → id ≤ 16 → ChangesOneParty old new id
     → ((desk : DeskView V) (caller : CallerView) → IsAt new.desks id desk → IsAt new.callers id caller → IsPartySafe (era_at old id) (length new.marks) id desk caller (queue_at new.flow id))
     → length new.marks + reserved_in_all new ≤ most_marks → IsSound new
 safe_but {S} {V} old new id was low changes party room = record {
@@ -186,7 +186,7 @@ more_by marks more = omega (arith, length-append marks more)
 -- what changes where the proposer's desk, its caller and its frames do, and marks are made
 pub changes_both : {S V : Type 0} (old : View S V) (id : ℕ) (desk : DeskView V) (caller : CallerView) (flow : FlowView) (marks : List Mark) → IsSound old → length flow.own ≡ length old.flow.own
     → ((p : ℕ) → (p ≡ id → ⊥) → queue_at flow p ≡ queue_at old.flow p) → length old.marks ≤ length marks
-    → Changes old (record old { desks = slice_set old.desks id desk; callers = slice_set old.callers id caller; flow = flow; marks = marks }) id
+    → ChangesOneParty old (record old { desks = slice_set old.desks id desk; callers = slice_set old.callers id caller; flow = flow; marks = marks }) id
 changes_both old id desk caller flow marks was own others more = record {
   last_proposer = refl;
   eras = refl;
@@ -204,7 +204,7 @@ changes_both old id desk caller flow marks was own others more = record {
 
 pub changes_caller : {S V : Type 0} (old : View S V) (id : ℕ) (caller : CallerView) (flow : FlowView) (marks : List Mark) → IsSound old → length flow.own ≡ length old.flow.own
     → ((p : ℕ) → (p ≡ id → ⊥) → queue_at flow p ≡ queue_at old.flow p) → length old.marks ≤ length marks
-    → Changes old (record old { callers = slice_set old.callers id caller; flow = flow; marks = marks }) id
+    → ChangesOneParty old (record old { callers = slice_set old.callers id caller; flow = flow; marks = marks }) id
 changes_caller old id caller flow marks was own others more = record {
   last_proposer = refl;
   eras = refl;
@@ -221,7 +221,7 @@ changes_caller old id caller flow marks was own others more = record {
 }
 
 pub changes_desk : {S V : Type 0} (old : View S V) (id : ℕ) (desk : DeskView V) (flow : FlowView) → IsSound old → length flow.own ≡ length old.flow.own
-    → ((p : ℕ) → (p ≡ id → ⊥) → queue_at flow p ≡ queue_at old.flow p) → Changes old (record old { desks = slice_set old.desks id desk; flow = flow }) id
+    → ((p : ℕ) → (p ≡ id → ⊥) → queue_at flow p ≡ queue_at old.flow p) → ChangesOneParty old (record old { desks = slice_set old.desks id desk; flow = flow }) id
 changes_desk old id desk flow was own others = record {
   last_proposer = refl;
   eras = refl;
@@ -242,7 +242,7 @@ pub changes_all : {S V : Type 0} (old : View S V) (id : ℕ) (acceptors : List (
     → length acceptors ≡ length old.acceptors → ((a : ℕ) (acceptor : AcceptorView S) → IsAt acceptors a acceptor → acceptor.id ≡ a)
     → length desks ≡ length old.desks → ((p : ℕ) (desk : DeskView V) → (p ≡ id → ⊥) → IsAt desks p desk → IsAt old.desks p desk)
     → length flow.own ≡ length old.flow.own → ((p : ℕ) → (p ≡ id → ⊥) → queue_at flow p ≡ queue_at old.flow p) → length old.marks ≤ length marks
-    → Changes old (record old { acceptors = acceptors; desks = desks; callers = slice_set old.callers id caller; flow = flow; marks = marks }) id
+    → ChangesOneParty old (record old { acceptors = acceptors; desks = desks; callers = slice_set old.callers id caller; flow = flow; marks = marks }) id
 changes_all old id acceptors desks caller flow marks acceptors_length ids desks_length other_desks own others more = record {
   last_proposer = refl;
   eras = refl;

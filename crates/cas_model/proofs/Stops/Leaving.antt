@@ -23,7 +23,7 @@ use Rattle.cas_model.specs.View.{Meaning, View, CallView, CallerView, IsAt, era_
 use Rattle.cas_model.proofs.Around.{Whole, whole_of, logged, Around, around, leaves_desk, settles}
 use Rattle.cas_model.proofs.Exchanges.Steps as council
 use Rattle.cas_model.proofs.Calls.Draws.{Lasts}
-use Rattle.cas_model.proofs.Calls.Ends.{IsQuiet, quiet_true, quiets, none_left, others_left, all_joined_true, call_told}
+use Rattle.cas_model.proofs.Calls.Ends.{IsDeskQuiet, quiet_true, quiets, none_left, others_left, all_joined_true, call_told}
 use Rattle.cas_model.proofs.Places.{contains_none, own_set}
 
 -- ---- what the caller is told
@@ -49,7 +49,7 @@ closed_true log all id number call told why closing was = call_told log all id n
 -- ---- the view then
 pub left_whole : {S V : Type 0} (m : Meaning S V) (cluster : Cluster) (global : GlobalState) (old : View S V) (id : ℕ) (DeskTurns : DeskView V → DeskView V → Type 0) (told : Answer) (why : Cause) (new : View S V) → IsClosing told why
     → Around m cluster global old id → ((c : CallerView) → IsAt old.callers id c → IsCallerTrue global.log global.made id c) → AreMessagesTrue global.log (queue_at old.flow id).messages → AreMessagesTrue global.log old.flow.late
-    → ((desk now : DeskView V) (c : CallerView) → IsAt old.desks id desk → IsAt old.callers id c → DeskTurns desk now → IsQuiet m cluster global.log global.made id (era_at old id).number now)
+    → ((desk now : DeskView V) (c : CallerView) → IsAt old.desks id desk → IsAt old.callers id c → DeskTurns desk now → IsDeskQuiet m cluster global.log global.made id (era_at old id).number now)
     → LeavesRound DeskTurns (closed_by told why) old id new → Whole m cluster global new
 left_whole {S} {V} m cluster global old id DeskTurns told why new closing rest callers own late quiet (stops.idle desk now at none turns view) =
     subst (Whole m cluster global) (sym view) (settles m cluster global old _ id rest (leaves_desk old id now _ (others_left old.flow id)) (record {
@@ -83,7 +83,7 @@ vault_past m log id era still was = record {
 }
 
 pub quiet_crashed : {S V : Type 0} (m : Meaning S V) (cluster : Cluster) (log : List Happening) (all : List Made) (id era : ℕ) (caller : CallerView) (waiting : List Message) (desk now : DeskView V)
-    → Lasts m.disks desk.vault now.vault → IsCrashed desk now → IsDeskTrue m cluster log all era id caller waiting desk → IsQuiet m cluster log all id era now
+    → Lasts m.disks desk.vault now.vault → IsCrashed desk now → IsDeskTrue m cluster log all era id caller waiting desk → IsDeskQuiet m cluster log all id era now
 quiet_crashed {S} {V} m cluster log all id era caller waiting desk now still crashed of = record {
   same_id = ap (λ (d : DeskView V). d.id) crashed ∙ of.same_id;
   known = of.known;

@@ -27,7 +27,7 @@ use Rattle.cas_proposer.specs.declared.round.OpenPhase.TheVariants.{Prepare, Acc
 use Rattle.cas_proposer.specs.declared.round.Round.{Round}
 use Rattle.cas_quorum.specs.Quorum.{count_in, has_quorum}
 use Rattle.cas_round.specs.Replies.{is_prepare, is_accept, is_heard, heard, is_promise, is_acceptance, confirmers_of}
-use Rattle.cas_round.proofs.Lists.{has_filter, has_any, any_has, IsWithin, within_filter}
+use Rattle.cas_round.proofs.Lists.{has_filter, has_any, any_has, IsListWithin, within_filter}
 use Rattle.cas_slot.specs.Ages.{least_age}
 use Rattle.cas_slot.specs.Contents.{Contents}
 use Rattle.cas_slot.specs.Message.{phase_of, tag_of}
@@ -54,7 +54,7 @@ use Rattle.cas_model.proofs.Frames.Steps.{taken_own}
 use Rattle.cas_model.proofs.Places.{at_one, at_set, some_is, queue_same, has_queue, contains_new, contains_none, newest_or_older, contains_front, contains_back}
 use Rattle.cas_model_causes.specs.Calls.Rounds.{Brings, nothing, one}
 use Rattle.cas_model_causes.specs.Calls.Undisturbed.{LetsPass, IsHandledWell, GoesWell, IsUndisturbedBy}
-use Rattle.cas_model_causes.proofs.Calls.Queues.{Stays, OwnTurn}
+use Rattle.cas_model_causes.proofs.Calls.Queues.{QueueStays, OwnTurn}
 
 -- ---- what an acceptor tells that a request passes
 -- not that its age is too low
@@ -118,7 +118,7 @@ confirmed_more : (is_phase : Phase → Bool) (confirms : Tell → Bool) (ballot 
 confirmed_more is_phase confirms ballot reply replies n low was =
     let test : Reply → Bool = λ (r : Reply). (r.from == n) && confirms r.tell in
     let before = any_has test (heard is_phase ballot replies) (sym (has-members_where (λ k. list_any (λ r. (r.from == k) && confirms r.tell) (heard is_phase ballot replies)) n low) ∙ was) in
-    let within : IsWithin (heard is_phase ballot replies) (heard is_phase ballot (reply ∷ replies)) = within_filter (is_heard is_phase ballot) replies (reply ∷ replies) (record { all = λ x h. inr h }) in
+    let within : IsListWithin (heard is_phase ballot replies) (heard is_phase ballot (reply ∷ replies)) = within_filter (is_heard is_phase ballot) replies (reply ∷ replies) (record { all = λ x h. inr h }) in
     has-members_where (λ k. list_any (λ r. (r.from == k) && confirms r.tell) (heard is_phase ballot (reply ∷ replies))) n low
     ∙ has_any test before.one (heard is_phase ballot (reply ∷ replies)) (within.all before.one before.stands) before.passes
 
@@ -143,7 +143,7 @@ quorum_more need members few more within e =
 
 -- ---- an open round
 -- the round began as this, and is in the phase after these replies
-pub record IsOpenIn {V : Type 0} (IsIn : List Reply → Round → Type 0) (desks : List (DeskView V)) (id : ℕ) (begun : Round) (replies : List Reply) (round : Round) : Type 0 where
+pub record IsPhaseOpenIn {V : Type 0} (IsIn : List Reply → Round → Type 0) (desks : List (DeskView V)) (id : ℕ) (begun : Round) (replies : List Reply) (round : Round) : Type 0 where
   pub desk : DeskView V
   pub at_desk : IsAt desks id desk
   pub is_open : desk.round ≡ Some round
@@ -153,11 +153,11 @@ pub record IsOpenIn {V : Type 0} (IsIn : List Reply → Round → Type 0) (desks
 -- it hears what is brought, and who confirmed has confirmed still
 pub record Grows {V : Type 0} (IsIn : List Reply → Round → Type 0) (desks : List (DeskView V)) (id : ℕ) (begun : Round) (replies : List Reply) (old : Round) : Type 0 where
   pub round : Round
-  pub is_open : IsOpenIn IsIn desks id begun replies round
+  pub is_open : IsPhaseOpenIn IsIn desks id begun replies round
   pub still : (n : ℕ) → n < 64 → has_member (confirmed_in old.phase) n ≡ true → has_member (confirmed_in round.phase) n ≡ true
 
 grows : {S V : Type 0} {is_phase : Phase → Bool} {confirms : Tell → Bool} {IsIn : List Reply → Round → Type 0} (kind : IsKind is_phase confirms IsIn) (old new : View S V) (id : ℕ) (begun : Round) (replies brought : List Reply) (round : Round)
-    → IsOpenIn IsIn old.desks id begun replies round → Brings old new id brought → Grows IsIn new.desks id begun (brought ++ replies) round
+    → IsPhaseOpenIn IsIn old.desks id begun replies round → Brings old new id brought → Grows IsIn new.desks id begun (brought ++ replies) round
 grows kind old new id begun replies brought round was (nothing passes) =
     let now = passes was.desk was.at_desk in
     record {
@@ -238,7 +238,7 @@ Comes is_phase confirms ballot messages by n = Waits is_phase confirms ballot me
 pub record Coming {V : Type 0} (is_phase : Phase → Bool) (confirms : Tell → Bool) (IsIn : List Reply → Round → Type 0) (desks : List (DeskView V)) (messages : List Message) (id : ℕ) (set asked : List ℕ) (begun : Round) : Type 0 where
   pub replies : List Reply
   pub round : Round
-  pub is_open : IsOpenIn IsIn desks id begun replies round
+  pub is_open : IsPhaseOpenIn IsIn desks id begun replies round
   pub each : (n : ℕ) → n < 64 → has_member set n ≡ true → has_member asked n ≡ true → Comes is_phase confirms begun.ballot messages (confirmed_in round.phase) n
 
 -- the same of what waits elsewhere, or arrived
@@ -361,7 +361,7 @@ turn_comes {S} {V} m {is_phase} {confirms} {IsIn} kind old new id set asked begu
 
 -- whatever is called
 pub step_comes : {S V : Type 0} (m : Meaning S V) {is_phase : Phase → Bool} {confirms : Tell → Bool} {IsIn : List Reply → Round → Type 0} (kind : IsKind is_phase confirms IsIn) (old new : View S V) (id : ℕ) (set asked : List ℕ) (begun : Round) (event : step.Event) → IsSafe old
-    → Stays old new id ⊎ OwnTurn m old new id event → IsUndisturbedBy m id set old event new → (brought : List Reply) → Brings old new id brought
+    → QueueStays old new id ⊎ OwnTurn m old new id event → IsUndisturbedBy m id set old event new → (brought : List Reply) → Brings old new id brought
     → Coming is_phase confirms IsIn old.desks (queue_at old.flow id).messages id set asked begun → Coming is_phase confirms IsIn new.desks (queue_at new.flow id).messages id set asked begun
 step_comes {S} {V} m kind old new id set asked begun event safe (inl stays) undisturbed brought brings was =
     comes_on old new id set asked begun (brought ++ was.replies) was (grows kind old new id begun was.replies brought was.round was.is_open brings)

@@ -59,27 +59,28 @@ both_nothing : {S V : Type 0} (old mid new : View S V) (id : ℕ) → ((desk : D
     → ((desk : DeskView V) → IsAt mid.desks id desk → (now : DeskView V) × IsAt new.desks id now × (now.round ≡ desk.round)) → Something old new id
 both_nothing old mid new id before after = ([], nothing (λ desk at. let then_ = before desk at in let now = after then_.0 then_.1 in (now.0, now.1, now.2 ∙ then_.2)))
 
-abbrev Passes : {S V : Type 0} → View S V → View S V → ℕ → Type 0
-Passes {S} {V} old new id = (desk : DeskView V) → IsAt old.desks id desk → (now : DeskView V) × IsAt new.desks id now × (now.round ≡ desk.round)
+abbrev FramePasses : {S V : Type 0} → View S V → View S V → ℕ → Type 0
+FramePasses {S} {V} old new id = (desk : DeskView V) → IsAt old.desks id desk → (now : DeskView V) × IsAt new.desks id now × (now.round ≡ desk.round)
 
-passes_same : {S V : Type 0} (old new : View S V) (id : ℕ) → new.desks ≡ old.desks → Passes old new id
+passes_same : {S V : Type 0} (old new : View S V) (id : ℕ) → new.desks ≡ old.desks → FramePasses old new id
 passes_same {S} {V} old new id same desk at = (desk, subst (λ (l : List (DeskView V)). IsAt l id desk) (sym same) at, refl)
 
-passes_other : {S V : Type 0} (old new : View S V) (id place : ℕ) (now : DeskView V) → id ≢ place → new.desks ≡ slice_set old.desks place now → Passes old new id
+passes_other : {S V : Type 0} (old new : View S V) (id place : ℕ) (now : DeskView V) → id ≢ place → new.desks ≡ slice_set old.desks place now → FramePasses old new id
 passes_other {S} {V} old new id place now other same desk at = (desk, subst (λ (l : List (DeskView V)). IsAt l id desk) (sym same) (at_other old.desks place now id desk other at), refl)
 
-passes_both : {S V : Type 0} (old mid new : View S V) (id : ℕ) → Passes old mid id → Passes mid new id → Passes old new id
+passes_both : {S V : Type 0} (old mid new : View S V) (id : ℕ) → FramePasses old mid id → FramePasses mid new id → FramePasses old new id
 passes_both old mid new id before after desk at = let first = before desk at in let now = after first.0 first.1 in (now.0, now.1, now.2 ∙ first.2)
 
 -- ---- calls of others
-begin_passes : {S V : Type 0} (m : Meaning S V) (old new : View S V) (id caller : ℕ) (key : List ℕ) (program : List Clause) → id ≢ caller → StepBegin m old caller key program new → Passes old new id
+begin_passes : {S V : Type 0} (m : Meaning S V) (old new : View S V) (id caller : ℕ) (key : List ℕ) (program : List Clause) → id ≢ caller
+    → StepBegin m old caller key program new → FramePasses old new id
 begin_passes {S} {V} m old new id caller key program other by = passes_both old by.middle new id (opens by.opens) (in_round by.begins)
   where
-    opens : calls.Opens old caller key program by.middle → Passes old by.middle id
+    opens : calls.Opens old caller key program by.middle → FramePasses old by.middle id
     opens (calls.first was at none room is) = passes_same old by.middle id (ap (λ (w : View S V). w.desks) is)
     opens (calls.again was open_call reserved at open_is key_is program_is none met no_round room some is) = passes_same old by.middle id (ap (λ (w : View S V). w.desks) is)
 
-    in_round : calls.BeginsRound m by.middle caller by.caller by.call new → Passes by.middle new id
+    in_round : calls.BeginsRound m by.middle caller by.caller by.call new → FramePasses by.middle new id
     in_round (calls.prepares desk now ballot round flow at up few begins sends is) = passes_other by.middle new id caller now other (ap (λ (w : View S V). w.desks) is)
     in_round (calls.proposes desk now ready ride round outcome flow at up few begins made sends is) = passes_other by.middle new id caller now other (ap (λ (w : View S V). w.desks) is)
     in_round (calls.stays told no_beginning no_round full is) = passes_same by.middle new id (ap (λ (w : View S V). w.desks) is)
@@ -87,7 +88,7 @@ begin_passes {S} {V} m old new id caller key program other by = passes_both old 
     in_round (calls.fails desk now at none up fails is) = passes_other by.middle new id caller now other (ap (λ (w : View S V). w.desks) is)
     in_round (calls.loses desk now ballot at none up loses is) = passes_other by.middle new id caller now other (ap (λ (w : View S V). w.desks) is)
 
-no_begin_passes : {S V : Type 0} (m : Meaning S V) (old new : View S V) (id caller : ℕ) (key : List ℕ) → id ≢ caller → calls.RefusesCall m old caller key new → Passes old new id
+no_begin_passes : {S V : Type 0} (m : Meaning S V) (old new : View S V) (id caller : ℕ) (key : List ℕ) → id ≢ caller → calls.RefusesCall m old caller key new → FramePasses old new id
 no_begin_passes {S} {V} m old new id caller key other (calls.stays told council why rescan is) = passes_same old new id (ap (λ (w : View S V). w.desks) is)
 no_begin_passes {S} {V} m old new id caller key other (calls.loses at_caller desk now ballot council at_it at_desk none up loses rescan is) = passes_other old new id caller now other (ap (λ (w : View S V). w.desks) is)
 
@@ -100,18 +101,18 @@ propose_passes {S} {V} m old new id proposer other by = in_phase by.at_round.of_
     in_phase at desk round (calls.fails now fails is) = other_desk old new id proposer now other (ap (λ (w : View S V). w.desks) is)
     in_phase at desk round (calls.loses now ballot loses is) = other_desk old new id proposer now other (ap (λ (w : View S V). w.desks) is)
 
-count_passes : {S V : Type 0} (m : Meaning S V) (old new : View S V) (id proposer : ℕ) → id ≢ proposer → StepCount m old proposer new → Passes old new id
+count_passes : {S V : Type 0} (m : Meaning S V) (old new : View S V) (id proposer : ℕ) → id ≢ proposer → StepCount m old proposer new → FramePasses old new id
 count_passes {S} {V} m old new id proposer other by = in_phase by.at_round.of_call by.at_round.desk by.at_round.round by.counts
   where
-    in_phase : (of_call : OpenCallAt old proposer) (desk : DeskView V) (round : Round) → calls.CountsOrEnds m old proposer desk round of_call.caller of_call.call new → Passes old new id
+    in_phase : (of_call : OpenCallAt old proposer) (desk : DeskView V) (round : Round) → calls.CountsOrEnds m old proposer desk round of_call.caller of_call.call new → FramePasses old new id
     in_phase at desk round (calls.counts now by outcome quorum confirmers proposed ends is) = passes_other old new id proposer now other (ap (λ (w : View S V). w.desks) is)
     in_phase at desk round (calls.ends now verdict why verdict_is cause ends is) = passes_other old new id proposer now other (ap (λ (w : View S V). w.desks) is)
 
-left_passes : {S V : Type 0} (DeskTurns : DeskView V → DeskView V → Type 0) (closed : CallView → CallView) (old new : View S V) (id proposer : ℕ) → id ≢ proposer → LeavesRound DeskTurns closed old proposer new → Passes old new id
+left_passes : {S V : Type 0} (DeskTurns : DeskView V → DeskView V → Type 0) (closed : CallView → CallView) (old new : View S V) (id proposer : ℕ) → id ≢ proposer → LeavesRound DeskTurns closed old proposer new → FramePasses old new id
 left_passes {S} {V} DeskTurns closed old new id proposer other (stops.idle desk now at none turns is) = passes_other old new id proposer now other (ap (λ (w : View S V). w.desks) is)
 left_passes {S} {V} DeskTurns closed old new id proposer other (stops.closes desk now round at there is_round turns is) = passes_other old new id proposer now other (ap (λ (w : View S V). w.desks) is)
 
-down_passes : {S V : Type 0} (DeskTurns : DeskView V → DeskView V → Type 0) (old new : View S V) (id proposer : ℕ) → id ≢ proposer → GoesDown DeskTurns old proposer new → Passes old new id
+down_passes : {S V : Type 0} (DeskTurns : DeskView V → DeskView V → Type 0) (old new : View S V) (id proposer : ℕ) → id ≢ proposer → GoesDown DeskTurns old proposer new → FramePasses old new id
 down_passes DeskTurns old new id proposer other (stops.of_client client leaves) = left_passes DeskTurns closed_by_crash old new id proposer other leaves
 down_passes {S} {V} DeskTurns old new id proposer other (stops.of_operator middle operator leaves is) =
     passes_both old middle new id (left_passes DeskTurns closed_by_crash old middle id proposer other leaves) (passes_same middle new id (ap (λ (w : View S V). w.desks) is))
@@ -152,7 +153,7 @@ stray_brings {S} {V} m old new id index by = in_stray by.late by.waits by.strays
         arrives old new id reply.to reply desk now round heard (λ here. inr (index, waits ∙ ap (λ (x : Message). Some x) late_is)) at is_round hears (ap (λ (w : View S V). w.desks) is)
     in_stray late waits (frames.drops ignored is) = same_desks old new id (ap (λ (w : View S V). w.desks) is)
 
-no_room_passes : {S V : Type 0} (m : Meaning S V) (old new : View S V) (id : ℕ) → frames.FindsNoRoom m old new → Passes old new id
+no_room_passes : {S V : Type 0} (m : Meaning S V) (old new : View S V) (id : ℕ) → frames.FindsNoRoom m old new → FramePasses old new id
 no_room_passes {S} {V} m old new id (frames.stays is) = passes_same old new id (ap (λ (w : View S V). w.desks) is)
 no_room_passes {S} {V} m old new id (frames.kept at acceptor now there finds is) = passes_same old new id (ap (λ (w : View S V). w.desks) is)
 
@@ -218,7 +219,7 @@ tell_passes {S} {V} old new id answer (council.finishes order is_open by is) = s
 tell_passes {S} {V} old new id answer (council.collects order is_open by is) = same_desks old new id (ap (λ (w : View S V). w.desks) is)
 
 -- ---- changes of membership
-welcome_passes : {S V : Type 0} (m : Meaning S V) (old new : View S V) (id : ℕ) (asked : Asked) → Welcomes m old asked new → Passes old new id
+welcome_passes : {S V : Type 0} (m : Meaning S V) (old new : View S V) (id : ℕ) (asked : Asked) → Welcomes m old asked new → FramePasses old new id
 welcome_passes {S} {V} m old new id asked (plans.starts acceptor was now joins at starts is) = passes_same old new id (ap (λ (w : View S V). w.desks) is)
 welcome_passes {S} {V} m old new id asked (plans.fails acceptor was now joins at fails is) = passes_same old new id (ap (λ (w : View S V). w.desks) is)
 welcome_passes {S} {V} m old new id asked (plans.is_up acceptor was joins at up is) = passes_same old new id (ap (λ (w : View S V). w.desks) is)

@@ -15,7 +15,7 @@ use Rattle.cas_proposer.specs.declared.round.Round.{Round}
 use Rattle.cas_round.specs.Replies.{heard, is_prepare, is_accept, mets_of, met_by, is_heard}
 use Rattle.cas_round.specs.declared.verdict.RoundVerdict.{RoundVerdict}
 use Rattle.cas_round.specs.declared.verdict.RoundVerdict.TheVariants as verdict
-use Rattle.cas_round.proofs.Lists.{has, contains, filter_has, map_has, Passes, PickedFrom}
+use Rattle.cas_round.proofs.Lists.{has, contains, filter_has, map_has, PassesIn, PickedFrom}
 use Rattle.cas_record.specs.Logs.Happening.{Happening}
 use Rattle.cas_record.specs.Logs.Lawful.{Cluster}
 use Rattle.cas_record.specs.Logs.Orderly.{Orderly, MayReply, IsTold as IsSo}
@@ -52,13 +52,13 @@ told_once view id told other a b =
 
 -- ---- the beginning
 -- what stays as a call opens
-record IsOpened {S V : Type 0} (old middle : View S V) (id : ℕ) (key : List ℕ) (call : CallView) : Type 0 where
+record IsCallOpenedIn {S V : Type 0} (old middle : View S V) (id : ℕ) (key : List ℕ) (call : CallView) : Type 0 where
   pub desks : middle.desks ≡ old.desks
   pub same_key : call.key ≡ key
   pub told : call.told ≡ None
   pub full : calls.IsFull middle id → suc call.reserved < calls.round_marks (era_at middle id) → calls.IsFull old id
 
-is_opened : {S V : Type 0} (old middle : View S V) (id : ℕ) (key : List ℕ) (program : List Clause) → calls.Opens old id key program middle → (caller : CallerView) (call : CallView) → IsAt middle.callers id caller → caller.call ≡ Some call → IsOpened old middle id key call
+is_opened : {S V : Type 0} (old middle : View S V) (id : ℕ) (key : List ℕ) (program : List Clause) → calls.Opens old id key program middle → (caller : CallerView) (call : CallView) → IsAt middle.callers id caller → caller.call ≡ Some call → IsCallOpenedIn old middle id key call
 is_opened {S} {V} old middle id key program (calls.first was at none_open room is) caller call there is_call =
     let made : CallView = new_call key program (calls.round_marks (era_at old id) - 1) in
     let next : CallerView = record { number = suc was.number; call = Some made } in
@@ -97,7 +97,7 @@ is_opened {S} {V} old middle id key program (calls.again was open_call reserved 
 old_desk : {S V : Type 0} (old middle : View S V) (id : ℕ) (desk : DeskView V) → middle.desks ≡ old.desks → IsAt middle.desks id desk → IsAt old.desks id desk
 old_desk {S} {V} old middle id desk same at = subst (λ (l : List (DeskView V)). IsAt l id desk) same at
 
-stays_by : {S V : Type 0} (m : Meaning S V) (old middle new : View S V) (id : ℕ) (key : List ℕ) (call : CallView) (told : Answer) → IsOpened old middle id key call → calls.IsNoBeginning told
+stays_by : {S V : Type 0} (m : Meaning S V) (old middle new : View S V) (id : ℕ) (key : List ℕ) (call : CallView) (told : Answer) → IsCallOpenedIn old middle id key call → calls.IsNoBeginning told
     → ((desk : DeskView V) → IsAt middle.desks id desk → (desk.round ≡ None) × (told ≡ answer.Down → desk.down ≡ true)) → (told ≡ answer.RecordFull → calls.IsFull middle id × (suc call.reserved < calls.round_marks (era_at middle id))) → BeginsBy m old id key told new
 stays_by {S} {V} m old middle new id key call answer.Down is no_beginning desks full = λ desk at. (desks desk (subst (λ (l : List (DeskView V)). IsAt l id desk) (sym is.desks) at)).1 refl
 stays_by m old middle new id key call answer.RecordFull is no_beginning desks full = is.full (full refl).0 (full refl).1
@@ -116,7 +116,7 @@ stays_by m old middle new id key call answer.VaultFault is no_beginning desks fu
 pub begins_by : {S V : Type 0} (m : Meaning S V) (old new : View S V) (id : ℕ) (key : List ℕ) (program : List Clause) (told : Answer) → Step m old (Begin id key program) new → CallIsTold new id (Some told) → BeginsBy m old id key told new
 begins_by {S} {V} m old new id key program told by was = in_round by.begins
   where
-    opened : IsOpened old by.middle id key by.call
+    opened : IsCallOpenedIn old by.middle id key by.call
     opened = is_opened old by.middle id key program by.opens by.caller by.call by.at_caller by.is_open
 
     -- the caller is told this, if anything
@@ -229,7 +229,7 @@ heard_above : (cluster : Cluster) (log : List Happening) (is_phase : Phase → B
     → Contains (mets_of (heard is_phase ballot replies)) met → BallotLess ballot met
 heard_above cluster log is_phase ballot met replies orderly made of_round stands =
     let picked : PickedFrom (λ reply. met_by reply.tell) met (heard is_phase ballot replies) = map_has (λ reply. met_by reply.tell) met (heard is_phase ballot replies) (has met (mets_of (heard is_phase ballot replies)) stands) in
-    let passed : Passes (is_heard is_phase ballot) picked.source replies = filter_has (is_heard is_phase ballot) picked.source replies picked.stands in
+    let passed : PassesIn (is_heard is_phase ballot) picked.source replies = filter_has (is_heard is_phase ballot) picked.source replies picked.stands in
     let of_phase = and_left (is_phase picked.source.phase) (is_eq (ballot_cmp picked.source.tag ballot)) passed.passes in
     let same : picked.source.tag ≡ ballot = ballot_same {a = picked.source.tag} {b = ballot} (and_right (is_phase picked.source.phase) (is_eq (ballot_cmp picked.source.tag ballot)) passed.passes) in
     subst (λ (b : Ballot). BallotLess b met) same (made_above cluster log picked.source met orderly (made picked.source (contains picked.source replies passed.stands)) (of_round picked.source.phase of_phase) picked.gives)

@@ -47,10 +47,10 @@ use Rattle.cas_model_causes.specs.Calls.Rounds.{RoundSteps, none, one_more, Prep
 use Rattle.cas_model_causes.specs.Calls.Undisturbed.{AreUndisturbed, CallHasProposed, PreparesAfresh, AcceptsAfresh, ProposesUndisturbed, proposes, vault_fails, no_memory, BeginsToAsk, RoundsBeginToAsk, UndisturbedPreparesPropose, UndisturbedAcceptsAreDone, UndisturbedRoundsAreDone}
 use Rattle.cas_model_causes.proofs.Calls.Coming.{IsKind, prepare_kind, accept_kind, Confirms, Coming, step_comes, quorum_more}
 use Rattle.cas_model_causes.proofs.Calls.Ends.{told_by, desk_by, ridden, prepare_steps}
-use Rattle.cas_model_causes.proofs.Calls.Queues.{KeepsProposed, Stays, OwnTurn, stays_or_turn, turn_proposed}
+use Rattle.cas_model_causes.proofs.Calls.Queues.{KeepsProposed, QueueStays, OwnTurn, stays_or_turn, turn_proposed}
 
 -- ---- along the steps
-keeps_step : {S V : Type 0} (m : Meaning S V) (old new : View S V) (id : ℕ) (event : step.Event) → Stays old new id ⊎ OwnTurn m old new id event → KeepsProposed old.callers new.callers id
+keeps_step : {S V : Type 0} (m : Meaning S V) (old new : View S V) (id : ℕ) (event : step.Event) → QueueStays old new id ⊎ OwnTurn m old new id event → KeepsProposed old.callers new.callers id
 keeps_step m old new id event (inl stays) = stays.proposed
 keeps_step m old new id (step.Turn proposer v) (inr own) = turn_proposed m old new id proposer v own.1
 keeps_step m old new id event (inr own) = absurd own

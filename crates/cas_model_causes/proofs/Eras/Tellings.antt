@@ -21,7 +21,7 @@ use Rattle.cas_model.specs.View.{Meaning, View}
 use Rattle.cas_model.proofs.Collection.Laws.{collected_floors}
 use Rattle.cas_model.proofs.Eras.Finishing.{finished_have_entered}
 use Rattle.cas_model_causes.specs.Eras.Tellings.{HaveAllMoved, IsSo, AreTellingsSo, IsPassing, TellingsAreTrue, StepsTellTruly}
-use Rattle.cas_model.proofs.Marks.{IsPlain, ArePlain, Adds, adds_by, tells_or_not}
+use Rattle.cas_model.proofs.Marks.{IsPlain, ArePlain, AddsMarks, adds_by, tells_or_not}
 
 -- ---- marks
 -- it is the newest one, or stands behind it
@@ -156,7 +156,7 @@ module _ {S V : Type 0} (m : Meaning S V) (old new : View S V) (were : TellingsA
       tells_so order.asked answer (subst (λ (a : OpAnswer). IsSo P a (reverse old.marks)) (sym by.tells) (subst (λ (a : OpAnswer). HasItsFloor a (reverse old.marks)) by.tells (collected_floors m old order answer remembered by)))
       (ap (λ (v : View S V). v.last_proposer) is) (ap (λ (v : View S V). v.council.order) is) (ap (λ (v : View S V). v.marks) is)
 
-  added_then : Adds IsPassing old new → TellingsAreTrue new
+  added_then : AddsMarks IsPassing old new → TellingsAreTrue new
   added_then adds = record {
     tellings = as_many adds.last_proposer (subst (λ (l : List Mark). AreTellingsSo P (reverse l)) (sym adds.marks) (plain_so P old.marks adds.more adds.plain were.tellings));
     passing = adds.passing were.passing;

@@ -61,26 +61,26 @@ same_mapped f same (Some plan) now is = (plan, refl, subst (IsSamePlan plan) (so
 
 -- ---- what goes on
 -- each change of membership that is under way, each exchange and the open call ask what they asked
-record GoesOn (old new : Council) : Type 0 where
+record AsksOn (old new : Council) : Type 0 where
   exchange : (now : ExchangeView) → new.exchange ≡ Some now
       → (before : ExchangeView) × (old.exchange ≡ Some before) × (now.question ≡ before.question) × (now.members ≡ before.members) × (now.reads ≡ before.reads)
   order : (before : OrderView) → old.order ≡ Some before → (now : OrderView) × (new.order ≡ Some now) × (now.asked ≡ before.asked)
   plan : (now : PlanView) → new.plan ≡ Some now → (before : PlanView) × (old.plan ≡ Some before) × (now.asked ≡ before.asked)
 
-goes_same : (council : Council) → GoesOn council council
+goes_same : (council : Council) → AsksOn council council
 goes_same council = record { exchange = λ now is. (now, is, refl, refl, refl); order = λ before is. (before, is, refl); plan = λ now is. (now, is, refl) }
 
-goes_both : (a b c : Council) → GoesOn a b → GoesOn b c → GoesOn a c
+goes_both : (a b c : Council) → AsksOn a b → AsksOn b c → AsksOn a c
 goes_both a b c first second = record {
   exchange = λ now is. let mid = second.exchange now is in let had = first.exchange mid.0 mid.1 in (had.0, had.1, mid.2 ∙ had.2, mid.3 ∙ had.3, mid.4 ∙ had.4);
   order = λ before is. let mid = first.order before is in let then_ = second.order mid.0 mid.1 in (then_.0, then_.1, then_.2 ∙ mid.2);
   plan = λ now is. let mid = second.plan now is in let had = first.plan mid.0 mid.1 in (had.0, had.1, mid.2 ∙ had.2);
 }
 
-goes_told : (council : Council) (told : OpAnswer) → GoesOn council (telling council told)
+goes_told : (council : Council) (told : OpAnswer) → AsksOn council (telling council told)
 goes_told council told = record { exchange = λ now is. (now, is, refl, refl, refl); order = λ before is. (told_so told before, ap (option_map (told_so told)) is, refl); plan = λ now is. (now, is, refl) }
 
-goes_broken : (council : Council) → GoesOn council (crashed_in council)
+goes_broken : (council : Council) → AsksOn council (crashed_in council)
 goes_broken council = record { exchange = λ now is. by_exchange council.exchange refl now is; order = λ before is. (before, is, refl); plan = λ now is. (now, is, refl) }
   where
     by_exchange : (open_ : Option ExchangeView) → council.exchange ≡ open_ → (now : ExchangeView) → option_map broken_off open_ ≡ Some now
@@ -91,7 +91,7 @@ goes_broken council = record { exchange = λ now is. by_exchange council.exchang
 
 -- a collection goes on
 goes_collecting : (council : Council) (order : OrderView) (told : Option OpAnswer) (collection : Option CollectionView) → council.order ≡ Some order
-    → GoesOn council (record council { order = Some (record order { told = told }); collection = collection })
+    → AsksOn council (record council { order = Some (record order { told = told }); collection = collection })
 goes_collecting council order told collection is_open = record {
   exchange = λ now is. (now, is, refl, refl, refl);
   order = λ before is. (record order { told = told }, refl, ap (λ (o : OrderView). o.asked) (some_is (sym is_open ∙ is)));
@@ -100,7 +100,7 @@ goes_collecting council order told collection is_open = record {
 
 -- its exchange goes on
 goes_asking : (council : Council) (before now : ExchangeView) → council.exchange ≡ Some before → now.question ≡ before.question → now.members ≡ before.members → now.reads ≡ before.reads
-    → GoesOn council (record council { exchange = Some now })
+    → AsksOn council (record council { exchange = Some now })
 goes_asking council before now is_open question members reads = record {
   exchange = λ next is. (before, is_open, ap (λ (e : ExchangeView). e.question) (sym (some_is is)) ∙ question, ap (λ (e : ExchangeView). e.members) (sym (some_is is)) ∙ members, ap (λ (e : ExchangeView). e.reads) (sym (some_is is)) ∙ reads);
   order = λ order is. (order, is, refl);
@@ -117,7 +117,7 @@ rescans_plan old id key told next (calls.rescans of done same) plan is =
     subst (IsSamePlan counted) (some_is (sym (ap (λ (c : Council). c.plan) same) ∙ is)) (listed_same counted (record of.listing { keys = drop 1 of.listing.keys })) in
     (of.plan, of.is_plan, record { asked = now.asked; entered = now.entered; era = now.era })
 
-goes_rescan : (old : Council) (id : ℕ) (key : List ℕ) (told : Answer) (next : Council) → calls.Rescans old id key told next → GoesOn old next
+goes_rescan : (old : Council) (id : ℕ) (key : List ℕ) (told : Answer) (next : Council) → calls.Rescans old id key told next → AsksOn old next
 goes_rescan old id key told next by = record {
   exchange = λ now is. (now, sym (rescan_asks old id key told next by) ∙ is, refl, refl, refl);
   order = λ before is. order by before is;
@@ -130,13 +130,13 @@ goes_rescan old id key told next by = record {
     order (calls.rescans of done same) before is = (before, ap (λ (c : Council). c.order) same ∙ is, refl)
 
 -- of views
-goes_framed : {S V : Type 0} (old new : View S V) → frame_of new ≡ frame_of old → GoesOn old.council new.council
-goes_framed old new same = subst (GoesOn old.council) (sym (ap (λ (f : Frame). f.council) same)) (goes_same old.council)
+goes_framed : {S V : Type 0} (old new : View S V) → frame_of new ≡ frame_of old → AsksOn old.council new.council
+goes_framed old new same = subst (AsksOn old.council) (sym (ap (λ (f : Frame). f.council) same)) (goes_same old.council)
 
-goes_to : {S V : Type 0} (old changed new : View S V) → new ≡ changed → GoesOn old.council changed.council → GoesOn old.council new.council
-goes_to {S} {V} old changed new is goes = subst (λ (w : View S V). GoesOn old.council w.council) (sym is) goes
+goes_to : {S V : Type 0} (old changed new : View S V) → new ≡ changed → AsksOn old.council changed.council → AsksOn old.council new.council
+goes_to {S} {V} old changed new is goes = subst (λ (w : View S V). AsksOn old.council w.council) (sym is) goes
 
-goes_down : {S V : Type 0} (DeskTurns : DeskView V → DeskView V → Type 0) (old new : View S V) (id : ℕ) → GoesDown DeskTurns old id new → GoesOn old.council new.council
+goes_down : {S V : Type 0} (DeskTurns : DeskView V → DeskView V → Type 0) (old new : View S V) (id : ℕ) → GoesDown DeskTurns old id new → AsksOn old.council new.council
 goes_down DeskTurns old new id (stops.of_client client leaves) = goes_framed old new (left_frame DeskTurns closed_by_crash old new id leaves)
 goes_down DeskTurns old new id (stops.of_operator middle operator leaves is) =
     goes_both old.council middle.council new.council (goes_framed old middle (left_frame DeskTurns closed_by_crash old middle id leaves)) (goes_to middle _ new is (goes_broken middle.council))
@@ -145,12 +145,12 @@ goes_down DeskTurns old new id (stops.of_operator middle operator leaves is) =
 abbrev members_of : Era → List ℕ
 members_of era = union_of era.prep era.acc
 
-record IsAsked {S V : Type 0} (view : View S V) : Type 0 where
+record IsCouncilAsked {S V : Type 0} (view : View S V) : Type 0 where
   changes : (plan : PlanView) → view.council.plan ≡ Some plan → is_change plan.asked ≡ true
   asks : (exchange : ExchangeView) (key : List ℕ) → view.council.exchange ≡ Some exchange → exchange.question ≡ Probe key
       → IsForProbe view.council key × (exchange.members ≡ everyone view) × ((era : Era) → exchange.reads ≡ Some era → era ≡ era_at view 0)
 
-asked_then : {S V : Type 0} (old new : View S V) → GoesOn old.council new.council → era_at new 0 ≡ era_at old 0 → IsAsked old → IsAsked new
+asked_then : {S V : Type 0} (old new : View S V) → AsksOn old.council new.council → era_at new 0 ≡ era_at old 0 → IsCouncilAsked old → IsCouncilAsked new
 asked_then old new goes same was = record {
   changes = λ plan is. let had = goes.plan plan is in ap is_change had.2 ∙ was.changes had.0 had.1;
   asks = λ exchange key is_open asks.
@@ -162,7 +162,7 @@ asked_then old new goes same was = record {
 
 -- with no exchange nobody is asked
 asked_none : {S V : Type 0} (old new : View S V) → ((plan : PlanView) → new.council.plan ≡ Some plan → (before : PlanView) × (old.council.plan ≡ Some before) × (plan.asked ≡ before.asked))
-    → new.council.exchange ≡ None → IsAsked old → IsAsked new
+    → new.council.exchange ≡ None → IsCouncilAsked old → IsCouncilAsked new
 asked_none old new plans none was = record {
   changes = λ plan is. let had = plans plan is in ap is_change had.2 ∙ was.changes had.0 had.1;
   asks = λ exchange key is_open asks. absurd (cc (sym none ∙ is_open));
@@ -182,10 +182,10 @@ read_in : (b : Bool) (now era : Era) → (if b then Some now else None) ≡ Some
 read_in true now era is = sym (some_is is)
 read_in false now era is = absurd (cc is)
 
-ask_asked : {S V : Type 0} (m : Meaning S V) (old new : View S V) (question : Question) → era_at new 0 ≡ era_at old 0 → council.StepAskAll m old question new → IsAsked old → IsAsked new
+ask_asked : {S V : Type 0} (m : Meaning S V) (old new : View S V) (question : Question) → era_at new 0 ≡ era_at old 0 → council.StepAskAll m old question new → IsCouncilAsked old → IsCouncilAsked new
 ask_asked {S} {V} m old new question same by was = by_case by.asks
   where
-    told : (changed : View S V) → new ≡ changed → GoesOn old.council changed.council → IsAsked new
+    told : (changed : View S V) → new ≡ changed → AsksOn old.council changed.council → IsCouncilAsked new
     told changed view goes = asked_then old new (goes_to old changed new view goes) same was
 
     plans_then : (tag : Ballot) (p : PlanView) → council.plan_asked question tag old.council.plan ≡ Some p → is_change p.asked ≡ true
@@ -205,7 +205,7 @@ ask_asked {S} {V} m old new question same by was = by_case by.asks
     is_for_probe : (key : List ℕ) → question ≡ Probe key → IsProbeOf by.may.order.asked key
     is_for_probe key is = subst (λ (q : Question). council.IsForQuestion (everyone old) old.council by.may.caller.call by.may.order.asked q) is by.may.is_for
 
-    by_case : council.AsksAll m old question by.desk new → IsAsked new
+    by_case : council.AsksAll m old question by.desk new → IsCouncilAsked new
     by_case (council.asks now tag flow up room tagged is_now sends view) = record {
       changes = λ plan is. plans_then tag plan (sym (ap (λ (w : View S V). w.council.plan) view) ∙ is);
       asks = λ exchange key is_open asks.
@@ -220,14 +220,14 @@ ask_asked {S} {V} m old new question same by was = by_case by.asks
     by_case (council.fails now up fault view) = told _ view (goes_told old.council _)
     by_case (council.no_memory now tag up loss view) = told _ view (goes_told old.council _)
 
-ask_collect_asked : {S V : Type 0} (m : Meaning S V) (old new : View S V) → era_at new 0 ≡ era_at old 0 → collect.StepAskCollect m old new → IsAsked old → IsAsked new
+ask_collect_asked : {S V : Type 0} (m : Meaning S V) (old new : View S V) → era_at new 0 ≡ era_at old 0 → collect.StepAskCollect m old new → IsCouncilAsked old → IsCouncilAsked new
 ask_collect_asked {S} {V} m old new same by was = by_case by.asks
   where
     no_probe : (q : Question) (key : List ℕ) → collect.IsQuestionOf by.may.at.collection q → q ≡ Probe key → ⊥
     no_probe q key (collect.tells_ages due is) probe = cc (sym is ∙ probe)
     no_probe q key (collect.removes due is) probe = cc (sym is ∙ probe)
 
-    by_case : collect.AsksCollect m old by.may.at by.desk new → IsAsked new
+    by_case : collect.AsksCollect m old by.may.at by.desk new → IsCouncilAsked new
     by_case (collect.asks question flow up asks_it room aged sends view) = record {
       changes = λ plan is. was.changes plan (sym (ap (λ (w : View S V). w.council.plan) view) ∙ is);
       asks =
@@ -237,10 +237,10 @@ ask_collect_asked {S} {V} m old new same by was = by_case by.asks
     by_case (collect.is_full question up asks full view) = asked_then old new (goes_to old _ new view (goes_told old.council _)) same was
     by_case (collect.no_memory up view) = asked_then old new (goes_to old _ new view (goes_told old.council _)) same was
 
-turn_goes : {S V : Type 0} (m : Meaning S V) (old new : View S V) (v : Verdict) → council.StepTurnExchange m old v new → GoesOn old.council new.council
+turn_goes : {S V : Type 0} (m : Meaning S V) (old new : View S V) (v : Verdict) → council.StepTurnExchange m old v new → AsksOn old.council new.council
 turn_goes {S} {V} m old new v by = by_turn by.turn
   where
-    by_turn : council.TurnsExchange m old v by.front by.at.exchange new → GoesOn old.council new.council
+    by_turn : council.TurnsExchange m old v by.front by.at.exchange new → AsksOn old.council new.council
     by_turn (council.held fall view) = goes_to old old new view (goes_same old.council)
     by_turn (council.gone fall view) = goes_to old _ new view (goes_asking old.council by.at.exchange _ by.at.is_open refl refl refl)
     by_turn (council.answers request acceptor now reply fall front at table view) = goes_to old _ new view (goes_same old.council)
@@ -248,13 +248,13 @@ turn_goes {S} {V} m old new v by = by_turn by.turn
     by_turn (council.brings_down request acceptor now fall front at stops_it view) = goes_to old _ new view (goes_asking old.council by.at.exchange _ by.at.is_open refl refl refl)
     by_turn (council.arrives reply fall front to_it view) = goes_to old _ new view (goes_asking old.council by.at.exchange _ by.at.is_open refl refl refl)
 
-gather_asked : {S V : Type 0} (old new : View S V) → era_at new 0 ≡ era_at old 0 → council.StepGather old new → IsAsked old → IsAsked new
+gather_asked : {S V : Type 0} (old new : View S V) → era_at new 0 ≡ era_at old 0 → council.StepGather old new → IsCouncilAsked old → IsCouncilAsked new
 gather_asked {S} {V} old new same by was = by_case by.gathers
   where
-    over : (changed : View S V) → new ≡ changed → changed.council.plan ≡ old.council.plan → changed.council.exchange ≡ None → IsAsked new
+    over : (changed : View S V) → new ≡ changed → changed.council.plan ≡ old.council.plan → changed.council.exchange ≡ None → IsCouncilAsked new
     over changed view plan none = asked_none old new (λ p is. (p, sym (ap (λ (w : View S V). w.council.plan) view ∙ plan) ∙ is, refl)) (ap (λ (w : View S V). w.council.exchange) view ∙ none) was
 
-    by_case : council.Gathers old by.at.exchange new → IsAsked new
+    by_case : council.Gathers old by.at.exchange new → IsCouncilAsked new
     by_case (council.crashed crashed view) = over _ view refl refl
     by_case (council.probed key found up question plain found_is view) = over _ view refl refl
     by_case (council.read key era found marks up question reads found_is counts view) = over _ view refl refl
@@ -264,13 +264,13 @@ gather_asked {S} {V} old new same by was = by_case by.gathers
         (of.plan, of.is_plan, now.asked)) (ap (λ (w : View S V). w.council.exchange) view) was
     by_case (council.no_memory up view) = asked_then old new (goes_to old _ new view (goes_told old.council _)) same was
 
-gather_collect_asked : {S V : Type 0} (old new : View S V) → collect.StepGatherCollect old new → IsAsked old → IsAsked new
+gather_collect_asked : {S V : Type 0} (old new : View S V) → collect.StepGatherCollect old new → IsCouncilAsked old → IsCouncilAsked new
 gather_collect_asked {S} {V} old new by was = by_case by.gathers
   where
-    over : (changed : View S V) → new ≡ changed → changed.council.plan ≡ old.council.plan → changed.council.exchange ≡ None → IsAsked new
+    over : (changed : View S V) → new ≡ changed → changed.council.plan ≡ old.council.plan → changed.council.exchange ≡ None → IsCouncilAsked new
     over changed view plan none = asked_none old new (λ p is. (p, sym (ap (λ (w : View S V). w.council.plan) view ∙ plan) ∙ is, refl)) (ap (λ (w : View S V). w.council.exchange) view ∙ none) was
 
-    by_case : collect.GathersCollect old by.at by.of_exchange.exchange new → IsAsked new
+    by_case : collect.GathersCollect old by.at by.of_exchange.exchange new → IsCouncilAsked new
     by_case (collect.crashed crashed view) = over _ view refl refl
     by_case (collect.all up all view) = over _ view refl refl
     by_case (collect.is_absent acceptor up least view) = over _ view refl refl
@@ -278,15 +278,15 @@ gather_collect_asked {S} {V} old new by was = by_case by.gathers
 partial_plan : (was : Option PlanView) (now : PlanView) → option_map without_partial was ≡ Some now → (plan : PlanView) × (was ≡ Some plan) × IsSamePlan plan now
 partial_plan was now is = same_mapped without_partial (λ plan. record { asked = refl; entered = refl; era = refl }) was now is
 
-tell_asked : {S V : Type 0} (old new : View S V) (told : OpAnswer) → council.StepTell old told new → IsAsked old → IsAsked new
+tell_asked : {S V : Type 0} (old new : View S V) (told : OpAnswer) → council.StepTell old told new → IsCouncilAsked old → IsCouncilAsked new
 tell_asked {S} {V} old new told by was = by_case by
   where
-    kept : (changed : View S V) → new ≡ changed → changed.council.plan ≡ option_map without_partial old.council.plan → changed.council.exchange ≡ None → IsAsked new
+    kept : (changed : View S V) → new ≡ changed → changed.council.plan ≡ option_map without_partial old.council.plan → changed.council.exchange ≡ None → IsCouncilAsked new
     kept changed view plan none =
         asked_none old new (λ p is. let had = partial_plan old.council.plan p (sym (ap (λ (w : View S V). w.council.plan) view ∙ plan) ∙ is) in (had.0, had.1, had.2.asked))
         (ap (λ (w : View S V). w.council.exchange) view ∙ none) was
 
-    by_case : council.StepTell old told new → IsAsked new
+    by_case : council.StepTell old told new → IsCouncilAsked new
     by_case (council.tells order said is_open is_told same view) = kept _ view refl refl
     by_case (council.collects order is_open of view) = kept _ view refl refl
     by_case (council.finishes order is_open of view) =
@@ -304,16 +304,16 @@ welcome_council {S} {V} m old new of (plans.fails id acceptor now joins at fails
 welcome_council {S} {V} m old new of (plans.is_up id acceptor joins at up view) = ap (λ (w : View S V). w.council) view
 welcome_council {S} {V} m old new of (plans.stays joins_none view) = ap (λ (w : View S V). w.council) view
 
-open_asked : {S V : Type 0} (m : Meaning S V) (old new : View S V) → era_at new 0 ≡ era_at old 0 → plans.StepOpenPlan m old new → IsAsked old → IsAsked new
+open_asked : {S V : Type 0} (m : Meaning S V) (old new : View S V) → era_at new 0 ≡ era_at old 0 → plans.StepOpenPlan m old new → IsCouncilAsked old → IsCouncilAsked new
 open_asked {S} {V} m old new same by was = by_case by.opens
   where
-    told : (middle : View S V) (answer_is : OpAnswer) → GoesOn old.council middle.council → new ≡ council.told_view middle answer_is → IsAsked new
+    told : (middle : View S V) (answer_is : OpAnswer) → AsksOn old.council middle.council → new ≡ council.told_view middle answer_is → IsCouncilAsked new
     told middle said first view = asked_then old new (goes_both old.council middle.council new.council first (goes_to middle _ new view (goes_told middle.council said))) same was
 
-    welcomed : (middle : View S V) → plans.Welcomes m old by.order.asked middle → GoesOn old.council middle.council
-    welcomed middle welcomes = subst (GoesOn old.council) (sym (welcome_council m old middle by.order.asked welcomes)) (goes_same old.council)
+    welcomed : (middle : View S V) → plans.Welcomes m old by.order.asked middle → AsksOn old.council middle.council
+    welcomed middle welcomes = subst (AsksOn old.council) (sym (welcome_council m old middle by.order.asked welcomes)) (goes_same old.council)
 
-    by_case : plans.OpensPlan m old by.order.asked by.desk new → IsAsked new
+    by_case : plans.OpensPlan m old by.order.asked by.desk new → IsCouncilAsked new
     by_case (plans.is_down down view) = told old _ (goes_same old.council) view
     by_case (plans.is_busy plan up busy view) = told old _ (goes_same old.council) view
     by_case (plans.refuses fault up none planned view) = told old _ (goes_same old.council) view
@@ -328,7 +328,7 @@ open_asked {S} {V} m old new same by was = by_case by.opens
     by_case (plans.no_memory progress middle up none planned welcomes view) = told middle _ (welcomed middle welcomes) view
 
 -- an era is entered for a change of membership, and so no probe is open
-enter_asked : {S V : Type 0} (m : Meaning S V) (old new : View S V) (id : ℕ) → plans.StepEnterEra m old id new → IsAsked old → IsAsked new
+enter_asked : {S V : Type 0} (m : Meaning S V) (old new : View S V) (id : ℕ) → plans.StepEnterEra m old id new → IsCouncilAsked old → IsCouncilAsked new
 enter_asked {S} {V} m old new id by was = by_case by.enters
   where
     change : is_change by.may.order.asked ≡ true
@@ -337,13 +337,13 @@ enter_asked {S} {V} m old new id by was = by_case by.enters
     none_probes : (exchange : ExchangeView) (key : List ℕ) → old.council.exchange ≡ Some exchange → exchange.question ≡ Probe key → ⊥
     none_probes exchange key is_open asks = let before = was.asks exchange key is_open asks in no_change by.may.order.asked key (subst (λ (o : OrderView). IsProbeOf o.asked key) (some_is (sym before.0.is_open ∙ by.may.is_open)) before.0.is_for) change
 
-    goes : GoesOn old.council new.council → IsAsked new
+    goes : AsksOn old.council new.council → IsCouncilAsked new
     goes on = record {
       changes = λ plan is. let had = on.plan plan is in ap is_change had.2 ∙ was.changes had.0 had.1;
       asks = λ exchange key is_open asks. let had = on.exchange exchange is_open in absurd (none_probes had.0 key had.1 (sym had.2 ∙ asks));
     }
 
-    by_case : plans.EntersNext m old by.plan by.next by.desk new → IsAsked new
+    by_case : plans.EntersNext m old by.plan by.next by.desk new → IsCouncilAsked new
     by_case (plans.enters middle room leaves view) =
         let frame = left_frame (EntersEra m.disks by.next) (closed_by (answer.Moved by.next.number) (cause.Moved by.next.number)) old middle by.plan.entered leaves in
         record {
@@ -367,23 +367,23 @@ enter_asked {S} {V} m old new id by was = by_case by.enters
     by_case (plans.no_memory now room up kept now_is view) = goes (goes_to old _ new view (goes_told old.council _))
 
 -- ---- collections
-refuse_goes : {S V : Type 0} (m : Meaning S V) (old new : View S V) (id : ℕ) (key : List ℕ) → calls.RefusesCall m old id key new → GoesOn old.council new.council
+refuse_goes : {S V : Type 0} (m : Meaning S V) (old new : View S V) (id : ℕ) (key : List ℕ) → calls.RefusesCall m old id key new → AsksOn old.council new.council
 refuse_goes m old new id key (calls.stays told next why rescan view) = goes_to old _ new view (goes_rescan old.council id key told next rescan)
 refuse_goes m old new id key (calls.loses caller desk now ballot next at_caller at_desk none up loses rescan view) =
     goes_to old _ new view (goes_rescan old.council id key (answer.NoMemory false) next rescan)
 
 begin_collect_goes : {S V : Type 0} (m : Meaning S V) (old new : View S V) (key : List ℕ)
-    → collect.StepBeginCollect m (λ before after. step.StepBegin m before 0 key collect.keep_always after) old key new → GoesOn old.council new.council
+    → collect.StepBeginCollect m (λ before after. step.StepBegin m before 0 key collect.keep_always after) old key new → AsksOn old.council new.council
 begin_collect_goes {S} {V} m old new key by = by_case by.begins
   where
     goes_on : (middle : View S V) (collection : CollectionView) → step.StepBegin m old 0 key collect.keep_always middle → new ≡ collect.collecting middle by.may.order None collection
-        → GoesOn old.council new.council
+        → AsksOn old.council new.council
     goes_on middle collection begins view =
         let frame = begin_frame m old middle 0 key collect.keep_always begins in
         goes_both old.council middle.council new.council (goes_framed old middle frame)
         (goes_to middle _ new view (goes_collecting middle.council by.may.order None (Some collection) (ap (λ (f : Frame). f.council.order) frame ∙ by.may.is_open)))
 
-    by_case : collect.BeginsCollection m (λ before after. step.StepBegin m before 0 key collect.keep_always after) old key by.may.order by.desk by.caller new → GoesOn old.council new.council
+    by_case : collect.BeginsCollection m (λ before after. step.StepBegin m before 0 key collect.keep_always after) old key by.may.order by.desk by.caller new → AsksOn old.council new.council
     by_case (collect.is_down none down view) = goes_to old _ new view (goes_told old.council _)
     by_case (collect.is_busy plan none up planned view) = goes_to old _ new view (goes_told old.council _)
     by_case (collect.is_full none up unplanned full view) = goes_to old _ new view (goes_told old.council _)
@@ -392,21 +392,21 @@ begin_collect_goes {S} {V} m old new key by = by_case by.begins
     by_case (collect.begins middle none unplanned begins view) = goes_on middle _ begins view
     by_case (collect.goes_on middle call of open_ begins view) = goes_on middle _ begins view
 
-end_goes : {S V : Type 0} (m : Meaning S V) (old new : View S V) (id : ℕ) (told : Answer) → StepEnd m old id told new → GoesOn old.council new.council
+end_goes : {S V : Type 0} (m : Meaning S V) (old new : View S V) (id : ℕ) (told : Answer) → StepEnd m old id told new → AsksOn old.council new.council
 end_goes m old new id told by = goes_to old _ new by.ends.view (goes_rescan old.council id by.of_call.call.key told by.ends.council by.ends.rescans)
 
-round_goes : {S V : Type 0} (old new : View S V) → collect.StepGatherRound old new → GoesOn old.council new.council
+round_goes : {S V : Type 0} (old new : View S V) → collect.StepGatherRound old new → AsksOn old.council new.council
 round_goes {S} {V} old new by = by_case by.gathers
   where
-    by_case : collect.GathersRound old by.at new → GoesOn old.council new.council
+    by_case : collect.GathersRound old by.at new → AsksOn old.council new.council
     by_case (collect.all ballot members tombstone all view) = goes_to old _ new view (goes_collecting old.council by.at.order None _ by.at.is_open)
     by_case (collect.is_absent ballot members acceptor tombstone least view) = goes_to old _ new view (goes_told old.council _)
     by_case (collect.is_held version tombstone view) = goes_to old _ new view (goes_told old.council _)
 
-renew_goes : {S V : Type 0} (m : Meaning S V) (old new : View S V) (id : ℕ) → collect.StepRenew m old id new → GoesOn old.council new.council
+renew_goes : {S V : Type 0} (m : Meaning S V) (old new : View S V) (id : ℕ) → collect.StepRenew m old id new → AsksOn old.council new.council
 renew_goes {S} {V} m old new id by = by_case by.renews
   where
-    by_case : collect.RenewsNext m old by.at id by.desk new → GoesOn old.council new.council
+    by_case : collect.RenewsNext m old by.at id by.desk new → AsksOn old.council new.council
     by_case (collect.renews age middle leaves view) =
         let frame = left_frame (Renews m.disks by.at.collection.course.key (tomb_of by.at.collection.tombstone) age) (closed_by (answer.Aged age) (cause.Aged age)) old middle id leaves in
         goes_both old.council middle.council new.council (goes_framed old middle frame)
@@ -418,7 +418,7 @@ renew_goes {S} {V} m old new id by = by_case by.renews
     by_case (collect.no_memory now up finds view) = goes_to old _ new view (goes_told old.council _)
 
 -- the call of a collection's round ends, and the collection goes on
-end_collect_goes : {S V : Type 0} (m : Meaning S V) (old new : View S V) (told : Answer) → step.Step m old (step.EndCollect told) new → GoesOn old.council new.council
+end_collect_goes : {S V : Type 0} (m : Meaning S V) (old new : View S V) (told : Answer) → step.Step m old (step.EndCollect told) new → AsksOn old.council new.council
 end_collect_goes {S} {V} m old new told by =
     let first = end_goes m old by.middle 0 told by.ends in
     goes_to old _ new by.view (record {
@@ -427,14 +427,14 @@ end_collect_goes {S} {V} m old new told by =
       plan = λ now is. first.plan now is;
     })
 
-count_collect_goes : {S V : Type 0} (m : Meaning S V) (old new : View S V) → step.Step m old step.CountCollect new → GoesOn old.council new.council
+count_collect_goes : {S V : Type 0} (m : Meaning S V) (old new : View S V) → step.Step m old step.CountCollect new → AsksOn old.council new.council
 count_collect_goes m old new by =
     let frame = count_frame m old by.middle 0 by.counts in
     goes_both old.council by.middle.council new.council (goes_framed old by.middle frame)
     (goes_to by.middle _ new by.view (goes_collecting by.middle.council by.is.at.order None _ (ap (λ (f : Frame). f.council.order) frame ∙ by.is.at.is_open)))
 
 -- ---- all of them
-asked_by_step : {S V : Type 0} (m : Meaning S V) (old : View S V) (event : step.Event) (new : View S V) → era_at new 0 ≡ era_at old 0 → IsAsked old → Step m old event new → IsAsked new
+asked_by_step : {S V : Type 0} (m : Meaning S V) (old : View S V) (event : step.Event) (new : View S V) → era_at new 0 ≡ era_at old 0 → IsCouncilAsked old → Step m old event new → IsCouncilAsked new
 asked_by_step m old (step.Begin id key program) new same was by = asked_then old new (goes_framed old new (begin_frame m old new id key program by)) same was
 asked_by_step m old (step.RefuseBegin id key) new same was by = asked_then old new (refuse_goes m old new id key by) same was
 asked_by_step m old (step.Turn id v) new same was by = asked_then old new (goes_framed old new (turn_frame m old new id v by)) same was
@@ -593,10 +593,10 @@ enter_unled {S} {V} m old new id safe by unled = by_case by.enters
     by_case (plans.no_memory now room up kept now_is view) = (led old _ new view refl refl unled).unled
 
 -- ---- the laws
-joins : {S V : Type 0} (old new : View S V) (led_is : IsLed old new) → (era_at new 0 ≡ era_at old 0 → IsAsked new) → IsAskingAll new
+joins : {S V : Type 0} (old new : View S V) (led_is : IsLed old new) → (era_at new 0 ≡ era_at old 0 → IsCouncilAsked new) → IsAskingAll new
 joins old new led_is asked_it = let now = asked_it led_is.era_then in record { unled = led_is.unled; changes = now.changes; asks = now.asks }
 
-asked_of : {S V : Type 0} (view : View S V) → IsAskingAll view → IsAsked view
+asked_of : {S V : Type 0} (view : View S V) → IsAskingAll view → IsCouncilAsked view
 asked_of view is = record { changes = is.changes; asks = is.asks }
 
 led_on : {S V : Type 0} (m : Meaning S V) (old : View S V) (event : step.Event) (new : View S V) → ((id : ℕ) → event ≡ step.RestartProposer id → ⊥) → Leads event → IsSafe old → IsAskingAll old

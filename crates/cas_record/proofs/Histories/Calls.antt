@@ -13,10 +13,10 @@ use Rattle.cas_base.proofs.Bools.{if_true, if_false, both_true, right_false, or_
 use Rattle.cas_record.proofs.Tests.{nat_is, call_same, call_is, step_up}
 
 -- the calls of each caller are numbered as they begin
-pub record IsCounted (marks : List Mark) : Type 0 where
+pub record AreCallsCounted (marks : List Mark) : Type 0 where
   pub begun : {caller call : ℕ} {key : List ℕ} {program : List Clause} {older : List Mark} → At (Begun caller call key program) older marks → call ≡ suc (calls_of caller older)
 
-pub counted_part : {part marks : List Mark} → IsCounted marks → IsOlderPart part marks → IsCounted part
+pub counted_part : {part marks : List Mark} → AreCallsCounted marks → IsOlderPart part marks → AreCallsCounted part
 counted_part counted part = record { begun = λ at. counted.begun (at_part at part) }
 
 calls_more : (caller : ℕ) (mark : Mark) (older : List Mark) → calls_of caller older ≤ calls_of caller (mark ∷ older)
@@ -32,7 +32,7 @@ calls_of_begun {caller} {call} {key} {program} {older} here = omega (arith, call
 calls_of_begun {caller} (past {y = mark} {rest = rest} at) = omega (arith, calls_of_begun at, calls_more caller mark rest)
 
 -- a call that was begun is one of those counted
-pub begun_low : {caller call : ℕ} {key : List ℕ} {program : List Clause} {marks : List Mark} → IsCounted marks → Stands (Begun caller call key program) marks → call ≤ calls_of caller marks
+pub begun_low : {caller call : ℕ} {key : List ℕ} {program : List Clause} {marks : List Mark} → AreCallsCounted marks → Stands (Begun caller call key program) marks → call ≤ calls_of caller marks
 begun_low counted s = omega (arith, counted.begun s.at, calls_of_begun s.at)
 
 -- a call is begun once
@@ -41,7 +41,7 @@ pub record OneBegun (key other : List ℕ) (program : List Clause) (second : Lis
   pub same_program : program ≡ second
   pub older_same : xs ≡ ys
 
-pub begun_once : {caller call : ℕ} {key other : List ℕ} {program second : List Clause} {xs ys marks : List Mark} → IsCounted marks
+pub begun_once : {caller call : ℕ} {key other : List ℕ} {program second : List Clause} {xs ys marks : List Mark} → AreCallsCounted marks
     → At (Begun caller call key program) xs marks → At (Begun caller call other second) ys marks → OneBegun key other program second xs ys
 begun_once counted at also = elim (order at also) [
   | older_than before ↦ absurd (omega (arith, counted.begun at, counted.begun also, calls_of_begun before))
@@ -83,7 +83,7 @@ program_more caller call (Begun c n k p) older e = if_false (is_call caller call
 program_more caller call mark older e = refl
 
 -- its program is that with which it began
-pub program_of_begun : {caller call : ℕ} {key : List ℕ} {program : List Clause} {older marks : List Mark} → IsCounted marks → At (Begun caller call key program) older marks
+pub program_of_begun : {caller call : ℕ} {key : List ℕ} {program : List Clause} {older marks : List Mark} → AreCallsCounted marks → At (Begun caller call key program) older marks
     → program_of caller call marks ≡ program
 program_of_begun {caller} {call} {key} {program} {older} counted here =
     let first : has_begun caller call older ≡ false = false_of_not _ (λ e.

@@ -251,7 +251,7 @@ begun_some caller call (Ended c n r a ∷ older) = begun_some caller call older
 begun_some caller call (Harmed c n d ∷ older) = begun_some caller call older
 begun_some caller call (Told a b ∷ older) = begun_some caller call older
 
-record BegunAt (caller call place : ℕ) (marks : List Mark) : Type 0 where
+record BegunAtPlace (caller call place : ℕ) (marks : List Mark) : Type 0 where
   key : List ℕ
   program : List Clause
   older : List Mark
@@ -259,10 +259,10 @@ record BegunAt (caller call place : ℕ) (marks : List Mark) : Type 0 where
   place_is : place ≡ length older
   program_is : program_of caller call marks ≡ program
 
-begun_past : {caller call place : ℕ} {mark : Mark} {older : List Mark} → program_of caller call (mark ∷ older) ≡ program_of caller call older → BegunAt caller call place older → BegunAt caller call place (mark ∷ older)
+begun_past : {caller call place : ℕ} {mark : Mark} {older : List Mark} → program_of caller call (mark ∷ older) ≡ program_of caller call older → BegunAtPlace caller call place older → BegunAtPlace caller call place (mark ∷ older)
 begun_past same b = record { key = b.key; program = b.program; older = b.older; at = past b.at; place_is = b.place_is; program_is = same ∙ b.program_is }
 
-begun_place : (caller call place : ℕ) (marks : List Mark) → begun_at caller call marks ≡ Some place → BegunAt caller call place marks
+begun_place : (caller call place : ℕ) (marks : List Mark) → begun_at caller call marks ≡ Some place → BegunAtPlace caller call place marks
 begun_place caller call place [] is = absurd cc
 begun_place caller call place (Begun c n k p ∷ older) is = elim (there_or_not (begun_at caller call older)) [
   | inl there ↦

@@ -18,7 +18,7 @@ use Rattle.cas_record.specs.Logs.Happening.{Happening, Marked, Promised, Took, m
 use Rattle.cas_record.specs.Logs.Lawful.{Cluster, Lawful, MayPromise, MayTake, MayVote, in_promise, in_take, in_ride, Granted, by_promise, by_ride}
 use Rattle.cas_record.proofs.PlaceLemmas.{deeper, stands_deeper, stands_at, stands_part, older_than, newer_than, at_one, order, length-At, prefix_same, nil_prefix, prefix_append}
 use Rattle.cas_record.proofs.Histories.Chains.{at_most_floor_below, top_cases, top_later, chain-none}
-use Rattle.cas_record.proofs.Logs.Lemmas.{law, lawful_older, mark_at, mark_stands, in_log, part_of, proposal_law, ack_law, floor_law, ProposedAt, AckedAt, acked_at, acked_deeper, acked_proposed, OpeningAt, opening_deeper, above_opening, Begins, at_zero, at_proposal, at_opening, link_begins, has_none_zero, chain_whole, chain_of_proposal}
+use Rattle.cas_record.proofs.Logs.Lemmas.{law, lawful_older, mark_at, mark_stands, in_log, part_of, proposal_law, ack_law, floor_law, ProposedAt, AckedAt, acked_at, acked_deeper, acked_proposed, OpeningAt, opening_deeper, above_opening, BeginsHistory, at_zero, at_proposal, at_opening, link_begins, has_none_zero, chain_whole, chain_of_proposal}
 
 -- ---- what a granting acceptor took is under the link
 low_read : (p : Proposal) (older : List Mark) {taken : Ballot} → BallotAtMost taken p.read → BallotAtMost taken (link_of older p)
@@ -107,7 +107,7 @@ pub settles_deeper : {key : List ℕ} {ballot : Ballot} {happening : Happening} 
 settles_deeper (by_ack a) at = by_ack (acked_deeper a at)
 settles_deeper (by_opening o) at = by_opening (opening_deeper o at)
 
-pub settles_begins : (cluster : Cluster) {log : List Happening} {key : List ℕ} {ballot : Ballot} → Lawful cluster log → Settles key ballot log → Begins key ballot log
+pub settles_begins : (cluster : Cluster) {log : List Happening} {key : List ℕ} {ballot : Ballot} → Lawful cluster log → Settles key ballot log → BeginsHistory key ballot log
 settles_begins cluster lawful (by_ack a) = at_proposal (acked_proposed cluster lawful a)
 settles_begins cluster lawful (by_opening o) = at_opening o
 

@@ -42,7 +42,7 @@ abbrev pub some_place : {A : Type 0} → (A → List A → Bool) → List A → 
 some_place test [] = false
 some_place test (x ∷ older) = test x older || some_place test older
 
-pub record Found {A : Type 0} (test : A → List A → Bool) (all : List A) : Type 0 where
+pub record FoundPassing {A : Type 0} (test : A → List A → Bool) (all : List A) : Type 0 where
   pub x : A
   pub older : List A
   pub at : At x older all
@@ -52,10 +52,10 @@ pub each_at : {A : Type 0} (test : A → List A → Bool) {x : A} {older all : L
 each_at test {x} {older} e here = and_left (test x older) (each_place test older) e
 each_at test e (past {y = y} {rest = rest} at) = each_at test (and_right (test y rest) (each_place test rest) e) at
 
-found_more : {A : Type 0} (test : A → List A → Bool) {y : A} {rest : List A} → Found test rest → Found test (y ∷ rest)
+found_more : {A : Type 0} (test : A → List A → Bool) {y : A} {rest : List A} → FoundPassing test rest → FoundPassing test (y ∷ rest)
 found_more test f = record { x = f.x; older = f.older; at = past f.at; passes = f.passes }
 
-pub found : {A : Type 0} (test : A → List A → Bool) (all : List A) → some_place test all ≡ true → Found test all
+pub found : {A : Type 0} (test : A → List A → Bool) (all : List A) → some_place test all ≡ true → FoundPassing test all
 found test [] e = absurd cc
 found test (x ∷ older) e = elim (or_cases (test x older) (some_place test older) e) [
   | inl first ↦ record { x = x; older = older; at = here; passes = first }

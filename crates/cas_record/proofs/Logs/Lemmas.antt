@@ -179,12 +179,12 @@ not_opened cluster {log} {key} {ballot} lawful proposed = false_of_not _ (λ e.
 
 -- ---- the link of a proposal
 -- a ballot from which a history goes on: zero, one that was proposed, or an opening floor
-pub data Begins (key : List ℕ) (ballot : Ballot) (log : List Happening) : Type 0 where
-  at_zero : ballot ≡ zero_ballot → Begins key ballot log
-  at_proposal : ProposedAt key ballot log → Begins key ballot log
-  at_opening : OpeningAt key ballot log → Begins key ballot log
+pub data BeginsHistory (key : List ℕ) (ballot : Ballot) (log : List Happening) : Type 0 where
+  at_zero : ballot ≡ zero_ballot → BeginsHistory key ballot log
+  at_proposal : ProposedAt key ballot log → BeginsHistory key ballot log
+  at_opening : OpeningAt key ballot log → BeginsHistory key ballot log
 
-begins_floor : (cluster : Cluster) {log : List Happening} {key : List ℕ} {floor : Ballot} → Lawful cluster log → HasFloor key floor (marks_of log) → Begins key floor log
+begins_floor : (cluster : Cluster) {log : List Happening} {key : List ℕ} {floor : Ballot} → Lawful cluster log → HasFloor key floor (marks_of log) → BeginsHistory key floor log
 begins_floor cluster {log} {key} {floor} lawful f =
     let found = in_log log f.stands.at in
     elim (floor_law cluster lawful found.at) [
@@ -192,7 +192,7 @@ begins_floor cluster {log} {key} {floor} lawful f =
       | inr tombstone ↦ at_proposal (acked_proposed cluster lawful (acked_deeper (acked_at found.older tombstone.acked) found.at))
     ]
 
-begins_made : (cluster : Cluster) {log : List Happening} {key : List ℕ} {ballot : Ballot} → Lawful cluster log → IsMade key ballot (marks_of log) → Begins key ballot log
+begins_made : (cluster : Cluster) {log : List Happening} {key : List ℕ} {ballot : Ballot} → Lawful cluster log → IsMade key ballot (marks_of log) → BeginsHistory key ballot log
 begins_made cluster {log} lawful made = elim made [ inl h ↦ at_proposal (proposed_at log h) | inr f ↦ begins_floor cluster lawful f ]
 
 -- what was made, and was proposed in the end, was proposed already
@@ -204,12 +204,12 @@ made_proposed cluster lawful p_at at made = elim (begins_made cluster (lawful_ol
   | at_opening o ↦ absurd (less_irreflexive (above_opening cluster lawful p_at (opening_deeper o at)))
 ]
 
-pub link_begins : (cluster : Cluster) {log older : List Happening} {p : Proposal} → Lawful cluster log → At (Marked (Proposed p)) older log → Begins p.key (link_of (marks_of older) p) older
+pub link_begins : (cluster : Cluster) {log older : List Happening} {p : Proposal} → Lawful cluster log → At (Marked (Proposed p)) older log → BeginsHistory p.key (link_of (marks_of older) p) older
 link_begins cluster {older = older} {p = p} lawful at =
     let may = proposal_law cluster lawful at in
     elim (greater_cases p.read (floor_below p.key p.ballot (marks_of older))) [
-      | inl read ↦ subst (λ b. Begins p.key b older) (sym read.0) (elim may.read_stands [ inl z ↦ at_zero z | inr made ↦ begins_made cluster (lawful_older cluster lawful at) made ])
-      | inr floor ↦ subst (λ b. Begins p.key b older) (sym floor.0) (elim (floor_below_cases p.key p.ballot (marks_of older)) [
+      | inl read ↦ subst (λ b. BeginsHistory p.key b older) (sym read.0) (elim may.read_stands [ inl z ↦ at_zero z | inr made ↦ begins_made cluster (lawful_older cluster lawful at) made ])
+      | inr floor ↦ subst (λ b. BeginsHistory p.key b older) (sym floor.0) (elim (floor_below_cases p.key p.ballot (marks_of older)) [
         | inl z ↦ at_zero z
         | inr f ↦ begins_floor cluster (lawful_older cluster lawful at) f.stands
       ])
@@ -245,7 +245,7 @@ is_proposed cluster lawful p =
 
 -- the history of such a ballot is the same in the whole log
 pub chain_whole : (cluster : Cluster) {happening : Happening} {older log : List Happening} {key : List ℕ} {ballot : Ballot} → Lawful cluster log → At happening older log
-    → Begins key ballot older → chain_of key ballot (marks_of older) ≡ chain_of key ballot (marks_of log)
+    → BeginsHistory key ballot older → chain_of key ballot (marks_of older) ≡ chain_of key ballot (marks_of log)
 chain_whole cluster {older = older} {log = log} {key = key} {ballot = ballot} lawful at begins =
     let before = lawful_older cluster lawful at in
     elim begins [

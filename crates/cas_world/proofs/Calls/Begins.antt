@@ -79,7 +79,7 @@ pub record IsAnother {V : Type 0} (desk : DeskView V) (caller : Caller) (number 
   pub idle : desk.round ≡ None
 
 -- a new call
-pub record IsFirst {V : Type 0} (desk : DeskView V) (caller : Caller) (number : ℕ) : Type 0 where
+pub record IsNewCall {V : Type 0} (desk : DeskView V) (caller : Caller) (number : ℕ) : Type 0 where
   pub none_open : caller.call ≡ None
   pub next_number : number ≡ caller.number + 1
   pub idle : desk.round ≡ None
@@ -94,7 +94,7 @@ none_round era caller queue (Some round) none safe = absurd (cc (sym none ∙ sa
 
 pub may_in : {S V : Type 0} (last_proposer : ℕ) (council : Council) (acceptors : List (AcceptorView S)) (desks : List (DeskView V)) (callers : List Caller) (flow : FlowView) (book : Book) (id number : ℕ) (key : List ℕ) (program : List Clause) (desk : DeskView V) (caller : Caller)
     → IsSafe (view_of last_proposer council acceptors desks callers flow book) → IsAt desks id desk → IsAt callers id caller → MayBegin (view_of last_proposer council acceptors desks callers flow book) id number key program
-    → IsFirst desk caller number ⊎ IsAnother desk caller number key program
+    → IsNewCall desk caller number ⊎ IsAnother desk caller number key program
 may_in {S} {V} last_proposer council acceptors desks callers flow book id number key program desk caller safe at_desk at_caller (MayBegin.first was at none next) =
     let same : caller_view caller ≡ was = at_one (map caller_view callers) id (at_map caller_view callers id caller at_caller) at in
     let none_here : option_map call_view caller.call ≡ None = ap (λ (c : CallerView). c.call) same ∙ none in
@@ -163,7 +163,7 @@ module _ {S V : Type 0} (last_proposer : ℕ) (council : Council) (acceptors : L
   abbrev old : View S V
   old = view_of last_proposer council acceptors desks callers flow book
 
-  pub opens_first : (marks : ℕ) (desk : DeskView V) (caller : Caller) → IsAt callers id caller → id < length callers → IsFirst desk caller number → marks ≡ round_marks (era_in council.eras.0 id) → length book.marks + reserved_beside callers id + reserved_by (council_view council) + marks ≤ most_marks
+  pub opens_first : (marks : ℕ) (desk : DeskView V) (caller : Caller) → IsAt callers id caller → id < length callers → IsNewCall desk caller number → marks ≡ round_marks (era_in council.eras.0 id) → length book.marks + reserved_beside callers id + reserved_by (council_view council) + marks ≤ most_marks
       → IsEntered (view_of last_proposer council acceptors desks callers flow book) id number key program
       (view_of last_proposer council acceptors desks (slice_set callers id (entered caller (Some (opening_of (record { caller = id; call = number }) key program)) marks)) flow (opened_book book (Some (opening_of (record { caller = id; call = number }) key program))))
       (entered caller (Some (opening_of (record { caller = id; call = number }) key program)) marks) marks 1

@@ -49,7 +49,7 @@ call_at last_proposer council acceptors desks callers flow book id desk round ca
     seen_open caller.call is.call is.is_open
 
 -- a desk and its caller, with the open round and the open call
-pub record IsOpenIn {V : Type 0} (desks : List (DeskView V)) (callers : List Caller) (id : ℕ) (desk : DeskView V) (caller : Caller) : Type 0 where
+pub record IsRoundOpenIn {V : Type 0} (desks : List (DeskView V)) (callers : List Caller) (id : ℕ) (desk : DeskView V) (caller : Caller) : Type 0 where
   pub at_desk : IsAt desks id desk
   pub at_caller : IsAt callers id caller
   pub round : Round
@@ -61,7 +61,7 @@ pub record IsOpenIn {V : Type 0} (desks : List (DeskView V)) (callers : List Cal
 pub open_in : {S V : Type 0} {A : Type 0} (now_of : A → Round) (last_proposer : ℕ) (council : Council) (acceptors : List (AcceptorView S)) (desks : List (DeskView V)) (callers : List Caller) (flow : FlowView) (book : Book) (place id : ℕ)
     (desk read : DeskView V) (lent_one : Option A) (caller : Caller) → place ≡ id → id ≤ last_proposer → IsSafe (view_of last_proposer council acceptors desks callers flow book)
     → desk ≡ slice_index_or desks place desk → read ≡ slice_index_or desks place read → MatchOption lent_one (read.round ≡ None) (λ one. read.round ≡ Some (now_of one)) → is_some lent_one ≡ true
-    → caller ≡ slice_index_or callers place caller → IsOpenIn desks callers id desk caller
+    → caller ≡ slice_index_or callers place caller → IsRoundOpenIn desks callers id desk caller
 open_in {S} {V} now_of last_proposer council acceptors desks callers flow book place id desk read lent_one caller same low safe desk_is read_is match some caller_is =
     let at_desk = at_place desks place id desk same (omega (arith, safe.sound.desks, low)) desk_is in
     let at_read = at_place desks place id read same (omega (arith, safe.sound.desks, low)) read_is in

@@ -32,18 +32,18 @@ use Rattle.cas_world.proofs.Calls.Callers.{map_set, at_map}
 use Rattle.cas_world.proofs.Parts.{at_place}
 
 -- the open call of a caller, as its world was asked
-pub record IsToldIn (caller : Caller) (number : ℕ) (answer : Answer) : Type 0 where
+pub record IsCallToldIn (caller : Caller) (number : ℕ) (answer : Answer) : Type 0 where
   pub call : OpenCall
   pub is_open : caller.call ≡ Some call
   pub told : call.told ≡ Some answer
   pub same_number : caller.number ≡ number
 
-seen_told : (caller : Caller) (call : Option OpenCall) (view : CallView) (number : ℕ) (answer : Answer) → caller.call ≡ call → option_map call_view call ≡ Some view → view.told ≡ Some answer → caller.number ≡ number → IsToldIn caller number answer
+seen_told : (caller : Caller) (call : Option OpenCall) (view : CallView) (number : ℕ) (answer : Answer) → caller.call ≡ call → option_map call_view call ≡ Some view → view.told ≡ Some answer → caller.number ≡ number → IsCallToldIn caller number answer
 seen_told caller None view number answer is seen told same = absurd (cc seen)
 seen_told caller (Some call) view number answer is seen told same = record { call = call; is_open = is; told = ap (λ (v : CallView). v.told) (some_is seen) ∙ told; same_number = same }
 
 pub told_in : {S V : Type 0} (last_proposer : ℕ) (council : Council) (acceptors : List (AcceptorView S)) (desks : List (DeskView V)) (callers : List Caller) (flow : FlowView) (book : Book) (id number : ℕ) (answer : Answer) (caller : Caller)
-    → IsAt callers id caller → WasTold (view_of last_proposer council acceptors desks callers flow book) id number answer → IsToldIn caller number answer
+    → IsAt callers id caller → WasTold (view_of last_proposer council acceptors desks callers flow book) id number answer → IsCallToldIn caller number answer
 told_in last_proposer council acceptors desks callers flow book id number answer caller at told =
     let same : caller_view caller ≡ told.caller = at_one (map caller_view callers) id (at_map caller_view callers id caller at) told.at_caller in
     seen_told caller caller.call told.call number answer refl (ap (λ (c : CallerView). c.call) same ∙ told.is_open) told.told (ap (λ (c : CallerView). c.number) same ∙ told.same_number)
@@ -59,7 +59,7 @@ none_after {V} m desk now (inl idle) = ap (λ (d : DeskView V). d.round) idle.1 
 none_after {V} m desk now (inr ends) = ap (λ (d : DeskView V). d.round) ends.2.desk
 
 pub ends : {S V : Type 0} (m : Meaning S V) (last_proposer : ℕ) (council council_now : Council) (acceptors : List (AcceptorView S)) (desks : List (DeskView V)) (callers : List Caller) (flow : FlowView) (book after : Book) (id number : ℕ) (answer : Answer)
-    (desk now : DeskView V) (caller : Caller) (told : IsToldIn caller number answer) → IsAt desks id desk → IsAt callers id caller → ((desk.round ≡ None) × (now ≡ desk)) ⊎ ((r : Round) × (desk.round ≡ Some r) × EndsRound m.disks desk now r None)
+    (desk now : DeskView V) (caller : Caller) (told : IsCallToldIn caller number answer) → IsAt desks id desk → IsAt callers id caller → ((desk.round ≡ None) × (now ≡ desk)) ⊎ ((r : Round) × (desk.round ≡ Some r) × EndsRound m.disks desk now r None)
     → Rescans (council_view council) id told.call.key answer (council_view council_now) → council_now.eras ≡ council.eras → after.marks ≡ book.marks ++ Ended id number told.call.rounds answer ∷ []
     → StepEnd m (view_of last_proposer council acceptors desks callers flow book) id answer (view_of last_proposer council_now acceptors (slice_set desks id now) (slice_set callers id (record caller { call = None })) (abandoned flow id) after)
 ends {S} {V} m last_proposer council council_now acceptors desks callers flow book after id number answer desk now caller told at_desk at_caller closed anew eras marks = record {
@@ -101,7 +101,7 @@ some_room beside callers id caller call room at is_open some low =
 pub record IsEnding {V : Type 0} (desks : List (DeskView V)) (callers : List Caller) (id number : ℕ) (answer : Answer) (desk : DeskView V) (caller : Caller) : Type 0 where
   pub at_desk : IsAt desks id desk
   pub at_caller : IsAt callers id caller
-  pub told : IsToldIn caller number answer
+  pub told : IsCallToldIn caller number answer
   pub some : 0 < told.call.reserved
 
 pub ending : {S V : Type 0} (last_proposer : ℕ) (council : Council) (acceptors : List (AcceptorView S)) (desks : List (DeskView V)) (callers : List Caller) (flow : FlowView) (book : Book) (now : View S V) (place id number : ℕ) (answer : Answer) (desk : DeskView V) (caller : Caller)

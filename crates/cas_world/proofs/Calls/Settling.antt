@@ -42,7 +42,7 @@ use Rattle.cas_world.specs.declared.begin.Opening.{Opening}
 use Rattle.cas_world_calls.specs.declared.call.Caller.{Caller}
 use Rattle.cas_world_calls.specs.declared.call.OpenCall.{OpenCall}
 use Rattle.cas_world_calls.specs.declared.proposal.Proposing.{Proposing}
-use Rattle.cas_world.proofs.Calls.Begins.{beside_seen, beside_none, may_in, opened_book, IsFirst, IsAnother, IsEntered, opens_first, opens_again, step_prepares, step_proposes, step_fails, step_stays}
+use Rattle.cas_world.proofs.Calls.Begins.{beside_seen, beside_none, may_in, opened_book, IsNewCall, IsAnother, IsEntered, opens_first, opens_again, step_prepares, step_proposes, step_fails, step_stays}
 use Rattle.cas_world.proofs.Calls.Callers.{map_set, at_map, seen_open}
 use Rattle.cas_world.proofs.Calls.Ends.{rescan_reserves}
 use Rattle.cas_world.proofs.Exchanges.Exchanges.{council_next}
@@ -68,10 +68,10 @@ is_ok (Err error) ok = absurd (cc ok)
 
 -- ---- the parties
 -- a desk and its caller, with what may begin there
-pub record IsFound {V : Type 0} (desks : List (DeskView V)) (callers : List Caller) (id number : ℕ) (key : List ℕ) (program : List Clause) (desk : DeskView V) (caller : Caller) : Type 0 where
+pub record ArePartiesFound {V : Type 0} (desks : List (DeskView V)) (callers : List Caller) (id number : ℕ) (key : List ℕ) (program : List Clause) (desk : DeskView V) (caller : Caller) : Type 0 where
   pub at_desk : IsAt desks id desk
   pub at_caller : IsAt callers id caller
-  pub may : IsFirst desk caller number ⊎ IsAnother desk caller number key program
+  pub may : IsNewCall desk caller number ⊎ IsAnother desk caller number key program
   pub low : id ≤ 16
   pub place : id < length callers
   pub number_low : caller.number ≤ most_marks
@@ -84,10 +84,10 @@ module _ {S V : Type 0} (last_proposer : ℕ) (council : Council) (acceptors : L
   low_id : id ≤ last_proposer
   low_id = omega (arith, known, ap (λ (v : View S V). v.last_proposer) view)
 
-  found_by : (desk : DeskView V) (caller : Caller) → IsAt desks id desk → IsAt callers id caller → IsFound desks callers id number key program desk caller
+  found_by : (desk : DeskView V) (caller : Caller) → IsAt desks id desk → IsAt callers id caller → ArePartiesFound desks callers id number key program desk caller
   found_by desk caller at_desk at_caller =
       let party = safe.sound.parties id desk (caller_view caller) at_desk (at_map caller_view callers id caller at_caller) in
-      let may_here : IsFirst desk caller number ⊎ IsAnother desk caller number key program =
+      let may_here : IsNewCall desk caller number ⊎ IsAnother desk caller number key program =
       may_in last_proposer council acceptors desks callers flow book id number key program desk caller safe at_desk at_caller (subst (λ (v : View S V). MayBegin v id number key program) (sym view) may) in
       record {
         at_desk = at_desk;
@@ -101,15 +101,16 @@ module _ {S V : Type 0} (last_proposer : ℕ) (council : Council) (acceptors : L
         fits = λ ready is. party.cached key ready (contains_promise key ready desk.cache is);
       }
 
-  pub found : (desk : DeskView V) (caller : Caller) → desk ≡ slice_index_or desks place desk → caller ≡ slice_index_or callers place caller → IsFound desks callers id number key program desk caller
+  pub found : (desk : DeskView V) (caller : Caller) → desk ≡ slice_index_or desks place desk → caller ≡ slice_index_or callers place caller
+      → ArePartiesFound desks callers id number key program desk caller
   found desk caller desk_is caller_is = found_by desk caller (at_place desks place id desk same (omega (arith, safe.sound.desks, low_id)) desk_is)
       (at_place callers place id caller same (omega (arith, safe.sound.callers, low_id, length-map callers caller_view)) caller_is)
 
-  pub found_caller : (caller : Caller) → caller ≡ slice_index_or callers place caller → (desk : DeskView V) × IsFound desks callers id number key program desk caller
+  pub found_caller : (caller : Caller) → caller ≡ slice_index_or callers place caller → (desk : DeskView V) × ArePartiesFound desks callers id number key program desk caller
   found_caller caller caller_is = let desk = at_low desks id (omega (arith, safe.sound.desks, low_id)) in
       (desk.0, found_by desk.0 caller desk.1 (at_place callers place id caller same (omega (arith, safe.sound.callers, low_id, length-map callers caller_view)) caller_is))
 
-  pub found_desk : (desk : DeskView V) → desk ≡ slice_index_or desks place desk → (caller : Caller) × IsFound desks callers id number key program desk caller
+  pub found_desk : (desk : DeskView V) → desk ≡ slice_index_or desks place desk → (caller : Caller) × ArePartiesFound desks callers id number key program desk caller
   found_desk desk desk_is = let caller = at_low callers id (omega (arith, safe.sound.callers, low_id, length-map callers caller_view)) in
       (caller.0, found_by desk caller.0 (at_place desks place id desk same (omega (arith, safe.sound.desks, low_id)) desk_is) caller.1)
 
@@ -158,7 +159,8 @@ phase_tells last_proposer council acceptors desks callers flow book id desk call
 
 -- ---- the whole
 -- an event, what it keeps true, and what the beginning answers
-pub record Settles {S V A : Type 0} (m : Meaning S V) (old : View S V) (id number : ℕ) (key : List ℕ) (program : List Clause) (new : View S V) (callers : List Caller) (left : ℕ) (result : Result A Answer) : Type 0 where
+pub record SettlesCall {S V A : Type 0} (m : Meaning S V) (old : View S V) (id number : ℕ) (key : List ℕ) (program : List Clause) (new : View S V)
+    (callers : List Caller) (left : ℕ) (result : Result A Answer) : Type 0 where
   pub event : Event
   pub by : Step m old event new
   pub world : IsWorld m new callers left
@@ -217,7 +219,7 @@ module _ {S V : Type 0} (A : Type 0) (m : Meaning S V) (last_proposer : ℕ) (co
       (ap (λ (o : Option OpenCall). option_map call_view o) is)
 
   -- a refused caller reserves no more than before
-  refused_room : (told : Answer) (left : ℕ) → IsFirst desk caller number ⊎ IsAnother desk caller number key program → book.room ≤ left → seen.reserved_of (map caller_view (slice_set callers id (refused caller told))) + reserved_by (council_view council) ≤ left
+  refused_room : (told : Answer) (left : ℕ) → IsNewCall desk caller number ⊎ IsAnother desk caller number key program → book.room ≤ left → seen.reserved_of (map caller_view (slice_set callers id (refused caller told))) + reserved_by (council_view council) ≤ left
   refused_room told left (inl first) grows =
       let same : seen.reserved_of (map caller_view (slice_set callers id (refused caller told))) ≡ seen.reserved_of (map caller_view callers) = ap (λ (l : List Caller). seen.reserved_of (map caller_view l)) (callers_same told first.none_open) in
       omega (arith, same, inv.room, grows)
@@ -250,10 +252,10 @@ module _ {S V : Type 0} (A : Type 0) (m : Meaning S V) (last_proposer : ℕ) (co
 
   -- where what the operator has under way is seen as before
   seen_as_before : (council_now : Council) → council_now.eras ≡ council.eras → council_view council_now ≡ council_view council → (desks_now : List (DeskView V)) (callers_now : List Caller) (flow_now : FlowView) (after : Book) (result : Result A Answer)
-      → Settles {A = A} m (view_of last_proposer council acceptors desks callers flow book) id number key program (view_of last_proposer council acceptors desks_now callers_now flow_now after) callers_now after.room result
-      → Settles {A = A} m (view_of last_proposer council acceptors desks callers flow book) id number key program (view_of last_proposer council_now acceptors desks_now callers_now flow_now after) callers_now after.room result
+      → SettlesCall {A = A} m (view_of last_proposer council acceptors desks callers flow book) id number key program (view_of last_proposer council acceptors desks_now callers_now flow_now after) callers_now after.room result
+      → SettlesCall {A = A} m (view_of last_proposer council acceptors desks callers flow book) id number key program (view_of last_proposer council_now acceptors desks_now callers_now flow_now after) callers_now after.room result
   seen_as_before council_now eras same desks_now callers_now flow_now after result =
-      subst (λ (v : View S V). Settles {A = A} m (view_of last_proposer council acceptors desks callers flow book) id number key program v callers_now after.room result)
+      subst (λ (v : View S V). SettlesCall {A = A} m (view_of last_proposer council acceptors desks callers flow book) id number key program v callers_now after.room result)
       (sym (council_next last_proposer council council_now acceptors desks_now callers_now flow_now after (council_view council) eras same))
 
   -- what the operator's call is told of a refusal
@@ -268,9 +270,9 @@ module _ {S V : Type 0} (A : Type 0) (m : Meaning S V) (last_proposer : ℕ) (co
   refused_full told (inr none) over_full = inr none
 
   -- no room was made
-  pub not_made : (council_now : Council) → council_now.eras ≡ council.eras → (told : Answer) (after : Book) → IsFirst desk caller number ⊎ IsAnother desk caller number key program → IsRefusal told → Heeds caller.call (council_view council) id key told (council_view council_now)
+  pub not_made : (council_now : Council) → council_now.eras ≡ council.eras → (told : Answer) (after : Book) → IsNewCall desk caller number ⊎ IsAnother desk caller number key program → IsRefusal told → Heeds caller.call (council_view council) id key told (council_view council_now)
       → (told ≡ answer.RecordFull → calls.most_marks < length book.marks + reserved_beside callers id + reserved_by (council_view council) + calls.round_marks (era_in council.eras.0 id)) → after.marks ≡ book.marks → book.room ≤ after.room
-      → Settles {A = A} m (view_of last_proposer council acceptors desks callers flow book) id number key program (view_of last_proposer council_now acceptors desks (slice_set callers id (refused caller told)) flow after) (slice_set callers id (refused caller told)) after.room (Err told)
+      → SettlesCall {A = A} m (view_of last_proposer council acceptors desks callers flow book) id number key program (view_of last_proposer council_now acceptors desks (slice_set callers id (refused caller told)) flow after) (slice_set callers id (refused caller told)) after.room (Err told)
   not_made council_now eras told after (inl first) why heeds full marks grows =
       let same : view_of last_proposer council_now acceptors desks (slice_set callers id (refused caller told)) flow after ≡ record old { council = council_view council_now } =
       ap (λ (l : List Caller). view_of last_proposer council_now acceptors desks l flow after) (callers_same told first.none_open)
@@ -313,14 +315,14 @@ module _ {S V : Type 0} (A : Type 0) (m : Meaning S V) (last_proposer : ℕ) (co
   -- ---- room was made for its marks
   module _ (marks : ℕ) (same_marks : marks ≡ round_marks (era_in council.eras.0 id)) (few : length book.marks + reserved_beside callers id + reserved_by (council_view council) + marks ≤ most_marks) (opening : Option Opening)
       (first_is : caller.call ≡ None → opening ≡ Some (opening_of (record { caller = id; call = number }) key program)) (again_is : IsSome caller.call → opening ≡ None) where
-    pub entering : IsFirst desk caller number ⊎ IsAnother desk caller number key program
+    pub entering : IsNewCall desk caller number ⊎ IsAnother desk caller number key program
         → IsEntered (view_of last_proposer council acceptors desks callers flow book) id number key program (view_of last_proposer council acceptors desks (slice_set callers id (entered caller opening marks)) flow (opened_book book opening)) (entered caller opening marks) marks (length (entry_marks opening))
     entering (inl first) = subst (λ (o : Option Opening). IsEntered (view_of last_proposer council acceptors desks callers flow book) id number key program (view_of last_proposer council acceptors desks (slice_set callers id (entered caller o marks)) flow (opened_book book o)) (entered caller o marks) marks (length (entry_marks o)))
         (sym (first_is first.none_open)) (opens_first last_proposer council acceptors desks callers flow book id number key program marks desk caller at_caller low first same_marks few)
     entering (inr another) = subst (λ (o : Option Opening). IsEntered (view_of last_proposer council acceptors desks callers flow book) id number key program (view_of last_proposer council acceptors desks (slice_set callers id (entered caller o marks)) flow (opened_book book o)) (entered caller o marks) marks (length (entry_marks o)))
         (sym (again_is (subst (λ (o : Option OpenCall). IsSome o) (sym another.is_call) refl))) (opens_again last_proposer council acceptors desks callers flow book id number key program marks desk caller at_caller at_desk low another (omega (arith, same_marks)) (omega (arith, same_marks)) few)
 
-    module _ (may : IsFirst desk caller number ⊎ IsAnother desk caller number key program) (now : DeskView V) (flow_now : FlowView) (after : Book) (left : ℕ) (held : reserved_beside callers id + reserved_by (council_view council) + marks ≤ left) (grows : book.room ≤ left)
+    module _ (may : IsNewCall desk caller number ⊎ IsAnother desk caller number key program) (now : DeskView V) (flow_now : FlowView) (after : Book) (left : ℕ) (held : reserved_beside callers id + reserved_by (council_view council) + marks ≤ left) (grows : book.room ≤ left)
         (council_now : Council) (eras : council_now.eras ≡ council.eras) where
       idle : desk.round ≡ None
       idle = elim may [ inl first ↦ first.idle | inr another ↦ another.idle ]
@@ -346,7 +348,7 @@ module _ {S V : Type 0} (A : Type 0) (m : Meaning S V) (last_proposer : ℕ) (co
       }
 
       pub prepares : Prepares m.disks (era_in council.eras.0 id) key id desk now flow flow_now → after.marks ≡ book.marks ++ entry_marks opening → after.room + length (entry_marks opening) ≡ left → (done : A)
-          → Settles {A = A} m (view_of last_proposer council acceptors desks callers flow book) id number key program (view_of last_proposer council acceptors (slice_set desks id now) (slice_set callers id (entered caller opening marks)) flow_now after)
+          → SettlesCall {A = A} m (view_of last_proposer council acceptors desks callers flow book) id number key program (view_of last_proposer council acceptors (slice_set desks id now) (slice_set callers id (entered caller opening marks)) flow_now after)
           (slice_set callers id (entered caller opening marks)) after.room (Ok done)
       prepares was made spent done =
           let next : Caller = entered caller opening marks in
@@ -369,7 +371,7 @@ module _ {S V : Type 0} (A : Type 0) (m : Meaning S V) (last_proposer : ℕ) (co
 
       pub proposes : (proposing : Proposing) → ProposesBy m.disks (era_in council.eras.0 id) key program (record { caller = id; call = number }) desk now flow flow_now proposing → after.marks ≡ book.marks ++ (entry_marks opening ++ proposing.mark ∷ [])
           → after.room + length (entry_marks opening ++ proposing.mark ∷ []) ≡ left → (done : A)
-          → Settles {A = A} m (view_of last_proposer council acceptors desks callers flow book) id number key program (view_of last_proposer council acceptors (slice_set desks id now) (slice_set callers id (proposes_now (entered caller opening marks) proposing)) flow_now after)
+          → SettlesCall {A = A} m (view_of last_proposer council acceptors desks callers flow book) id number key program (view_of last_proposer council acceptors (slice_set desks id now) (slice_set callers id (proposes_now (entered caller opening marks) proposing)) flow_now after)
           (slice_set callers id (proposes_now (entered caller opening marks) proposing)) after.room (Ok done)
       proposes proposing was made spent done =
           let entry : Caller = entered caller opening marks in
@@ -419,7 +421,7 @@ module _ {S V : Type 0} (A : Type 0) (m : Meaning S V) (last_proposer : ℕ) (co
       none_left answer.RecordFull by = elim by [ ]
 
       pub fails : (told : Answer) → is_refusal told ≡ false → FailsToOpen m.disks key desk now told → after.marks ≡ book.marks ++ entry_marks opening → after.room + length (entry_marks opening) ≡ left
-          → Settles {A = A} m (view_of last_proposer council acceptors desks callers flow book) id number key program (view_of last_proposer council acceptors (slice_set desks id now) (slice_set callers id (told_now (entered caller opening marks) told)) flow after)
+          → SettlesCall {A = A} m (view_of last_proposer council acceptors desks callers flow book) id number key program (view_of last_proposer council acceptors (slice_set desks id now) (slice_set callers id (told_now (entered caller opening marks) told)) flow after)
           (slice_set callers id (told_now (entered caller opening marks) told)) after.room (Err told)
       fails told begun was made spent =
           let entry : Caller = entered caller opening marks in
@@ -442,15 +444,15 @@ module _ {S V : Type 0} (A : Type 0) (m : Meaning S V) (last_proposer : ℕ) (co
 
       -- ---- no memory was found
       pub loses : (proposed : Bool) → FailsToOpen m.disks key desk now (answer.NoMemory proposed) → Heeds caller.call (council_view council) id key (answer.NoMemory proposed) (council_view council_now) → after.marks ≡ book.marks → after.room ≡ left
-          → Settles {A = A} m (view_of last_proposer council acceptors desks callers flow book) id number key program (view_of last_proposer council_now acceptors (slice_set desks id now) (slice_set callers id (refused caller (answer.NoMemory proposed))) flow after)
+          → SettlesCall {A = A} m (view_of last_proposer council acceptors desks callers flow book) id number key program (view_of last_proposer council_now acceptors (slice_set desks id now) (slice_set callers id (refused caller (answer.NoMemory proposed))) flow after)
           (slice_set callers id (refused caller (answer.NoMemory proposed))) after.room (Err (answer.NoMemory proposed))
       loses proposed was heeds made spent = loses_in may
         where
           told : Answer
           told = answer.NoMemory proposed
 
-          loses_in : IsFirst desk caller number ⊎ IsAnother desk caller number key program
-              → Settles {A = A} m (view_of last_proposer council acceptors desks callers flow book) id number key program (view_of last_proposer council_now acceptors (slice_set desks id now) (slice_set callers id (refused caller (answer.NoMemory proposed))) flow after)
+          loses_in : IsNewCall desk caller number ⊎ IsAnother desk caller number key program
+              → SettlesCall {A = A} m (view_of last_proposer council acceptors desks callers flow book) id number key program (view_of last_proposer council_now acceptors (slice_set desks id now) (slice_set callers id (refused caller (answer.NoMemory proposed))) flow after)
               (slice_set callers id (refused caller (answer.NoMemory proposed))) after.room (Err (answer.NoMemory proposed))
           loses_in (inl first) =
               let anew = subst (λ (b : Bool). calls.Rescans (council_view council) id key (answer.NoMemory b) (council_view council_now)) was.0 (heeded_first council_now told first.none_open heeds) in
@@ -491,28 +493,28 @@ module _ {S V : Type 0} (A : Type 0) (m : Meaning S V) (last_proposer : ℕ) (co
       -- ---- all of it
       pub settles : (begun : Result (Option Proposing) Answer) → IfOk begun (OpensRound m.disks (era_in council.eras.0 id) key program (record { caller = id; call = number }) desk now flow flow_now) → IfErr begun (FailsToOpen m.disks key desk now) → OnErr begun (flow_now ≡ flow)
           → HeedsLoss caller.call (council_view council) id key begun (council_view council_now) → after.marks ≡ book.marks ++ settled_marks opening begun → after.room + length (settled_marks opening begun) ≡ left → (result : Result A Answer) → IfErr begun (λ told. result ≡ Err told) → OnOk begun (IsOk result)
-          → Settles {A = A} m (view_of last_proposer council acceptors desks callers flow book) id number key program (view_of last_proposer council_now acceptors (slice_set desks id now) (slice_set callers id (settled caller opening marks begun)) flow_now after)
+          → SettlesCall {A = A} m (view_of last_proposer council acceptors desks callers flow book) id number key program (view_of last_proposer council_now acceptors (slice_set desks id now) (slice_set callers id (settled caller opening marks begun)) flow_now after)
           (slice_set callers id (settled caller opening marks begun)) after.room result
       settles (Ok None) opens refuses stays heeds made spent result err ok = seen_as_before council_now eras heeds (slice_set desks id now) (slice_set callers id (entered caller opening marks)) flow_now after result
-          (subst (λ (r : Result A Answer). Settles {A = A} m (view_of last_proposer council acceptors desks callers flow book) id number key program
+          (subst (λ (r : Result A Answer). SettlesCall {A = A} m (view_of last_proposer council acceptors desks callers flow book) id number key program
           (view_of last_proposer council acceptors (slice_set desks id now) (slice_set callers id (entered caller opening marks)) flow_now after) (slice_set callers id (entered caller opening marks)) after.room r) (sym (is_ok result ok).1) (prepares opens made spent (is_ok result ok).0))
       settles (Ok (Some proposing)) opens refuses stays heeds made spent result err ok = seen_as_before council_now eras heeds (slice_set desks id now) (slice_set callers id (proposes_now (entered caller opening marks) proposing)) flow_now after result
-          (subst (λ (r : Result A Answer). Settles {A = A} m (view_of last_proposer council acceptors desks callers flow book) id number key program
+          (subst (λ (r : Result A Answer). SettlesCall {A = A} m (view_of last_proposer council acceptors desks callers flow book) id number key program
           (view_of last_proposer council acceptors (slice_set desks id now) (slice_set callers id (proposes_now (entered caller opening marks) proposing)) flow_now after) (slice_set callers id (proposes_now (entered caller opening marks) proposing)) after.room r) (sym (is_ok result ok).1)
           (proposes proposing opens made spent (is_ok result ok).0))
       settles (Err told) opens refuses stays heeds made spent result err ok =
-          subst (λ (f : FlowView). Settles {A = A} m (view_of last_proposer council acceptors desks callers flow book) id number key program (view_of last_proposer council_now acceptors (slice_set desks id now) (slice_set callers id (settled caller opening marks (Err told))) f after)
+          subst (λ (f : FlowView). SettlesCall {A = A} m (view_of last_proposer council acceptors desks callers flow book) id number key program (view_of last_proposer council_now acceptors (slice_set desks id now) (slice_set callers id (settled caller opening marks (Err told))) f after)
           (slice_set callers id (settled caller opening marks (Err told))) after.room result) (sym stays)
-          (subst (λ (r : Result A Answer). Settles {A = A} m (view_of last_proposer council acceptors desks callers flow book) id number key program (view_of last_proposer council_now acceptors (slice_set desks id now) (slice_set callers id (settled caller opening marks (Err told))) flow after)
+          (subst (λ (r : Result A Answer). SettlesCall {A = A} m (view_of last_proposer council acceptors desks callers flow book) id number key program (view_of last_proposer council_now acceptors (slice_set desks id now) (slice_set callers id (settled caller opening marks (Err told))) flow after)
           (slice_set callers id (settled caller opening marks (Err told))) after.room r) (sym err) (by_told told refuses heeds made spent))
         where
           fails_so : (told : Answer) → is_refusal told ≡ false → FailsToOpen m.disks key desk now told → council_view council_now ≡ council_view council → after.marks ≡ book.marks ++ entry_marks opening → after.room + length (entry_marks opening) ≡ left
-              → Settles {A = A} m (view_of last_proposer council acceptors desks callers flow book) id number key program (view_of last_proposer council_now acceptors (slice_set desks id now) (slice_set callers id (told_now (entered caller opening marks) told)) flow after)
+              → SettlesCall {A = A} m (view_of last_proposer council acceptors desks callers flow book) id number key program (view_of last_proposer council_now acceptors (slice_set desks id now) (slice_set callers id (told_now (entered caller opening marks) told)) flow after)
               (slice_set callers id (told_now (entered caller opening marks) told)) after.room (Err told)
           fails_so told begun was same made spent = seen_as_before council_now eras same (slice_set desks id now) (slice_set callers id (told_now (entered caller opening marks) told)) flow after (Err told) (fails told begun was made spent)
 
           by_told : (told : Answer) → FailsToOpen m.disks key desk now told → HeedsLoss caller.call (council_view council) id key (Err told) (council_view council_now) → after.marks ≡ book.marks ++ settled_marks opening (Err told) → after.room + length (settled_marks opening (Err told)) ≡ left
-              → Settles {A = A} m (view_of last_proposer council acceptors desks callers flow book) id number key program (view_of last_proposer council_now acceptors (slice_set desks id now) (slice_set callers id (settled caller opening marks (Err told))) flow after)
+              → SettlesCall {A = A} m (view_of last_proposer council acceptors desks callers flow book) id number key program (view_of last_proposer council_now acceptors (slice_set desks id now) (slice_set callers id (settled caller opening marks (Err told))) flow after)
               (slice_set callers id (settled caller opening marks (Err told))) after.room (Err told)
           by_told answer.Down was heeds made spent = fails_so answer.Down refl was heeds made spent
           by_told answer.Spent was heeds made spent = fails_so answer.Spent refl was heeds made spent

@@ -78,17 +78,18 @@ told_in_view view order next said is_open is itself = record { order = told_so s
 
 -- ---- its round
 -- the step, what is told of it, and that no more is reserved
-pub record Gathers {S V : Type 0} (Happens : View S V → Type 0) (old : View S V) (result : Result Gathered OpAnswer) (new : View S V) : Type 0 where
+pub record GathersByStep {S V : Type 0} (Happens : View S V → Type 0) (old : View S V) (result : Result Gathered OpAnswer) (new : View S V) : Type 0 where
   pub step_ : Happens new
   pub ok : IfOk result (λ found. HasGathered old found new)
   pub err : IfErr result (WasToldOrder new)
   pub reserves : reserved_by new.council ≤ reserved_by old.council
 
-gathers_as : {S V : Type 0} (Happens : View S V → Type 0) (old new : View S V) (result is : Result Gathered OpAnswer) → result ≡ is → Gathers Happens old is new → Gathers Happens old result new
-gathers_as Happens old new result is same has = subst (λ (r : Result Gathered OpAnswer). Gathers Happens old r new) (sym same) has
+gathers_as : {S V : Type 0} (Happens : View S V → Type 0) (old new : View S V) (result is : Result Gathered OpAnswer) → result ≡ is → GathersByStep Happens old is new
+    → GathersByStep Happens old result new
+gathers_as Happens old new result is same has = subst (λ (r : Result Gathered OpAnswer). GathersByStep Happens old r new) (sym same) has
 
 pub gathers_round : {S V : Type 0} (old : View S V) (result : Result Gathered OpAnswer) (next : cluster.Council) → IsSafe old → MayGatherRound old
-    → GathersRoundAs (era_at old 0).acc old.council result next → Gathers (StepGatherRound old) old result (with_council old next)
+    → GathersRoundAs (era_at old 0).acc old.council result next → GathersByStep (StepGatherRound old) old result (with_council old next)
 gathers_round {S} {V} old result next safe may by = in_case by
   where
     step_of : (collection : CollectionView) (is : old.council.collection ≡ Some collection) → collect.GathersRound old (collecting_at old collection safe is) (with_council old next)
@@ -109,7 +110,7 @@ gathers_round {S} {V} old result next safe may by = in_case by
 
     told : (said : OpAnswer) (collection : CollectionView) (is : old.council.collection ≡ Some collection) → SaysTheSame said said → next ≡ telling old.council said
         → collect.GathersRound old (collecting_at old collection safe is) (with_council old next) → result ≡ Err said
-        → Gathers (StepGatherRound old) old result (with_council old next)
+        → GathersByStep (StepGatherRound old) old result (with_council old next)
     told said collection is itself next_is gathers_ answer_is = gathers_as (StepGatherRound old) old (with_council old next) result (Err said) answer_is (record {
       step_ = step_of collection is gathers_;
       ok = tt;
@@ -117,7 +118,7 @@ gathers_round {S} {V} old result next safe may by = in_case by
       reserves = omega (arith, ap reserved_by next_is, told_reserves old.council.order said);
     })
 
-    in_case : GathersRoundAs (era_at old 0).acc old.council result next → Gathers (StepGatherRound old) old result (with_council old next)
+    in_case : GathersRoundAs (era_at old 0).acc old.council result next → GathersByStep (StepGatherRound old) old result (with_council old next)
     in_case (gathers.all collection ballot by_ is acked all_ answer_is next_is) = gathers_as (StepGatherRound old) old (with_council old next) result _ answer_is (record {
       step_ = step_of collection is (collect.all ballot by_ acked all_ (ap (with_council old) next_is ∙ hushed_so old (safe.collection.each collection is).order (confirmed_step collection) (safe.collection.each collection is).is_open));
       ok =
@@ -147,7 +148,7 @@ question_late last_proposer collection question (collect.tells_ages is asks) = a
 question_late last_proposer collection question (collect.removes is asks) = asks_late last_proposer Remove collection is refl
 
 pub gathers_collect : {S V : Type 0} (old : View S V) (result : Result Gathered OpAnswer) (next : cluster.Council) → IsSafe old → (may : MayGatherCollected old)
-    → GathersCollectAs may.exchange old.council result next → Gathers (StepGatherCollect old) old result (with_council old next)
+    → GathersCollectAs may.exchange old.council result next → GathersByStep (StepGatherCollect old) old result (with_council old next)
 gathers_collect {S} {V} old result next safe may by = in_case by
   where
     of_it : IsOfCollection old.council.collection (era_at old 0) may.exchange
@@ -173,7 +174,7 @@ gathers_collect {S} {V} old result next safe may by = in_case by
         }
 
     told : (said : OpAnswer) → SaysTheSame said said → next ≡ record (telling old.council said) { exchange = None }
-        → collect.GathersCollect old (collecting_at old c safe is_c) may.exchange (with_council old next) → result ≡ Err said → Gathers (StepGatherCollect old) old result (with_council old next)
+        → collect.GathersCollect old (collecting_at old c safe is_c) may.exchange (with_council old next) → result ≡ Err said → GathersByStep (StepGatherCollect old) old result (with_council old next)
     told said itself next_is gathers_ answer_is = gathers_as (StepGatherCollect old) old (with_council old next) result (Err said) answer_is (record {
       step_ = step_of gathers_;
       ok = tt;
@@ -181,7 +182,7 @@ gathers_collect {S} {V} old result next safe may by = in_case by
       reserves = omega (arith, ap reserved_by next_is, told_reserves old.council.order said);
     })
 
-    in_case : GathersCollectAs may.exchange old.council result next → Gathers (StepGatherCollect old) old result (with_council old next)
+    in_case : GathersCollectAs may.exchange old.council result next → GathersByStep (StepGatherCollect old) old result (with_council old next)
     in_case (gathers.crashed crashed answer_is next_is) = told (op.Stopped answer.Crashed) refl next_is (collect.crashed crashed (ap (with_council old) next_is)) answer_is
     in_case (gathers.is_absent acceptor up least answer_is next_is) = told (op.Absent acceptor) refl next_is (collect.is_absent acceptor up least (ap (with_council old) next_is)) answer_is
     in_case (gathers.all collection up is confirmed answer_is next_is) =
@@ -233,12 +234,12 @@ asked_plain view collection question (collect.removes is asks) =
     ap (λ (b : Bool). if b then Some (era_at view 0) else None) (ap (reads_by view.council.order) asks ∙ removal_not_read view.council.order collection.course.key)
 
 -- whichever of its steps asks
-pub record Asks {S V : Type 0} (view : View S V) : Type 0 where
+pub record AsksAtStep {S V : Type 0} (view : View S V) : Type 0 where
   pub due : CollectStep
   pub may : MayAskCollected view due
   pub asks : gathers.asks_at due ≡ true
 
-abbrev pub asks_either : {S V : Type 0} (view : View S V) → MayAskCollected view Ages ⊎ MayAskCollected view Remove → Asks view
+abbrev pub asks_either : {S V : Type 0} (view : View S V) → MayAskCollected view Ages ⊎ MayAskCollected view Remove → AsksAtStep view
 asks_either view (inl may) = record { due = Ages; may = may; asks = refl }
 asks_either view (inr may) = record { due = Remove; may = may; asks = refl }
 
@@ -249,7 +250,7 @@ question_at Round collection is asks = absurd (cc asks)
 question_at Floor collection is asks = absurd (cc asks)
 question_at other collection is asks = absurd (cc asks)
 
-module _ {S V : Type 0} (m : Meaning S V) (old new : View S V) (desk : DeskView V) (safe : IsSafe old) (of : Asks old) (at : IsAt old.desks 0 desk) where
+module _ {S V : Type 0} (m : Meaning S V) (old new : View S V) (desk : DeskView V) (safe : IsSafe old) (of : AsksAtStep old) (at : IsAt old.desks 0 desk) where
   abbrev at_it : CollectingAt old.council
   at_it = collecting_at old of.may.collection safe of.may.is_collection
 

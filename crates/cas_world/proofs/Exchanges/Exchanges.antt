@@ -142,14 +142,14 @@ order_in None seen is = absurd (cc is)
 order_in (Some order) seen is = (order, refl, some_is is)
 
 -- it was told something, and this is what it was asked
-pub record IsToldIn (council : Council) (answer : OpAnswer) : Type 0 where
+pub record IsOrderToldIn (council : Council) (answer : OpAnswer) : Type 0 where
   pub order : Order
   pub is_open : council.order ≡ Some order
   pub said : OpAnswer
   pub was_said : order.told ≡ Some said
   pub same : SaysTheSame said answer
 
-pub told_in : {S V : Type 0} (council : Council) (now : View S V) (answer : OpAnswer) → council_view council ≡ now.council → WasToldOrder now answer → IsToldIn council answer
+pub told_in : {S V : Type 0} (council : Council) (now : View S V) (answer : OpAnswer) → council_view council ≡ now.council → WasToldOrder now answer → IsOrderToldIn council answer
 told_in council now answer same was =
     let of = order_in council.order was.order (ap (λ (c : cluster.Council). c.order) same ∙ was.is_open) in
     record { order = of.0; is_open = of.1; said = was.said; was_said = ap (λ (o : OrderView). o.told) of.2 ∙ was.was_said; same = was.same }
@@ -190,7 +190,7 @@ collected_in council now answer same was =
 
 -- one of them
 pub data MayTellIn (council : Council) (answer : OpAnswer) : Type 0 where
-  told_last : IsToldIn council answer → MayTellIn council answer
+  told_last : IsOrderToldIn council answer → MayTellIn council answer
   is_over : IsOverIn council answer → MayTellIn council answer
   is_collected : IsCollectedIn council answer → MayTellIn council answer
 
@@ -244,7 +244,8 @@ plain_there council answer collected keys (inl was) =
 plain_there council answer collected keys (inr was) =
     subst (MayConclude collected) (sym was.collected.tells) (keys ∙ ap (option_map (λ (c : CollectionView). c.course.key)) was.collected.is_collection)
 
-pub told_there : (council : Council) (answer : OpAnswer) (order : Order) (said : OpAnswer) → MayTellIn council answer → council.order ≡ Some order → order.told ≡ Some said → IsToldIn council answer
+pub told_there : (council : Council) (answer : OpAnswer) (order : Order) (said : OpAnswer) → MayTellIn council answer → council.order ≡ Some order
+    → order.told ≡ Some said → IsOrderToldIn council answer
 told_there council answer order said (told_last was) is some = was
 told_there council answer order said (is_over was) is some = absurd (cc (ap (λ (o : Order). o.told) (some_is (sym was.is_open ∙ is)), was.untold, some))
 told_there council answer order said (is_collected was) is some = absurd (cc (ap (λ (o : Order). o.told) (some_is (sym was.is_open ∙ is)), was.untold, some))
@@ -273,7 +274,7 @@ same_marks asked (op.Absent acceptor) answer same = ap (told_marks asked) same
 same_marks asked (op.ProposerDown proposer) answer same = ap (told_marks asked) same
 same_marks asked (op.Stopped told) answer same = ap (told_marks asked) same
 
-pub tells : {S V : Type 0} (last_proposer : ℕ) (council now : Council) (acceptors : List (AcceptorView S)) (desks : List (DeskView V)) (callers : List Caller) (flow flow_now : FlowView) (before after : Book) (answer : OpAnswer) (was : IsToldIn council answer) (order : Order) (said : OpAnswer)
+pub tells : {S V : Type 0} (last_proposer : ℕ) (council now : Council) (acceptors : List (AcceptorView S)) (desks : List (DeskView V)) (callers : List Caller) (flow flow_now : FlowView) (before after : Book) (answer : OpAnswer) (was : IsOrderToldIn council answer) (order : Order) (said : OpAnswer)
     → council.order ≡ Some order → order.told ≡ Some said → flow_now ≡ abandoned flow exchange_place → council_view now ≡ at_rest (council_view council) → now.eras ≡ council.eras
     → after.marks ≡ before.marks ++ told_marks order.asked said
     → StepTell (view_of last_proposer council acceptors desks callers flow before) answer (view_of last_proposer now acceptors desks callers flow_now after)
@@ -473,7 +474,7 @@ gathered_err era old new order exchange result is_order (no_memory up told next)
     subst (λ (r : Result Gathered OpAnswer). IfErr r (WasToldOrder new)) (sym told) (was_told new order _ _ old.council (Some exchange) is_order next refl)
 
 -- ---- a frame of the exchange that is open
-pub record IsAsking {S V : Type 0} (view : View S V) : Type 0 where
+pub record IsExchangeAsking {S V : Type 0} (view : View S V) : Type 0 where
   pub exchange : ExchangeView
   pub is_open : view.council.exchange ≡ Some exchange
   pub safe : IsExchangeSafe exchange (queue_at view.flow exchange_place)
@@ -484,7 +485,7 @@ pub some_there : {A : Type 0} (o : Option A) → IsSome o → (x : A) × (o ≡ 
 some_there None is = absurd (cc is)
 some_there (Some x) is = (x, refl)
 
-pub asking : {S V : Type 0} (view now : View S V) → IsSafe view → view ≡ now → IsSome now.council.exchange → (queue_at now.flow exchange_place).messages ≢ [] → IsAsking view
+pub asking : {S V : Type 0} (view now : View S V) → IsSafe view → view ≡ now → IsSome now.council.exchange → (queue_at now.flow exchange_place).messages ≢ [] → IsExchangeAsking view
 asking {S} {V} view now safe same some waits =
     let open_ = some_there view.council.exchange (subst (λ (v : View S V). IsSome v.council.exchange) (sym same) some) in
     let front = one_waits (queue_at view.flow exchange_place).messages (λ none. waits (ap (λ (v : View S V). (queue_at v.flow exchange_place).messages) (sym same) ∙ none)) in
@@ -505,7 +506,7 @@ in_world (Some x) exchange P is has = subst P (some_is is) has
 one_there : (messages : List Message) (front : Message) → slice_get messages 0 ≡ Some front → messages ≢ []
 one_there messages front waits none = absurd (cc (waits, ap (λ (l : List Message). slice_get l 0) none))
 
-pub asked_in : {S V : Type 0} (view now : View S V) (request : Request) → IsSafe view → view ≡ now → IsSome now.council.exchange → IsAsked now request → IsAsking view
+pub asked_in : {S V : Type 0} (view now : View S V) (request : Request) → IsSafe view → view ≡ now → IsSome now.council.exchange → IsAsked now request → IsExchangeAsking view
 asked_in view now request safe same some waits = asking view now safe same some (one_there (queue_at now.flow exchange_place).messages (message.Request request) waits)
 
 -- the exchange in the code
@@ -547,19 +548,19 @@ harmed_world {S} {V} {m} old new acceptors flow exchange member down verdict cal
     (omega (arith, was.room, room, ap reserved_in_all is, ap reserved_for_exchange is_open, harm_fits exchange (queue_at old.flow exchange_place) member down safe is_member))
 
 -- ---- its turns
-pub holds : {S V : Type 0} (m : Meaning S V) (old : View S V) (verdict : Verdict) (at : IsAsking old) → fall_of (queue_at old.flow exchange_place).again verdict ≡ Held
+pub holds : {S V : Type 0} (m : Meaning S V) (old : View S V) (verdict : Verdict) (at : IsExchangeAsking old) → fall_of (queue_at old.flow exchange_place).again verdict ≡ Held
     → StepTurnExchange m old verdict old
 holds m old verdict at fall = record { at = record { exchange = at.exchange; is_open = at.is_open }; front = at.front; waits = at.waits; turn = steps.held fall refl }
 
-pub loses : {S V : Type 0} (m : Meaning S V) (old new : View S V) (verdict : Verdict) (at : IsAsking old) → fall_of (queue_at old.flow exchange_place).again verdict ≡ Gone
+pub loses : {S V : Type 0} (m : Meaning S V) (old new : View S V) (verdict : Verdict) (at : IsExchangeAsking old) → fall_of (queue_at old.flow exchange_place).again verdict ≡ Gone
     → new ≡ harms (record old { flow = taken old.flow exchange_place verdict }) at.exchange (head_of at.front).1 false → StepTurnExchange m old verdict new
 loses m old new verdict at fall is = record { at = record { exchange = at.exchange; is_open = at.is_open }; front = at.front; waits = at.waits; turn = steps.gone fall is }
 
 -- the front frame, as it was read
-pub front_is : {S V : Type 0} (old : View S V) (at : IsAsking old) (front : Message) → slice_get (queue_at old.flow exchange_place).messages 0 ≡ Some front → at.front ≡ front
+pub front_is : {S V : Type 0} (old : View S V) (at : IsExchangeAsking old) (front : Message) → slice_get (queue_at old.flow exchange_place).messages 0 ≡ Some front → at.front ≡ front
 front_is old at front waits = some_is (sym at.waits ∙ waits)
 
-pub is_member : {S V : Type 0} (old : View S V) (at : IsAsking old) → has_member at.exchange.members (head_of at.front).1 ≡ true
+pub is_member : {S V : Type 0} (old : View S V) (at : IsExchangeAsking old) → has_member at.exchange.members (head_of at.front).1 ≡ true
 is_member old at = at.safe.about at.front (contains_at (queue_at old.flow exchange_place).messages 0 at.front at.waits)
 
 -- a reply arrives
@@ -570,7 +571,7 @@ heard_seen last_proposer council now acceptors desks callers flow book exchange 
     council_next last_proposer council now acceptors desks callers flow book _ eras is
     ∙ ap (λ (o : Option ExchangeView). record (view_of last_proposer council acceptors desks callers flow book) { council = record (council_view council) { exchange = option_map (heard_by reply) o } }) is_open
 
-pub heard : {S V : Type 0} (m : Meaning S V) (old new : View S V) (verdict : Verdict) (at : IsAsking old) (reply : Reply) → fall_of (queue_at old.flow exchange_place).again verdict ≡ Handle
+pub heard : {S V : Type 0} (m : Meaning S V) (old new : View S V) (verdict : Verdict) (at : IsExchangeAsking old) (reply : Reply) → fall_of (queue_at old.flow exchange_place).again verdict ≡ Handle
     → at.front ≡ message.Reply reply
     → new ≡ with_exchange (record old { flow = taken old.flow exchange_place verdict }) (record at.exchange { told = hears reply at.exchange.told }) → StepTurnExchange m old verdict new
 heard m old new verdict at reply fall front is = record {
@@ -590,7 +591,7 @@ heard_world {S} {V} {m} old new flow exchange reply verdict callers left was is_
 
 -- ---- a member that is asked
 -- there is room for its reply
-pub reply_room : {S V : Type 0} (old : View S V) (at : IsAsking old) (verdict : Verdict) (request : Request) → fall_of (queue_at old.flow exchange_place).again verdict ≡ Handle
+pub reply_room : {S V : Type 0} (old : View S V) (at : IsExchangeAsking old) (verdict : Verdict) (request : Request) → fall_of (queue_at old.flow exchange_place).again verdict ≡ Handle
     → slice_get (queue_at old.flow exchange_place).messages 0 ≡ Some (message.Request request)
     → 0 < (queue_at (taken old.flow exchange_place verdict) exchange_place).room
 reply_room old at verdict request fall waits =
@@ -602,14 +603,14 @@ none_of : {A : Type 0} (xs : List A) → length xs ≡ 0 → xs ≡ []
 none_of [] is = refl
 none_of (x ∷ xs) is = absurd (cc is)
 
-no_votes : {S V : Type 0} (old : View S V) (at : IsAsking old) (request : Request) (reply : Reply) → slice_get (queue_at old.flow exchange_place).messages 0 ≡ Some (message.Request request)
+no_votes : {S V : Type 0} (old : View S V) (at : IsExchangeAsking old) (request : Request) (reply : Reply) → slice_get (queue_at old.flow exchange_place).messages 0 ≡ Some (message.Request request)
     → votes_marked request reply ≡ []
 no_votes old at request reply waits =
     none_of (votes_marked request reply)
     (no_vote at.exchange.tag at.exchange.question request reply (at.safe.asks request (contains_at (queue_at old.flow exchange_place).messages 0 (message.Request request) waits)))
 
 pub answers : {S V : Type 0} (m : Meaning S V) (last_proposer : ℕ) (council : Council) (acceptors acceptors_now : List (AcceptorView S)) (desks : List (DeskView V)) (callers : List Caller) (flow middle flow_now : FlowView) (book : Book) (verdict : Verdict) (request : Request) (frame : Option Message) (vote : Option Mark)
-    (at : IsAsking (view_of last_proposer council acceptors desks callers flow book)) → fall_of (queue_at flow exchange_place).again verdict ≡ Handle → slice_get (queue_at flow exchange_place).messages 0 ≡ Some (message.Request request)
+    (at : IsExchangeAsking (view_of last_proposer council acceptors desks callers flow book)) → fall_of (queue_at flow exchange_place).again verdict ≡ Handle → slice_get (queue_at flow exchange_place).messages 0 ≡ Some (message.Request request)
     → Serves m.shelves acceptors request (served.Replied frame vote) acceptors_now → middle ≡ taken flow exchange_place verdict
     → IfSome frame (λ message. flow_now ≡ with_queue middle exchange_place (pushed (queue_at middle exchange_place) message))
     → StepTurnExchange m (view_of last_proposer council acceptors desks callers flow book) verdict (view_of last_proposer council acceptors_now desks callers flow_now book)
@@ -637,7 +638,7 @@ answered_world {S} {V} {m} last_proposer council acceptors acceptors_now desks c
     (steps_are_safe m _ event _ was.safe by) (remembered_then m event by was.remembered) was.room
 
 -- it is down, or goes down
-pub falls : {S V : Type 0} (m : Meaning S V) (old new : View S V) (acceptors : List (AcceptorView S)) (verdict : Verdict) (request : Request) (at : IsAsking old)
+pub falls : {S V : Type 0} (m : Meaning S V) (old new : View S V) (acceptors : List (AcceptorView S)) (verdict : Verdict) (request : Request) (at : IsExchangeAsking old)
     → fall_of (queue_at old.flow exchange_place).again verdict ≡ Handle → slice_get (queue_at old.flow exchange_place).messages 0 ≡ Some (message.Request request)
     → FindsDown m.shelves old.acceptors request acceptors → new ≡ harms (record old { acceptors = acceptors; flow = taken old.flow exchange_place verdict }) at.exchange request.to true
     → StepTurnExchange m old verdict new

@@ -58,7 +58,7 @@ reserved_within callers id caller at = omega (arith, reserved_set callers id cal
 
 -- ---- an open round
 -- where a frame waits, a round is open at the desk, and so is the call, with marks that are reserved
-pub record IsOpenAt {V : Type 0} (desks : List (DeskView V)) (flow : FlowView) (id : ℕ) (caller : Caller) (left : ℕ) : Type 0 where
+pub record IsTurnOpenAt {V : Type 0} (desks : List (DeskView V)) (flow : FlowView) (id : ℕ) (caller : Caller) (left : ℕ) : Type 0 where
   pub desk : DeskView V
   pub at_desk : IsAt desks id desk
   pub round : Round
@@ -73,7 +73,7 @@ pub record IsOpenAt {V : Type 0} (desks : List (DeskView V)) (flow : FlowView) (
 
 by_round : {S V : Type 0} {m : Meaning S V} (last_proposer : ℕ) (council : Council) (acceptors : List (AcceptorView S)) (desks : List (DeskView V)) (callers : List Caller) (flow : FlowView) (book : Book) (id : ℕ) (caller : Caller)
     → IsWorld m (view_of last_proposer council acceptors desks callers flow book) callers book.room → (queue_at flow id).messages ≢ [] → IsAt callers id caller
-    → (desk : DeskView V) → IsAt desks id desk → (round : Option Round) → desk.round ≡ round → IsOpenAt desks flow id caller book.room
+    → (desk : DeskView V) → IsAt desks id desk → (round : Option Round) → desk.round ≡ round → IsTurnOpenAt desks flow id caller book.room
 by_round last_proposer council acceptors desks callers flow book id caller inv some at desk at_desk None none =
     let party = inv.safe.sound.parties id desk (caller_view caller) at_desk (seen_at callers id caller at) in
     let idle = subst (λ (r : Option Round). IsRoundSafe (era_in council.eras.0 id) (caller_view caller) (queue_at flow id) r) none party.round in
@@ -101,13 +101,13 @@ by_round last_proposer council acceptors desks callers flow book id caller inv s
 
 pub open_at : {S V : Type 0} {m : Meaning S V} (last_proposer : ℕ) (council : Council) (acceptors : List (AcceptorView S)) (desks : List (DeskView V)) (callers : List Caller) (flow : FlowView) (book : Book) (id : ℕ) (caller : Caller)
     → IsWorld m (view_of last_proposer council acceptors desks callers flow book) callers book.room → id ≤ last_proposer → (queue_at flow id).messages ≢ [] → IsAt callers id caller
-    → IsOpenAt desks flow id caller book.room
+    → IsTurnOpenAt desks flow id caller book.room
 open_at last_proposer council acceptors desks callers flow book id caller inv low some at =
     let desk = at_low desks id (omega (arith, low, inv.safe.sound.desks)) in
     by_round last_proposer council acceptors desks callers flow book id caller inv some at desk.0 desk.1 desk.0.round refl
 
 -- so a mark may be made
-pub may_mark : {V : Type 0} (desks : List (DeskView V)) (flow : FlowView) (id : ℕ) (caller : Caller) (left : ℕ) → IsOpenAt desks flow id caller left → HasReservedMark caller left
+pub may_mark : {V : Type 0} (desks : List (DeskView V)) (flow : FlowView) (id : ℕ) (caller : Caller) (left : ℕ) → IsTurnOpenAt desks flow id caller left → HasReservedMark caller left
 may_mark desks flow id caller left at = record {
   is_open = subst (λ (o : Option OpenCall). IsSome o) (sym at.is_call) refl;
   reserved = subst (λ (o : Option OpenCall). IfSome o (λ call. 0 < call.reserved)) (sym at.is_call) (omega (arith, at.reserved));
@@ -126,7 +126,7 @@ room_after (message.Request r ∷ rest) false room verdict.Lose request e handle
 room_after (message.Request r ∷ rest) false room verdict.Late request e handle low = absurd (cc handle)
 room_after (message.Request r ∷ rest) false room verdict.Hold request e handle low = absurd (cc handle)
 
-pub has_room : {V : Type 0} (desks : List (DeskView V)) (flow : FlowView) (id : ℕ) (caller : Caller) (left : ℕ) (v : Verdict) → IsOpenAt desks flow id caller left → fall_of (queue_at flow id).again v ≡ Handle
+pub has_room : {V : Type 0} (desks : List (DeskView V)) (flow : FlowView) (id : ℕ) (caller : Caller) (left : ℕ) (v : Verdict) → IsTurnOpenAt desks flow id caller left → fall_of (queue_at flow id).again v ≡ Handle
     → (request : Request) → slice_get (queue_at flow id).messages 0 ≡ Some (message.Request request) → 0 < (queue_at (taken flow id v) id).room
 has_room desks flow id caller left v at handle request waits =
     subst (λ (q : QueueView). 0 < q.room) (sym (taken_own flow id v waits)) (room_after (queue_at flow id).messages (queue_at flow id).again (queue_at flow id).room v request waits handle at.replies)
@@ -135,7 +135,7 @@ has_room desks flow id caller left v at handle request waits =
 pub record IsTurning {S V : Type 0} (now : View S V) (last_proposer : ℕ) (council : Council) (acceptors : List (AcceptorView S)) (desks : List (DeskView V)) (callers : List Caller) (flow : FlowView) (book : Book) (id : ℕ) : Type 0 where
   pub caller : Caller
   pub at_caller : IsAt callers id caller
-  pub is_open : IsOpenAt desks flow id caller book.room
+  pub is_open : IsTurnOpenAt desks flow id caller book.room
 
 pub turning : {S V : Type 0} {m : Meaning S V} (now : View S V) (last_proposer : ℕ) (council : Council) (acceptors : List (AcceptorView S)) (desks : List (DeskView V)) (callers : List Caller) (flow : FlowView) (book : Book) (id : ℕ)
     → view_of last_proposer council acceptors desks callers flow book ≡ now → IsWorld m (view_of last_proposer council acceptors desks callers flow book) callers book.room → id ≤ now.last_proposer → (queue_at now.flow id).messages ≢ []
@@ -152,10 +152,10 @@ turning {S} {V} {m} now last_proposer council acceptors desks callers flow book 
 
 -- what was read at its place is its caller
 pub open_in : {S V : Type 0} (now : View S V) (last_proposer : ℕ) (council : Council) (acceptors : List (AcceptorView S)) (desks : List (DeskView V)) (callers : List Caller) (flow : FlowView) (book : Book) (id n : ℕ) (caller : Caller)
-    → IsTurning now last_proposer council acceptors desks callers flow book id → n ≡ id → caller ≡ slice_index_or callers n caller → IsOpenAt desks flow id caller book.room
+    → IsTurning now last_proposer council acceptors desks callers flow book id → n ≡ id → caller ≡ slice_index_or callers n caller → IsTurnOpenAt desks flow id caller book.room
 open_in now last_proposer council acceptors desks callers flow book id n caller at same read =
     let there : IsAt callers id caller = at_place callers n id caller same (low_at callers id at.at_caller) read in
-    subst (λ (c : Caller). IsOpenAt desks flow id c book.room) (at_one callers id at.at_caller there) at.is_open
+    subst (λ (c : Caller). IsTurnOpenAt desks flow id c book.room) (at_one callers id at.at_caller there) at.is_open
 
 pub place_in : {S V : Type 0} (now : View S V) (last_proposer : ℕ) (council : Council) (acceptors : List (AcceptorView S)) (desks : List (DeskView V)) (callers : List Caller) (flow : FlowView) (book : Book) (id n : ℕ) (caller : Caller)
     → IsTurning now last_proposer council acceptors desks callers flow book id → n ≡ id → caller ≡ slice_index_or callers n caller → IsAt callers id caller
@@ -208,7 +208,7 @@ holds m now last_proposer council acceptors desks callers flow book id v at fall
 
 -- it is lost or late
 pub loses : {S V : Type 0} (m : Meaning S V) (now : View S V) (last_proposer : ℕ) (council : Council) (acceptors : List (AcceptorView S)) (desks : List (DeskView V)) (callers : List Caller) (flow flow_now : FlowView) (before after : Book) (id : ℕ) (v : Verdict) (caller caller_now : Caller)
-    → IsAt callers id caller → IsOpenAt desks flow id caller before.room → fall_of (queue_at flow id).again v ≡ Gone → flow_now ≡ taken flow id v
+    → IsAt callers id caller → IsTurnOpenAt desks flow id caller before.room → fall_of (queue_at flow id).again v ≡ Gone → flow_now ≡ taken flow id v
     → ((front : Message) → slice_get (queue_at flow id).messages 0 ≡ Some front → Harms id caller caller_now before after (head_of front).1 false)
     → StepTurn m (view_of last_proposer council acceptors desks callers flow before) id v (view_of last_proposer council acceptors desks (slice_set callers id caller_now) flow_now after)
 loses {S} {V} m now last_proposer council acceptors desks callers flow flow_now before after id v caller caller_now at is_open fall takes harms =
@@ -293,7 +293,7 @@ harm_so true call acceptor mark some = (omega arith, refl, refl)
 harm_so false call acceptor mark some = (omega (arith, some), refl, refl)
 
 pub harm_kept : {S V : Type 0} {m : Meaning S V} (last_proposer : ℕ) (council : Council) (acceptors acceptors_now : List (AcceptorView S)) (desks : List (DeskView V)) (callers : List Caller) (flow flow_now : FlowView) (before after : Book) (id : ℕ) (caller caller_now : Caller) (acceptor : ℕ) (down : Bool)
-    → IsWorld m (view_of last_proposer council acceptors desks callers flow before) callers before.room → IsAt callers id caller → IsOpenAt desks flow id caller before.room → Harms id caller caller_now before after acceptor down
+    → IsWorld m (view_of last_proposer council acceptors desks callers flow before) callers before.room → IsAt callers id caller → IsTurnOpenAt desks flow id caller before.room → Harms id caller caller_now before after acceptor down
     → IsSafe (view_of last_proposer council acceptors_now desks (slice_set callers id caller_now) flow_now after)
     → Remembers m (view_of last_proposer council acceptors_now desks (slice_set callers id caller_now) flow_now after)
     → IsWorld m (view_of last_proposer council acceptors_now desks (slice_set callers id caller_now) flow_now after) (slice_set callers id caller_now) after.room
@@ -311,11 +311,11 @@ parts_same {S} {V} last_proposer council {acceptors} {a} {desks} {d} callers {fl
     ∙ ap (λ (x : FlowView). view_of last_proposer council a d callers x book) same_f
 
 -- the desk's open round
-round_at : {V : Type 0} (desks : List (DeskView V)) (flow : FlowView) (id : ℕ) (caller : Caller) (left : ℕ) (desk : DeskView V) (at : IsOpenAt desks flow id caller left) → IsAt desks id desk → desk.round ≡ Some at.round
+round_at : {V : Type 0} (desks : List (DeskView V)) (flow : FlowView) (id : ℕ) (caller : Caller) (left : ℕ) (desk : DeskView V) (at : IsTurnOpenAt desks flow id caller left) → IsAt desks id desk → desk.round ≡ Some at.round
 round_at {V} desks flow id caller left desk at there = ap (λ (d : DeskView V). d.round) (at_one desks id there at.at_desk) ∙ at.is_round
 
 pub handles : {S V : Type 0} (m : Meaning S V) (last_proposer : ℕ) (council : Council) (acceptors acceptors_now : List (AcceptorView S)) (desks : List (DeskView V)) (desk desk_now : DeskView V) (callers : List Caller) (flow flow_now : FlowView) (before after : Book) (id : ℕ) (v : Verdict) (caller caller_now : Caller)
-    → IsAt desks id desk → IsAt callers id caller → IsOpenAt desks flow id caller before.room → fall_of (queue_at flow id).again v ≡ Handle
+    → IsAt desks id desk → IsAt callers id caller → IsTurnOpenAt desks flow id caller before.room → fall_of (queue_at flow id).again v ≡ Handle
     → HandlesFrame m.shelves id v acceptors acceptors_now desk desk_now caller caller_now flow flow_now before after
     → StepTurn m (view_of last_proposer council acceptors desks callers flow before) id v (view_of last_proposer council acceptors_now (slice_set desks id desk_now) (slice_set callers id caller_now) flow_now after)
 handles {S} {V} m last_proposer council acceptors acceptors_now desks desk desk_now callers flow flow_now before after id v caller caller_now at_desk at is_open fall (asks request waits (is_answered acceptor acceptor_now reply there table changed flows makes) same_desk) = record {
@@ -372,7 +372,7 @@ hears_keep round heard reply by call has = λ accepting.
     (sym (ap (λ (r : Round). r.key) by.same)) (has (sym by.same_phase ∙ accepting))
 
 pub handled_kept : {S V : Type 0} {w : Meaning S V} (m : ShelfMeaning S) (last_proposer : ℕ) (council : Council) (acceptors acceptors_now : List (AcceptorView S)) (desks : List (DeskView V)) (desk desk_now : DeskView V) (callers : List Caller) (flow flow_now : FlowView) (before after : Book) (id : ℕ) (v : Verdict) (caller caller_now : Caller)
-    → IsWorld w (view_of last_proposer council acceptors desks callers flow before) callers before.room → IsAt desks id desk → IsAt callers id caller → IsOpenAt desks flow id caller before.room
+    → IsWorld w (view_of last_proposer council acceptors desks callers flow before) callers before.room → IsAt desks id desk → IsAt callers id caller → IsTurnOpenAt desks flow id caller before.room
     → HandlesFrame m id v acceptors acceptors_now desk desk_now caller caller_now flow flow_now before after
     → IsSafe (view_of last_proposer council acceptors_now (slice_set desks id desk_now) (slice_set callers id caller_now) flow_now after)
     → Remembers w (view_of last_proposer council acceptors_now (slice_set desks id desk_now) (slice_set callers id caller_now) flow_now after)
@@ -421,14 +421,14 @@ told_caller callers n id caller caller_now who at same still read =
     let there : IsAt (slice_set callers n caller_now) id caller_now = subst (λ (i : ℕ). IsAt (slice_set callers i caller_now) id caller_now) (sym same) (at_set callers id caller caller_now at) in
     at_one (slice_set callers n caller_now) id (at_place (slice_set callers n caller_now) n id who same (low_at (slice_set callers n caller_now) id there) read) there ∙ still
 
-pub may_tell : {V : Type 0} (desks : List (DeskView V)) (flow : FlowView) (id : ℕ) (caller who : Caller) (left : ℕ) → IsOpenAt desks flow id caller left → who ≡ caller → IsSome who.call
+pub may_tell : {V : Type 0} (desks : List (DeskView V)) (flow : FlowView) (id : ℕ) (caller who : Caller) (left : ℕ) → IsTurnOpenAt desks flow id caller left → who ≡ caller → IsSome who.call
 may_tell desks flow id caller who left at same = subst (λ (o : Option OpenCall). IsSome o) (sym (ap (λ (c : Caller). c.call) same ∙ at.is_call)) refl
 
 -- nothing but what the caller is told changes
-pub record IsRefused {V : Type 0} (desks : List (DeskView V)) (desk desk_now : DeskView V) (callers : List Caller) (flow flow_now : FlowView) (before after : Book) (id n : ℕ) (caller caller_now who told : Caller) : Type 0 where
+pub record IsTurnRefused {V : Type 0} (desks : List (DeskView V)) (desk desk_now : DeskView V) (callers : List Caller) (flow flow_now : FlowView) (before after : Book) (id n : ℕ) (caller caller_now who told : Caller) : Type 0 where
   pub at_desk : IsAt desks id desk
   pub at_caller : IsAt callers id caller
-  pub is_open : IsOpenAt desks flow id caller before.room
+  pub is_open : IsTurnOpenAt desks flow id caller before.room
   pub place : n ≡ id
   pub same_who : who ≡ caller
   pub same_desk : desk_now ≡ desk
@@ -441,14 +441,14 @@ put_back : {A : Type 0} (xs : List A) (n id : ℕ) (x y : A) → IsAt xs id x �
 put_back {A} xs n id x y at same still = ap (λ (i : ℕ). slice_set xs i y) same ∙ ap (λ (z : A). slice_set xs id z) still ∙ set_same xs id x at
 
 is_told : {V : Type 0} (desks : List (DeskView V)) (desk desk_now : DeskView V) (callers : List Caller) (flow flow_now : FlowView) (before after : Book) (id n : ℕ) (caller caller_now who told : Caller)
-    → (by : IsRefused desks desk desk_now callers flow flow_now before after id n caller caller_now who told) → told ≡ record caller { call = Some (told_full by.is_open.call) }
+    → (by : IsTurnRefused desks desk desk_now callers flow flow_now before after id n caller caller_now who told) → told ≡ record caller { call = Some (told_full by.is_open.call) }
 is_told desks desk desk_now callers flow flow_now before after id n caller caller_now who told by =
     subst (λ (o : Option OpenCall). IfSome o (λ call. told ≡ record who { call = Some (told_full call) })) (ap (λ (c : Caller). c.call) by.same_who ∙ by.is_open.is_call) by.tells
     ∙ ap (λ (c : Caller). record c { call = Some (told_full by.is_open.call) }) by.same_who
 
 -- in lists as they were
 pub refused : {V : Type 0} (P : List (DeskView V) → List Caller → FlowView → Book → Type 0) (desks : List (DeskView V)) (desk desk_now : DeskView V) (callers : List Caller) (flow flow_now : FlowView) (before after : Book) (id n : ℕ) (caller caller_now who told : Caller)
-    → (by : IsRefused desks desk desk_now callers flow flow_now before after id n caller caller_now who told) → P desks (slice_set callers id told) flow before
+    → (by : IsTurnRefused desks desk desk_now callers flow flow_now before after id n caller caller_now who told) → P desks (slice_set callers id told) flow before
     → P (slice_set desks n desk_now) (slice_set (slice_set callers n caller_now) n told) flow_now after
 refused {V} P desks desk desk_now callers flow flow_now before after id n caller caller_now who told by has =
     let same_desks = put_back desks n id desk desk_now by.at_desk by.place by.same_desk in
@@ -460,14 +460,14 @@ refused {V} P desks desk desk_now callers flow flow_now before after id n caller
     (subst (λ (b : Book). P desks (slice_set callers id told) flow b) (sym by.same_book) has)))
 
 pub refused_step : {S V : Type 0} (m : Meaning S V) (last_proposer : ℕ) (council : Council) (acceptors acceptors_now : List (AcceptorView S)) (desks : List (DeskView V)) (desk desk_now : DeskView V) (callers : List Caller) (flow flow_now : FlowView) (before after : Book) (id n : ℕ) (caller caller_now who told : Caller)
-    → IsRefused desks desk desk_now callers flow flow_now before after id n caller caller_now who told → KeepsAll m.shelves acceptors acceptors_now
+    → IsTurnRefused desks desk desk_now callers flow flow_now before after id n caller caller_now who told → KeepsAll m.shelves acceptors acceptors_now
     → StepRefuseTurn m (view_of last_proposer council acceptors desks callers flow before) id (view_of last_proposer council acceptors_now desks (slice_set callers id told) flow before)
 refused_step m last_proposer council acceptors acceptors_now desks desk desk_now callers flow flow_now before after id n caller caller_now who told by keeps =
     refuses m last_proposer council acceptors acceptors_now desks callers flow before id caller told by.is_open.call by.at_caller by.is_open.is_call
     (is_told desks desk desk_now callers flow flow_now before after id n caller caller_now who told by) keeps
 
 pub refused_kept : {S V : Type 0} (m : Meaning S V) (last_proposer : ℕ) (council : Council) (acceptors acceptors_now : List (AcceptorView S)) (desks : List (DeskView V)) (desk desk_now : DeskView V) (callers : List Caller) (flow flow_now : FlowView) (before after : Book) (id n : ℕ) (caller caller_now who told : Caller)
-    → IsWorld m (view_of last_proposer council acceptors desks callers flow before) callers before.room → IsRefused desks desk desk_now callers flow flow_now before after id n caller caller_now who told
+    → IsWorld m (view_of last_proposer council acceptors desks callers flow before) callers before.room → IsTurnRefused desks desk desk_now callers flow flow_now before after id n caller caller_now who told
     → IsSafe (view_of last_proposer council acceptors_now desks (slice_set callers id told) flow before)
     → Remembers m (view_of last_proposer council acceptors_now desks (slice_set callers id told) flow before)
     → IsWorld m (view_of last_proposer council acceptors_now desks (slice_set callers id told) flow before) (slice_set callers id told) before.room

@@ -390,25 +390,25 @@ begun_first world id call key program none next =
     first none.caller none.at_caller none.none_open (sym (some_is (ap (λ (o : Option CallerView). option_map next_number o) (sym none.at_caller) ∙ next)))
 
 -- what the call is that was opened, or goes on
-record IsOpened (call : CallView) (key : List ℕ) (program : List Clause) : Type 0 where
+record IsOpenedFor (call : CallView) (key : List ℕ) (program : List Clause) : Type 0 where
   key_is : call.key ≡ key
   program_is : call.program ≡ program
   not_told : call.told ≡ None
 
-opened_by : {S V : Type 0} (old middle : View S V) (id : ℕ) (key : List ℕ) (program : List Clause) → calls.Opens old id key program middle → (caller : CallerView) (call : CallView) → IsAt middle.callers id caller → caller.call ≡ Some call → IsOpened call key program
+opened_by : {S V : Type 0} (old middle : View S V) (id : ℕ) (key : List ℕ) (program : List Clause) → calls.Opens old id key program middle → (caller : CallerView) (call : CallView) → IsAt middle.callers id caller → caller.call ≡ Some call → IsOpenedFor call key program
 opened_by {S} {V} old middle id key program (calls.first was at none room same) caller call there is_call =
     let made : CallView = new_call key program (round_marks (era_at old id) - 1) in
     let next : CallerView = record { number = suc was.number; call = Some made } in
     let one : next ≡ caller = at_one middle.callers id (subst (λ (l : List CallerView). IsAt l id next) (sym (ap (λ (w : View S V). w.callers) same)) (at_set old.callers id was next at)) there in
-    subst (λ (c : CallView). IsOpened c key program) (some_is (ap (λ (c : CallerView). c.call) one ∙ is_call)) (record { key_is = refl; program_is = refl; not_told = refl })
+    subst (λ (c : CallView). IsOpenedFor c key program) (some_is (ap (λ (c : CallerView). c.call) one ∙ is_call)) (record { key_is = refl; program_is = refl; not_told = refl })
 opened_by {S} {V} old middle id key program (calls.again was open_call reserved at is key_is program_is none met no_round room some same) caller call there is_call =
     let made : CallView = calls.tried_again open_call reserved in
     let next : CallerView = record was { call = Some made } in
     let one : next ≡ caller = at_one middle.callers id (subst (λ (l : List CallerView). IsAt l id next) (sym (ap (λ (w : View S V). w.callers) same)) (at_set old.callers id was next at)) there in
-    subst (λ (c : CallView). IsOpened c key program) (some_is (ap (λ (c : CallerView). c.call) one ∙ is_call)) (record { key_is = key_is; program_is = program_is; not_told = refl })
+    subst (λ (c : CallView). IsOpenedFor c key program) (some_is (ap (λ (c : CallerView). c.call) one ∙ is_call)) (record { key_is = key_is; program_is = program_is; not_told = refl })
 
 -- the call that has begun or goes on, which is not told of a conflict
-record Begins {S V : Type 0} (view : View S V) (id : ℕ) (key : List ℕ) (program : List Clause) : Type 0 where
+record BeginsCall {S V : Type 0} (view : View S V) (id : ℕ) (key : List ℕ) (program : List Clause) : Type 0 where
   caller : CallerView
   at_caller : IsAt view.callers id caller
   call : CallView
@@ -420,13 +420,13 @@ record Begins {S V : Type 0} (view : View S V) (id : ℕ) (key : List ℕ) (prog
 no_beginning : (told : Answer) → calls.IsNoBeginning told → WasMet (Some told) → ⊥
 no_beginning told is met = subst calls.IsNoBeginning (conflict_met told (met_conflict told met)).1 is
 
-begins_for : {S V : Type 0} (m : Meaning S V) (old new : View S V) (id : ℕ) (key : List ℕ) (program : List Clause) → StepBegin m old id key program new → Begins new id key program
+begins_for : {S V : Type 0} (m : Meaning S V) (old new : View S V) (id : ℕ) (key : List ℕ) (program : List Clause) → StepBegin m old id key program new → BeginsCall new id key program
 begins_for {S} {V} m old new id key program by = in_round by.begins
   where
-    opened : IsOpened by.call key program
+    opened : IsOpenedFor by.call key program
     opened = opened_by old by.middle id key program by.opens by.caller by.call by.at_caller by.is_open
 
-    same_callers : new.callers ≡ by.middle.callers → Begins new id key program
+    same_callers : new.callers ≡ by.middle.callers → BeginsCall new id key program
     same_callers same = record {
       caller = by.caller;
       at_caller = subst (λ (l : List CallerView). IsAt l id by.caller) (sym same) by.at_caller;
@@ -437,7 +437,7 @@ begins_for {S} {V} m old new id key program by = in_round by.begins
       no_conflict = λ met. subst WasMet opened.not_told met;
     }
 
-    with_next : (next : CallView) → new.callers ≡ slice_set by.middle.callers id (record by.caller { call = Some next }) → next.key ≡ by.call.key → next.program ≡ by.call.program → (WasMet next.told → ⊥) → Begins new id key program
+    with_next : (next : CallView) → new.callers ≡ slice_set by.middle.callers id (record by.caller { call = Some next }) → next.key ≡ by.call.key → next.program ≡ by.call.program → (WasMet next.told → ⊥) → BeginsCall new id key program
     with_next next same key_same program_same no_conflict = record {
       caller = record by.caller { call = Some next };
       at_caller = subst (λ (l : List CallerView). IsAt l id (record by.caller { call = Some next })) (sym same) (at_set by.middle.callers id by.caller (record by.caller { call = Some next }) by.at_caller);
@@ -448,7 +448,7 @@ begins_for {S} {V} m old new id key program by = in_round by.begins
       no_conflict = no_conflict;
     }
 
-    in_round : calls.BeginsRound m by.middle id by.caller by.call new → Begins new id key program
+    in_round : calls.BeginsRound m by.middle id by.caller by.call new → BeginsCall new id key program
     in_round (calls.prepares desk now ballot round flow at up few begins sends same) = same_callers (ap (λ (w : View S V). w.callers) same)
     in_round (calls.proposes desk now ready ride round outcome flow at up few begins made sends same) = with_next (calls.proposing by.call outcome) (ap (λ (w : View S V). w.callers) same) refl refl (λ met. met)
     in_round (calls.stays told is no_round why_full same) = with_next (calls.over by.call told) (ap (λ (w : View S V). w.callers) same) refl refl (no_beginning told is)

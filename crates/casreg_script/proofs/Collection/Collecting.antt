@@ -226,23 +226,23 @@ abbrev pub renewals_left : {S V : Type 0} → View S V → ℕ
 renewals_left view = renewals_from view.last_proposer (renewal_in view.council.collection)
 
 -- a renewal is due, or the members are to be told the new ages
-pub data IsRenewing {S V : Type 0} (view : View S V) (key : List ℕ) : Type 0 where
-  renews : (proposer : ℕ) → IsDue view key (due.Renew proposer) → IsRenewing view key
-  renewed : IsDue view key due.Ages → IsRenewing view key
+pub data IsRenewalDue {S V : Type 0} (view : View S V) (key : List ℕ) : Type 0 where
+  renews : (proposer : ℕ) → IsDue view key (due.Renew proposer) → IsRenewalDue view key
+  renewed : IsDue view key due.Ages → IsRenewalDue view key
 
 renewal_due : {S V : Type 0} (view : View S V) (key : List ℕ) (step : CollectStep) → IsDue view key step → renewal_in view.council.collection ≡ renewal_of step
 renewal_due view key step was = ap renewal_in was.is_collection ∙ ap renewal_of was.is_due
 
-pub due_renewal : {S V : Type 0} (view : View S V) (key : List ℕ) (proposer : ℕ) → IsRenewing view key → renewal_in view.council.collection ≡ Some proposer → IsDue view key (due.Renew proposer)
+pub due_renewal : {S V : Type 0} (view : View S V) (key : List ℕ) (proposer : ℕ) → IsRenewalDue view key → renewal_in view.council.collection ≡ Some proposer → IsDue view key (due.Renew proposer)
 due_renewal view key proposer (renews other was) is = subst (λ (p : ℕ). IsDue view key (due.Renew p)) (some_is (sym (renewal_due view key (due.Renew other) was) ∙ is)) was
 due_renewal view key proposer (renewed was) is = absurd (cc (sym (renewal_due view key due.Ages was) ∙ is))
 
-pub all_renewed : {S V : Type 0} (view : View S V) (key : List ℕ) → IsRenewing view key → renewal_in view.council.collection ≡ None → IsDue view key due.Ages
+pub all_renewed : {S V : Type 0} (view : View S V) (key : List ℕ) → IsRenewalDue view key → renewal_in view.council.collection ≡ None → IsDue view key due.Ages
 all_renewed view key (renews other was) is = absurd (cc (sym (renewal_due view key (due.Renew other) was) ∙ is))
 all_renewed view key (renewed was) is = was
 
 pub record RenewedSo {S V : Type 0} (old new : View S V) (key : List ℕ) : Type 0 where
-  pub still : IsRenewing new key
+  pub still : IsRenewalDue new key
   pub fewer : renewals_left new < renewals_left old
 
 pub renewed_so : {S V : Type 0} (old new : View S V) (key : List ℕ) (proposer : ℕ) → proposer ≤ old.last_proposer → IsDue old key (due.Renew proposer) → GoesOnCollecting old new → KeepsIdle old new → RenewedSo old new key

@@ -403,7 +403,7 @@ module _ {S V : Type 0} (m : Meaning S V) (old new : View S V) (asked : AskedCal
 
 -- ---- a call that is told as it begins
 -- it was begun, and was told this
-pub record WasBegun {S V : Type 0} (new : View S V) (number : ℕ) (key : List ℕ) (said : Answer) : Type 0 where
+pub record CallWasBegun {S V : Type 0} (new : View S V) (number : ℕ) (key : List ℕ) (said : Answer) : Type 0 where
   pub not_done : is_done said ≡ false
   pub was_told : WasTold new 0 number said
   pub is : IsCollecting new.council key
@@ -414,19 +414,19 @@ refused_call old new number key told none leaves (is_refused before after why sa
 refused_call old new number key told none leaves (is_told said is not_done open_then was collects_now) = absurd (cc (leaves, open_then none))
 
 -- it was, and this answers it
-pub told_call : {S V : Type 0} (old new : View S V) (number : ℕ) (key : List ℕ) (told : OpAnswer) → leaves_no_call told ≡ false → CollectsNot old new number key told → (said : Answer) × (told ≡ op.Stopped said) × WasBegun new number key said
+pub told_call : {S V : Type 0} (old new : View S V) (number : ℕ) (key : List ℕ) (told : OpAnswer) → leaves_no_call told ≡ false → CollectsNot old new number key told → (said : Answer) × (told ≡ op.Stopped said) × CallWasBegun new number key said
 told_call old new number key told leaves (is_refused before after why same) = absurd (cc (leaves, same))
 told_call old new number key told leaves (is_told said is not_done open_then was collects_now) = (said, is, record { not_done = not_done; was_told = was; is = collects_now })
 
 -- another round of it
-pub told_again : {S V : Type 0} (old new : View S V) (number : ℕ) (key : List ℕ) (told : OpAnswer) (asked : AskedCall) (last : Answer) → HasStopped old asked last → CollectsNot old new number key told → (said : Answer) × (told ≡ op.Stopped said) × WasBegun new number key said
+pub told_again : {S V : Type 0} (old new : View S V) (number : ℕ) (key : List ℕ) (told : OpAnswer) (asked : AskedCall) (last : Answer) → HasStopped old asked last → CollectsNot old new number key told → (said : Answer) × (told ≡ op.Stopped said) × CallWasBegun new number key said
 told_again {S} {V} old new number key told asked last was (is_refused before after why same) =
     absurd (cc (sym before.none_open ∙ ap (λ (c : CallerView). c.call) (at_one old.callers 0 before.at_caller was.over.was_told.at_caller) ∙ was.over.was_told.is_open))
 told_again old new number key told asked last was (is_told said is not_done open_then was_told collects_now) = (said, is, record { not_done = not_done; was_told = was_told; is = collects_now })
 
 -- what the operator's answer says is what the call was told
-pub said_so : {S V : Type 0} (new : View S V) (number : ℕ) (key : List ℕ) (told : OpAnswer) (said answered : Answer) → told ≡ op.Stopped said → told ≡ op.Stopped answered → WasBegun new number key said → WasBegun new number key answered
-said_so {S} {V} new number key told said answered is says begun = let one : said ≡ answered = cc (is, says) in subst (WasBegun new number key) one begun
+pub said_so : {S V : Type 0} (new : View S V) (number : ℕ) (key : List ℕ) (told : OpAnswer) (said answered : Answer) → told ≡ op.Stopped said → told ≡ op.Stopped answered → CallWasBegun new number key said → CallWasBegun new number key answered
+said_so {S} {V} new number key told said answered is says begun = let one : said ≡ answered = cc (is, says) in subst (CallWasBegun new number key) one begun
 
 -- ---- where it stands
 pub in_round_still : {S V : Type 0} (old new : View S V) (asked : AskedCall) (proposed : Bool) → IsInRound old asked proposed → new.council ≡ old.council → IsPlaying new 0 asked proposed → IsInRound new asked proposed

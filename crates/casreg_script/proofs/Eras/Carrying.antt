@@ -14,7 +14,7 @@ use Rattle.casreg_script.specs.Exchanges.Exchanges.{HasListed, KeepsCalls}
 use Rattle.casreg_script.specs.Eras.Membership.{TakesStep, steps_left}
 use Rattle.casreg_script.specs.Exchanges.Orders.{ExchangeGoesOn, IsFree, KeepsIdle}
 use Rattle.casreg_script.proofs.Exchanges.Asking.{has_gone_on, same_idle, both_idle, keeps_idle}
-use Rattle.casreg_script.proofs.Eras.Entering.{Enters, enter_idle}
+use Rattle.casreg_script.proofs.Eras.Entering.{EntersNextEra, enter_idle}
 use Rattle.casreg_script.proofs.Calls.Keeping.{LeavesOthers, still_none}
 use Rattle.casreg_script.proofs.Eras.Rescanning.{Rescanned, is_rescan, is_rescanned, goes_on}
 
@@ -61,7 +61,7 @@ list_goes old new result free listed calls =
     record { under_way = on.under_way; no_more = on.no_more; free = record { quiet = listed.over; idle = idle.idle 0 free.idle }; idle = idle }
 
 -- ---- an era
-pub enter_goes : {S V : Type 0} (m : Meaning S V) (old new : View S V) (proposer : ℕ) → IsFree old → ((asked : Asked) → IsUnderWay old asked → IsUnderWay new asked) → Enters old new → StepEnterEra m old proposer new → GoesFrom old new
+pub enter_goes : {S V : Type 0} (m : Meaning S V) (old new : View S V) (proposer : ℕ) → IsFree old → ((asked : Asked) → IsUnderWay old asked → IsUnderWay new asked) → EntersNextEra old new → StepEnterEra m old proposer new → GoesFrom old new
 enter_goes m old new proposer free under_way so by =
     let idle = enter_idle m old new proposer by in
     record { under_way = under_way; no_more = so.no_more; free = record { quiet = so.exchange ∙ free.quiet; idle = idle.idle 0 free.idle }; idle = idle }

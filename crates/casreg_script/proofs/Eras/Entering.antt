@@ -42,32 +42,32 @@ pub may_open : {S V : Type 0} (view : View S V) (what : Asked) → IsOrdered vie
 may_open view what was not_yet = record { order = was.order; is_open = was.is_open; is_for = was.is_for; not_yet = not_yet }
 
 -- no call of a caller changes, and no exchange opens
-pub record Opens {S V : Type 0} (old new : View S V) : Type 0 where
+pub record OpensNothing {S V : Type 0} (old new : View S V) : Type 0 where
   pub calls : KeepsCalls old new
   pub exchange : new.council.exchange ≡ old.council.exchange
 
-opens_by : {S V : Type 0} (old changed new : View S V) → new ≡ changed → changed.last_proposer ≡ old.last_proposer → changed.callers ≡ old.callers → changed.council.exchange ≡ old.council.exchange → Opens old new
+opens_by : {S V : Type 0} (old changed new : View S V) → new ≡ changed → changed.last_proposer ≡ old.last_proposer → changed.callers ≡ old.callers → changed.council.exchange ≡ old.council.exchange → OpensNothing old new
 opens_by {S} {V} old changed new is last_proposer callers exchange = record {
   calls = record { last_proposer = ap (λ (w : View S V). w.last_proposer) is ∙ last_proposer; callers = ap (λ (w : View S V). w.callers) is ∙ callers };
   exchange = ap (λ (w : View S V). w.council.exchange) is ∙ exchange;
 }
 
-welcomes_keep : {S V : Type 0} (m : Meaning S V) (old new : View S V) (what : Asked) → Welcomes m old what new → Opens old new
+welcomes_keep : {S V : Type 0} (m : Meaning S V) (old new : View S V) (what : Asked) → Welcomes m old what new → OpensNothing old new
 welcomes_keep m old new what (plans.starts id acceptor now joins at starts is) = opens_by old _ new is refl refl refl
 welcomes_keep m old new what (plans.fails id acceptor now joins at fails is) = opens_by old _ new is refl refl refl
 welcomes_keep m old new what (plans.is_up id acceptor joins at up is) = opens_by old old new is refl refl refl
 welcomes_keep m old new what (plans.stays joins_none is) = opens_by old old new is refl refl refl
 
-then_opens : {S V : Type 0} (old mid new : View S V) → Opens old mid → Opens mid new → Opens old new
+then_opens : {S V : Type 0} (old mid new : View S V) → OpensNothing old mid → OpensNothing mid new → OpensNothing old new
 then_opens old mid new before after = record {
   calls = record { last_proposer = after.calls.last_proposer ∙ before.calls.last_proposer; callers = after.calls.callers ∙ before.calls.callers };
   exchange = after.exchange ∙ before.exchange;
 }
 
-pub open_keeps : {S V : Type 0} (m : Meaning S V) (old new : View S V) → StepOpenPlan m old new → Opens old new
+pub open_keeps : {S V : Type 0} (m : Meaning S V) (old new : View S V) → StepOpenPlan m old new → OpensNothing old new
 open_keeps {S} {V} m old new by = by_case by.opens
   where
-    by_case : OpensPlan m old by.order.asked by.desk new → Opens old new
+    by_case : OpensPlan m old by.order.asked by.desk new → OpensNothing old new
     by_case (plans.is_down down is) = opens_by old _ new is refl refl refl
     by_case (plans.is_busy plan up is_plan is) = opens_by old _ new is refl refl refl
     by_case (plans.refuses fault up none_yet planned is) = opens_by old _ new is refl refl refl
@@ -122,11 +122,11 @@ some_due view era enters = by_plan view.council.plan enters
 
 -- ---- what the callers of open rounds lose
 -- no call is opened
-pub record LeavesIdle {S V : Type 0} (old new : View S V) : Type 0 where
+pub record OpensNoCall {S V : Type 0} (old new : View S V) : Type 0 where
   pub keeps : KeepsIdle old new
   pub council : new.council ≡ old.council
 
-pub leaves_idle : {S V : Type 0} {D : DeskView V → DeskView V → Type 0} {closed : CallView → CallView} (old new : View S V) (id : ℕ) → LeavesRound D closed old id new → LeavesIdle old new
+pub leaves_idle : {S V : Type 0} {D : DeskView V → DeskView V → Type 0} {closed : CallView → CallView} (old new : View S V) (id : ℕ) → LeavesRound D closed old id new → OpensNoCall old new
 leaves_idle {S} {V} old new id (stops.idle desk now at none_open turns is) = record {
   keeps = record {
     last_proposer = ap (λ (w : View S V). w.last_proposer) is;
@@ -216,7 +216,7 @@ after_so last_proposer plan next few next_is = by_last (plan.entered == last_pro
       fewer = omega (arith, few);
     }
 
-pub record Enters {S V : Type 0} (old new : View S V) : Type 0 where
+pub record EntersNextEra {S V : Type 0} (old new : View S V) : Type 0 where
   pub exchange : new.council.exchange ≡ old.council.exchange
   pub no_more : steps_left new ≤ steps_left old
   pub takes : (steps_left new < steps_left old) ⊎ IsSome (entrant_of new.council.plan)
@@ -226,11 +226,11 @@ down_order : {S V : Type 0} {D : DeskView V → DeskView V → Type 0} (old new 
 down_order old new id (stops.of_client client leaves) = ap (λ (c : Council). c.order) (leaves_idle old new id leaves).council
 down_order {S} {V} old new id (stops.of_operator middle operator leaves is) = ap (λ (w : View S V). w.council.order) is ∙ ap (λ (c : Council). c.order) (leaves_idle old middle id leaves).council
 
-pub enters_so : {S V : Type 0} (m : Meaning S V) (old new : View S V) (proposer : ℕ) (what : Asked) → proposer ≤ old.last_proposer → IsUnderWay new what → StepEnterEra m old proposer new → Enters old new
+pub enters_so : {S V : Type 0} (m : Meaning S V) (old new : View S V) (proposer : ℕ) (what : Asked) → proposer ≤ old.last_proposer → IsUnderWay new what → StepEnterEra m old proposer new → EntersNextEra old new
 enters_so {S} {V} m old new proposer what few now by = by_case by.enters
   where
     -- nothing was told
-    untold : (middle : View S V) (told : OpAnswer) → middle.council.order ≡ old.council.order → new ≡ told_view middle told → Enters old new
+    untold : (middle : View S V) (told : OpAnswer) → middle.council.order ≡ old.council.order → new ≡ told_view middle told → EntersNextEra old new
     untold middle told same is =
         let order : new.council.order ≡ Some (told_so told by.may.order) = ap (λ (w : View S V). w.council.order) is ∙ ap (option_map (told_so told)) (same ∙ by.may.is_open) in
         absurd (cc (ap (λ (o : OrderView). o.told) (some_is (sym order ∙ now.is_open)) ∙ now.untold))
@@ -238,7 +238,7 @@ enters_so {S} {V} m old new proposer what few now by = by_case by.enters
     so : After old.last_proposer by.plan (plan_after old.last_proposer by.plan by.next)
     so = after_so old.last_proposer by.plan by.next (omega (arith, few, by.may.is_due)) (sym (ap next_era by.may.is_plan) ∙ by.may.is_next)
 
-    goes_on : new.council.plan ≡ Some (plan_after old.last_proposer by.plan by.next) → new.last_proposer ≡ old.last_proposer → new.council.exchange ≡ old.council.exchange → Enters old new
+    goes_on : new.council.plan ≡ Some (plan_after old.last_proposer by.plan by.next) → new.last_proposer ≡ old.last_proposer → new.council.exchange ≡ old.council.exchange → EntersNextEra old new
     goes_on plan last_proposer exchange = record {
       exchange = exchange;
       no_more = omega (arith, so.no_more, ap left_of plan, ap left_of by.may.is_plan);
@@ -250,7 +250,7 @@ enters_so {S} {V} m old new proposer what few now by = by_case by.enters
           (subst (λ (n : ℕ). entries_of old.last_proposer (Some (plan_after old.last_proposer by.plan by.next)) < n) (sym (ap (entries_of old.last_proposer) by.may.is_plan)) so.fewer);
     }
 
-    by_case : EntersNext m old by.plan by.next by.desk new → Enters old new
+    by_case : EntersNext m old by.plan by.next by.desk new → EntersNextEra old new
     by_case (plans.enters middle room leaves is) =
         let before = leaves_idle old middle by.plan.entered leaves in
         goes_on (ap (λ (w : View S V). w.council.plan) is ∙ ap (λ (n : ℕ). Some (plan_after n by.plan by.next)) before.keeps.last_proposer) (ap (λ (w : View S V). w.last_proposer) is ∙ before.keeps.last_proposer)

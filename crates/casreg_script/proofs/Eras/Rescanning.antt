@@ -23,25 +23,25 @@ use Rattle.casreg_script.specs.Exchanges.Orders.{ExchangeGoesOn}
 
 -- ---- the key that is due
 -- it is the first of a complete listing
-record IsFirst (plan : PlanView) (key : List ℕ) : Type 0 where
+record IsFirstDue (plan : PlanView) (key : List ℕ) : Type 0 where
   settles : next_of plan.progress.left ≡ Settle
   listing : ListingView
   is_listing : plan.listing ≡ Some listing
   complete : listing.complete ≡ true
   first : slice_get listing.keys 0 ≡ Some key
 
-first_is : (plan : PlanView) (key : List ℕ) → due_key plan ≡ Some key → IsFirst plan key
+first_is : (plan : PlanView) (key : List ℕ) → due_key plan ≡ Some key → IsFirstDue plan key
 first_is plan key due = by_step (next_of plan.progress.left) refl due
   where
-    by_complete : (listing : ListingView) → next_of plan.progress.left ≡ Settle → plan.listing ≡ Some listing → (complete : Bool) → listing.complete ≡ complete → (if complete then slice_get listing.keys 0 else None) ≡ Some key → IsFirst plan key
+    by_complete : (listing : ListingView) → next_of plan.progress.left ≡ Settle → plan.listing ≡ Some listing → (complete : Bool) → listing.complete ≡ complete → (if complete then slice_get listing.keys 0 else None) ≡ Some key → IsFirstDue plan key
     by_complete listing settles is_listing true complete first = record { settles = settles; listing = listing; is_listing = is_listing; complete = complete; first = first }
     by_complete listing settles is_listing false complete first = absurd (cc first)
 
-    by_listing : (listing : Option ListingView) → next_of plan.progress.left ≡ Settle → plan.listing ≡ listing → first_of listing ≡ Some key → IsFirst plan key
+    by_listing : (listing : Option ListingView) → next_of plan.progress.left ≡ Settle → plan.listing ≡ listing → first_of listing ≡ Some key → IsFirstDue plan key
     by_listing None settles is_listing first = absurd (cc first)
     by_listing (Some listing) settles is_listing first = by_complete listing settles is_listing listing.complete refl first
 
-    by_step : (step : PlanStep) → next_of plan.progress.left ≡ step → first_where step plan.listing ≡ Some key → IsFirst plan key
+    by_step : (step : PlanStep) → next_of plan.progress.left ≡ step → first_where step plan.listing ≡ Some key → IsFirstDue plan key
     by_step Settle settles first = by_listing plan.listing settles refl first
     by_step (Enter era) settles first = absurd (cc first)
     by_step Finished settles first = absurd (cc first)
@@ -78,13 +78,13 @@ one_step [] settles = absurd (cc settles)
 one_step (step ∷ later) settles = omega (arith, length-drop 1 (step ∷ later))
 
 -- a complete listing that has no key left settles the era; otherwise its first key is due
-pub record Settles (plan next : PlanView) (listing : ListingView) : Type 0 where
+pub record SettlesEra (plan next : PlanView) (listing : ListingView) : Type 0 where
   pub no_more : left_of (Some next) ≤ left_of (Some plan)
   pub takes : (left_of (Some next) < left_of (Some plan)) ⊎ IsSome (due_key next)
   pub listed : listed_in next.listing ≤ length listing.keys
 
-pub settles_by : (plan : PlanView) (listing : ListingView) → next_of plan.progress.left ≡ Settle → listing.complete ≡ true → Settles plan (with_listing plan listing) listing
-settles_by plan listing settles complete = subst (λ (c : Bool). Settles plan (if c && (length listing.keys == 0) then stepped plan else record plan { listing = Some listing }) listing) (sym complete) (by_end (length listing.keys == 0) refl)
+pub settles_by : (plan : PlanView) (listing : ListingView) → next_of plan.progress.left ≡ Settle → listing.complete ≡ true → SettlesEra plan (with_listing plan listing) listing
+settles_by plan listing settles complete = subst (λ (c : Bool). SettlesEra plan (if c && (length listing.keys == 0) then stepped plan else record plan { listing = Some listing }) listing) (sym complete) (by_end (length listing.keys == 0) refl)
   where
     some_key : (keys : List (List ℕ)) → (length keys == 0) ≡ false → IsSome (slice_get keys 0)
     some_key [] some = absurd (cc some)
@@ -95,7 +95,7 @@ settles_by plan listing settles complete = subst (λ (c : Bool). Settles plan (i
         subst (λ (s : PlanStep). IsSome (first_where s (Some listing))) (sym settles)
         (subst (λ (c : Bool). IsSome (if c then slice_get listing.keys 0 else None)) (sym complete) (some_key listing.keys some))
 
-    by_end : (b : Bool) → (length listing.keys == 0) ≡ b → Settles plan (if b then stepped plan else record plan { listing = Some listing }) listing
+    by_end : (b : Bool) → (length listing.keys == 0) ≡ b → SettlesEra plan (if b then stepped plan else record plan { listing = Some listing }) listing
     by_end true none =
         let fewer = one_step plan.progress.left settles in
         record { no_more = omega (arith, fewer); takes = inl fewer; listed = omega arith }
@@ -144,7 +144,7 @@ rescanned_to {S} {V} old new key of is = record {
     plan : new.council.plan ≡ Some next
     plan = ap (λ (c : Council). c.plan) is
 
-    so : Settles counted next rest
+    so : SettlesEra counted next rest
     so = settles_by counted rest of.settles of.complete
 
 pub is_rescanned : {S V : Type 0} (old new : View S V) (key : List ℕ) (answer : Answer) → IsRescan old.council 0 key → is_done answer ≡ true → Rescans old.council 0 key answer new.council → Rescanned old new

@@ -51,7 +51,7 @@ use Rattle.casreg_script.specs.Exchanges.Orders.{IsFree, KeepsIdle}
 use Rattle.casreg_script.specs.Calls.Playing.{turns_left}
 use Rattle.casreg_script.specs.Frames.Strays.{LetsStrayIn, KeepsUnderWay}
 use Rattle.cas_base.proofs.Bools.{true_or_false}
-use Rattle.casreg_script.proofs.Eras.Rescanning.{with_asked, settles_by, Settles}
+use Rattle.casreg_script.proofs.Eras.Rescanning.{with_asked, settles_by, SettlesEra}
 use Rattle.casreg_script.proofs.Frames.Straying.{lets_under_way}
 use Rattle.casreg_script.proofs.Calls.Turns.{front_of, not_held, fewer_taken, fewer_answered, waits_near}
 
@@ -691,11 +691,11 @@ none_due (Some plan) partial = by_step (next_of plan.progress.left)
     by_step Finished = refl
 
 -- the call goes on after it, and no more steps are left
-pub record HasGoneOn {S V : Type 0} (old new : View S V) : Type 0 where
+pub record CallHasGoneOn {S V : Type 0} (old new : View S V) : Type 0 where
   pub under_way : (asked : Asked) → IsUnderWay old asked → IsUnderWay new asked
   pub no_more : steps_left new ≤ steps_left old
 
-pub has_gone_on : {S V : Type 0} (old new : View S V) (result : Gathered) → HasListed old result new → HasGoneOn old new
+pub has_gone_on : {S V : Type 0} (old new : View S V) (result : Gathered) → HasListed old result new → CallHasGoneOn old new
 has_gone_on {S} {V} old new result came = record {
   under_way = λ asked was. record {
     order = silent_order came.order;
@@ -731,7 +731,7 @@ complete_then false is = absurd (cc is)
 
 pub takes_step : {S V : Type 0} (old new : View S V) → HasListed old gathered.Listed new → step_of old.council.plan ≡ Some Settle → TakesStep old new
 takes_step {S} {V} old new came settles =
-    let so : Settles came.plan (with_listing came.plan came.listing) came.listing = settles_by came.plan came.listing (some_is (sym (ap step_of came.was_plan) ∙ settles)) (complete_then came.listing.complete came.came) in
+    let so : SettlesEra came.plan (with_listing came.plan came.listing) came.listing = settles_by came.plan came.listing (some_is (sym (ap step_of came.was_plan) ∙ settles)) (complete_then came.listing.complete came.came) in
     elim so.takes [
       | inl less ↦ inl (omega (arith, less, ap left_of came.is_plan, ap left_of came.was_plan))
       | inr due ↦ inr (subst (λ (p : Option PlanView). IsSome (due_in p)) (sym came.is_plan) due)

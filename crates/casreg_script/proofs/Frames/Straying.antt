@@ -22,10 +22,10 @@ pub same_under_way : {S V : Type 0} (old : View S V) → KeepsUnderWay old old
 same_under_way old = record { own = refl; last_proposer = refl; callers = refl; council = refl; plays = λ id asked proposed was. was }
 
 -- callers play on where the round of each desk stays in its phase
-record KeepsRounds {S V : Type 0} (old new : View S V) : Type 0 where
+record KeepsPhases {S V : Type 0} (old new : View S V) : Type 0 where
   desks : (id : ℕ) (desk : DeskView V) (round : Round) → IsAt old.desks id desk → desk.round ≡ Some round → (now : DeskView V) × (heard : Round) × IsAt new.desks id now × (now.round ≡ Some heard) × (is_preparing heard.phase ≡ is_preparing round.phase)
 
-plays_on : {S V : Type 0} (old new : View S V) → new.callers ≡ old.callers → new.council ≡ old.council → KeepsRounds old new → (id : ℕ) (asked : AskedCall) (proposed : Bool) → IsPlaying old id asked proposed → IsPlaying new id asked proposed
+plays_on : {S V : Type 0} (old new : View S V) → new.callers ≡ old.callers → new.council ≡ old.council → KeepsPhases old new → (id : ℕ) (asked : AskedCall) (proposed : Bool) → IsPlaying old id asked proposed → IsPlaying new id asked proposed
 plays_on {S} {V} old new callers council keeps id asked proposed was =
     let now = keeps.desks id was.desk was.round was.at_desk was.is_round in
     record {
@@ -61,7 +61,7 @@ same_desks {S} {V} old new own last_proposer callers council desks = record {
 }
 
 -- one desk hears a reply
-hears_on : {S V : Type 0} (old : View S V) (place : ℕ) (desk now : DeskView V) (round heard : Round) → IsAt old.desks place desk → desk.round ≡ Some round → now.round ≡ Some heard → is_preparing heard.phase ≡ is_preparing round.phase → (new : View S V) → new.callers ≡ old.callers → new.desks ≡ slice_set old.desks place now → KeepsRounds old new
+hears_on : {S V : Type 0} (old : View S V) (place : ℕ) (desk now : DeskView V) (round heard : Round) → IsAt old.desks place desk → desk.round ≡ Some round → now.round ≡ Some heard → is_preparing heard.phase ≡ is_preparing round.phase → (new : View S V) → new.callers ≡ old.callers → new.desks ≡ slice_set old.desks place now → KeepsPhases old new
 hears_on {S} {V} old place desk now round heard at is_round now_is phase new callers desks = record {
   desks = λ id d r at_id is. elim (true_or_false (nat_eq id place)) [
     | inl same ↦

@@ -2,7 +2,7 @@ use Rattle.std.proofs.Common.{◌≡◌, ◌+◌, ◌-◌, ◌≤◌, false, max
 use Rattle.std.specs.Io.{StartsWith}
 use Rattle.std.specs.Io.KnownBytes.{Keeps, prepend_known}
 use Rattle.cas_lines.specs.Lines.{has_newline}
-use Rattle.cas_lines.proofs.Calls.{Gathered}
+use Rattle.cas_lines.proofs.Calls.{FilledUp}
 use Rattle.cas_lines.proofs.lines.fill.Given as goal
 
 abbrev pub invariant-loop-held : goal.invariant-loop-held
@@ -11,7 +11,7 @@ invariant-loop-held g l = record {
   front : StartsWith l.held.items l.initial.held.items;
   none : has_newline (take l.room l.held.items) ≡ false;
   bound : vec_len l.held ≤ max (vec_len l.initial.held) (l.room + 1);
-  gathered : Gathered g.S.Source.take_gives l.room l.initial.held.items l.initial.source l.held.items l.source;
+  gathered : FilledUp g.S.Source.take_gives l.room l.initial.held.items l.initial.source l.held.items l.source;
   counted : g.S.Source.faults_of l.initial.source ≤ g.S.Source.faults_of l.source;
 }
 

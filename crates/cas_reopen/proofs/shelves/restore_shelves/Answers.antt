@@ -1,6 +1,6 @@
 use Rattle.std.proofs.Common.{arith}
 use Rattle.cas_reopen.proofs.Restoring.{if_ok, if_err, up_then, restored_then, stops_then, why_then, refused_then}
-use Rattle.cas_reopen.specs.Shelves.StopsWithin.{before_giving}
+use Rattle.cas_reopen.specs.Shelves.StopsWithinGiving.{before_giving}
 use Rattle.cas_reopen.proofs.shelves.restore_shelves.Goals as goal
 
 pub returns-in-Err-clause-err : goal.returns-in-Err-clause-err

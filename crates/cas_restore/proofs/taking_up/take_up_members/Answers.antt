@@ -1,7 +1,7 @@
 use Rattle.std.proofs.Common.{◌≡◌, ◌∙◌, ap, sym, arith}
 use Rattle.std.proofs.lemmas.Option.{slice_get_within}
 use Rattle.cas_ballot.specs.Members.{has_member}
-use Rattle.cas_restore.specs.TakingUp.{IsTakenUp, LeavesNoMore}
+use Rattle.cas_restore.specs.TakingUp.{IsShelfTakenUp, LeavesNoMore}
 use Rattle.cas_restore.proofs.Placing.{one_became, passed_over, one_more, all_became}
 use Rattle.cas_restore.proofs.Taking.{leaves_then, id_is}
 use Rattle.cas_restore.proofs.taking_up.take_up_members.Given.{Over}
@@ -26,18 +26,20 @@ loop-number-preserved g c =
         leaves = one_became (LeavesNoMore g.S.Shelf.tells g.S.Shelf.may_leave g.S.Shelf.fault_count) c.args.members c.args.shelves.now.items c.loop-number.shelves.items w.take_up_at.new.shelves.items
             c.loop-number.number (leaves_then g.S.Shelf.tells g.S.Shelf.may_leave g.S.Shelf.fault_count)
             (sym is ∙ w.if-has.true) c.loop-number.invariant.leaves w.take_up_at.ensures.leaves;
-        taken = one_more (IsTakenUp g.S.Shelf.tells g.S.Shelf.contents g.S.Shelf.is_up g.S.Shelf.may_leave) c.args.members c.args.shelves.now.items c.loop-number.number c.loop-number.shelves.items
+        taken = one_more (IsShelfTakenUp g.S.Shelf.tells g.S.Shelf.contents g.S.Shelf.is_up g.S.Shelf.may_leave) c.args.members c.args.shelves.now.items
+            c.loop-number.number c.loop-number.shelves.items
             w.take_up_at.new.shelves.items (w.in_ok-take_up_at.ensures {u = tt}).ok c.loop-number.invariant.taken;
       })
       | else-has w ↦ rw w.shelves-is (record {
         leaves = c.loop-number.invariant.leaves;
-        taken = passed_over (IsTakenUp g.S.Shelf.tells g.S.Shelf.contents g.S.Shelf.is_up g.S.Shelf.may_leave) c.args.members c.args.shelves.now.items c.loop-number.number c.loop-number.shelves.items
+        taken = passed_over (IsShelfTakenUp g.S.Shelf.tells g.S.Shelf.contents g.S.Shelf.is_up g.S.Shelf.may_leave) c.args.members c.args.shelves.now.items
+            c.loop-number.number c.loop-number.shelves.items
             (sym is ∙ w.if-has.false) c.loop-number.invariant.taken;
       })
     ]
 
 pub returns-clause-ok : goal.returns-clause-ok
 returns-clause-ok g c =
-    all_became (IsTakenUp g.S.Shelf.tells g.S.Shelf.contents g.S.Shelf.is_up g.S.Shelf.may_leave) c.args.members c.args.shelves.now.items c.loop-number.number c.loop-number.shelves.items
+    all_became (IsShelfTakenUp g.S.Shelf.tells g.S.Shelf.contents g.S.Shelf.is_up g.S.Shelf.may_leave) c.args.members c.args.shelves.now.items c.loop-number.number c.loop-number.shelves.items
     c.loop-number.invariant.leaves.places c.loop-number.invariant.leaves.others
     (λ id was at. omega (arith, slice_get_within c.args.shelves.now.items id was at, c.args.shelves.now.ok.0, c.requires.all, c.loop-number-test.false)) c.loop-number.invariant.taken

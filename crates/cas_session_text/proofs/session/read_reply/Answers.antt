@@ -6,13 +6,13 @@ use Rattle.std.specs.Fmt.{signed_decimal}
 use Rattle.cas_session_text.specs.declared.reply.LastReply.{LastReply}
 use Rattle.cas_session_text.specs.Contents.{IsLastReply, reply_word, lacks}
 use Rattle.cas_session_text.proofs.Texts.{lacks-decimal}
-use Rattle.cas_session_text.proofs.Reading.{Says, says}
+use Rattle.cas_session_text.proofs.Reading.{SaysReply, says}
 use Rattle.cas_session_text.proofs.session.read_reply.Goals as goal
 
 -- the parts of a word that is a reply's
 parts : (reply : LastReply) (word caller rest number value : List ℕ) → IsLastReply reply → reply_word reply ≡ word
     → ((front back : List ℕ) → lacks 58 front ≡ true → front ++ 58 ∷ back ≡ word → (caller ≡ front) × (rest ≡ back))
-    → ((front back : List ℕ) → lacks 58 front ≡ true → front ++ 58 ∷ back ≡ rest → (number ≡ front) × (value ≡ back)) → Says reply caller number value
+    → ((front back : List ℕ) → lacks 58 front ≡ true → front ++ 58 ∷ back ≡ rest → (number ≡ front) × (value ≡ back)) → SaysReply reply caller number value
 parts reply word caller rest number value is e first second =
     let one = first (decimal reply.caller) (decimal reply.number ++ 58 ∷ signed_decimal reply.reply) (lacks-decimal 58 reply.caller refl (omega (arith, is.caller.known))) e in
     let two = second (decimal reply.number) (signed_decimal reply.reply) (lacks-decimal 58 reply.number refl is.number_fits) (sym one.1) in

@@ -9,14 +9,14 @@ use Rattle.cas_world.proofs.reopen.take_up.Goals as goal
 use Rattle.cas_world.proofs.reopen.take_up.Goals.{then-is_new+in_ok-start, else-is_new+in_ok-reopen}
 
 -- a vault that goes on from what it kept before, and has not moved
-record GoesOnFrom {V : Type 0} (m : DiskMeaning V) (is_new : _) (disk : V) (vault : Vault V) : Type 0 where
+record VaultGoesOnFrom {V : Type 0} (m : DiskMeaning V) (is_new : _) (disk : V) (vault : Vault V) : Type 0 where
   pub before : Kept
   pub counter : counter_of vault ≡ before.bound
   pub kept : kept_of vault ≡ before
   pub started : is_new ≡ true → before ≡ fresh
   pub reopened : is_new ≡ false → m.tells → (image : List ℕ) × m.may_leave disk image × KeptOn before image
 
-begun : (g : Over) (c : goal.In_ok-enter_era g) → GoesOnFrom (disk_meaning g.V.Disk) c.args.is_new (disk_of c.args.vault.now) c.if-is_new.vault
+begun : (g : Over) (c : goal.In_ok-enter_era g) → VaultGoesOnFrom (disk_meaning g.V.Disk) c.args.is_new (disk_of c.args.vault.now) c.if-is_new.vault
 begun g c = elim c.if-is_new.branch [
   | then-is_new+in_ok-start w ↦ record {
     before = fresh;

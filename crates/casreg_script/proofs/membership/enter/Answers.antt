@@ -4,7 +4,7 @@ use Rattle.cas_world.specs.Eras.Plans.{IsUnderWay}
 use Rattle.casreg_script.specs.Eras.Membership.{enters, none, one_more}
 use Rattle.casreg_script.proofs.Exchanges.Asking.{both_idle}
 use Rattle.casreg_script.proofs.Eras.Carrying.{same_goes, then_goes, goes_on_from, enter_goes}
-use Rattle.casreg_script.proofs.Eras.Entering.{Enters, may_enter, enter_idle, enters_so}
+use Rattle.casreg_script.proofs.Eras.Entering.{EntersNextEra, may_enter, enter_idle, enters_so}
 use Rattle.casreg_script.proofs.membership.enter.Given.{Over}
 use Rattle.casreg_script.proofs.membership.enter.Goals as goal
 use Rattle.casreg_script.proofs.membership.enter.Goals.{In_ok-enter_era}
@@ -18,7 +18,7 @@ enter_era-requires g c = may_enter c.loop-proposer.world c.requires.under_way.0 
 under_way : (g : Over) (c : In_ok-enter_era g) (asked : Asked) → IsUnderWay c.loop-proposer.world asked → IsUnderWay c.enter_era.new.self asked
 under_way g c asked was = subst (IsUnderWay c.enter_era.new.self) was.is_for (c.in_ok-enter_era.ensures.ok was.order was.is_open)
 
-enters_on : (g : Over) (c : In_ok-enter_era g) → Enters c.loop-proposer.world c.enter_era.new.self
+enters_on : (g : Over) (c : In_ok-enter_era g) → EntersNextEra c.loop-proposer.world c.enter_era.new.self
 enters_on g c =
     enters_so _ c.loop-proposer.world c.enter_era.new.self c.in-Some.proposer c.requires.under_way.0 c.in-Some.ensures.known
     (under_way g c c.requires.under_way.0 (c.loop-proposer.invariant.goes.under_way c.requires.under_way.0 c.requires.under_way.1)) c.in_ok-enter_era.ensures.step

@@ -30,7 +30,7 @@ use Rattle.cas_vault.proofs.Keeping.{same_kept}
 use Rattle.cas_world.specs.Exchanges.Exchange.{MayAskCollected}
 use Rattle.cas_world.specs.World.{IsWorld, view_of}
 use Rattle.cas_world.proofs.Exchanges.Exchanges.{council_world, grown_world, reserved_fits}
-use Rattle.cas_world.proofs.Collection.Gathers.{Asks, asks_all, asks_down, asks_either, asks_full, asks_lost, told_not}
+use Rattle.cas_world.proofs.Collection.Gathers.{AsksAtStep, asks_all, asks_down, asks_either, asks_full, asks_lost, told_not}
 use Rattle.cas_world.proofs.Parts.{at_place, remembered_then, seen_from}
 use Rattle.cas_world.proofs.Eras.Planning.{ok_there}
 use Rattle.cas_world.proofs.Calls.Reserving.{sum_seen}
@@ -113,7 +113,7 @@ same_desk g c = at_one c.self.inside.desks.items 0 (at_place c.self.inside.desks
 is_up : (g : Over) (c : Joined-self-2 g) → c.index.result.now.down ≡ false
 is_up g c = (sym c.is_down.ensures ∙ c.if-is_down.false)
 
-abbrev of : (g : Over) (c : Joined-self-2 g) → Asks (view_of c.self.inside.setup.proposers c.self.inside.council c.self.inside.acceptors.items c.self.inside.desks.items c.self.inside.callers.items c.self.inside.flow c.self.inside.record)
+abbrev of : (g : Over) (c : Joined-self-2 g) → AsksAtStep (view_of c.self.inside.setup.proposers c.self.inside.council c.self.inside.acceptors.items c.self.inside.desks.items c.self.inside.callers.items c.self.inside.flow c.self.inside.record)
 of g c = asks_either (view_of c.self.inside.setup.proposers c.self.inside.council c.self.inside.acceptors.items c.self.inside.desks.items c.self.inside.callers.items c.self.inside.flow c.self.inside.record) (subst (λ (v : (View g.row.S.Denot g.row.V.Denot)). MayAskCollected v collect.Ages ⊎ MayAskCollected v collect.Remove) (sym c.self.view_is) c.requires)
 
 same_one : (g : Over) (c : Joined-self-2 g) → c.in-Some.collection ≡ (of g c).may.collection

@@ -19,7 +19,7 @@ use Rattle.cas_world_calls.specs.declared.call.Caller.{Caller}
 use Rattle.cas_world_calls.specs.declared.call.OpenCall.{OpenCall}
 use Rattle.cas_world.proofs.Calls.Begins.{beside_none}
 use Rattle.cas_world.proofs.Calls.Reserving.{sum_seen}
-use Rattle.cas_world.proofs.Calls.Settling.{found, found_caller, found_desk, all_fit, not_more, never_full, Settles, not_made, settles}
+use Rattle.cas_world.proofs.Calls.Settling.{found, found_caller, found_desk, all_fit, not_more, never_full, SettlesCall, not_made, settles}
 use Rattle.cas_world.proofs.world.World.begin.Given.{Over}
 use Rattle.cas_world.proofs.world.World.begin.Goals as goal
 
@@ -40,12 +40,12 @@ heeded g c =
     let at = found_caller c.self.inside.setup.proposers c.self.inside.council c.self.inside.acceptors.items c.self.inside.desks.items c.self.inside.callers.items c.self.inside.flow c.self.inside.record c.args.self.now c.from-place.result c.args.caller c.args.call c.args.key.now c.args.program.now c.from-place.ensures c.self.view_is c.requires.known c.self.invariant.safe c.requires.may c.index_mut.result.now c.index_mut.ensures.value in
     subst (λ (x : Caller). Heeds x.call (council_view c.self.inside.council) c.args.caller c.args.key.now c.in-Err.refusal (council_view c.heed.new.council)) (some_is (sym asking.1.at_caller ∙ at.1.at_caller)) c.heed.ensures.heeds
 
-not_begun : (g : Over) (c : goal.After-self-1 g) → Settles {A = ⊤} (meaning g.S.Shelf g.V.Disk) (view_of c.self.inside.setup.proposers c.self.inside.council c.self.inside.acceptors.items c.self.inside.desks.items c.self.inside.callers.items c.self.inside.flow c.self.inside.record) c.args.caller c.args.call c.args.key.now c.args.program.now (view_of c.self.inside.setup.proposers c.heed.new.council c.self.inside.acceptors.items c.self.inside.desks.items (slice_set c.self.inside.callers.items c.from-place.result c.refuse.new.caller) c.self.inside.flow c.make_room.new.record) (slice_set c.self.inside.callers.items c.from-place.result c.refuse.new.caller) c.make_room.new.record.room (Err c.refuse.result)
+not_begun : (g : Over) (c : goal.After-self-1 g) → SettlesCall {A = ⊤} (meaning g.S.Shelf g.V.Disk) (view_of c.self.inside.setup.proposers c.self.inside.council c.self.inside.acceptors.items c.self.inside.desks.items c.self.inside.callers.items c.self.inside.flow c.self.inside.record) c.args.caller c.args.call c.args.key.now c.args.program.now (view_of c.self.inside.setup.proposers c.heed.new.council c.self.inside.acceptors.items c.self.inside.desks.items (slice_set c.self.inside.callers.items c.from-place.result c.refuse.new.caller) c.self.inside.flow c.make_room.new.record) (slice_set c.self.inside.callers.items c.from-place.result c.refuse.new.caller) c.make_room.new.record.room (Err c.refuse.result)
 not_begun g c =
     let at = found_caller c.self.inside.setup.proposers c.self.inside.council c.self.inside.acceptors.items c.self.inside.desks.items c.self.inside.callers.items c.self.inside.flow c.self.inside.record c.args.self.now c.from-place.result c.args.caller c.args.call c.args.key.now c.args.program.now c.from-place.ensures c.self.view_is c.requires.known c.self.invariant.safe c.requires.may c.index_mut.result.now c.index_mut.ensures.value in
-    subst (λ (i : ℕ). Settles {A = ⊤} (meaning g.S.Shelf g.V.Disk) (view_of c.self.inside.setup.proposers c.self.inside.council c.self.inside.acceptors.items c.self.inside.desks.items c.self.inside.callers.items c.self.inside.flow c.self.inside.record) c.args.caller c.args.call c.args.key.now c.args.program.now (view_of c.self.inside.setup.proposers c.heed.new.council c.self.inside.acceptors.items c.self.inside.desks.items (slice_set c.self.inside.callers.items i c.refuse.new.caller) c.self.inside.flow c.make_room.new.record) (slice_set c.self.inside.callers.items i c.refuse.new.caller) c.make_room.new.record.room (Err c.refuse.result)) (sym c.from-place.ensures)
-    (subst (λ (x : Caller). Settles {A = ⊤} (meaning g.S.Shelf g.V.Disk) (view_of c.self.inside.setup.proposers c.self.inside.council c.self.inside.acceptors.items c.self.inside.desks.items c.self.inside.callers.items c.self.inside.flow c.self.inside.record) c.args.caller c.args.call c.args.key.now c.args.program.now (view_of c.self.inside.setup.proposers c.heed.new.council c.self.inside.acceptors.items c.self.inside.desks.items (slice_set c.self.inside.callers.items c.args.caller x) c.self.inside.flow c.make_room.new.record) (slice_set c.self.inside.callers.items c.args.caller x) c.make_room.new.record.room (Err c.refuse.result)) (sym c.refuse.ensures.caller)
-    (subst (λ (r : Answer). Settles {A = ⊤} (meaning g.S.Shelf g.V.Disk) (view_of c.self.inside.setup.proposers c.self.inside.council c.self.inside.acceptors.items c.self.inside.desks.items c.self.inside.callers.items c.self.inside.flow c.self.inside.record) c.args.caller c.args.call c.args.key.now c.args.program.now (view_of c.self.inside.setup.proposers c.heed.new.council c.self.inside.acceptors.items c.self.inside.desks.items (slice_set c.self.inside.callers.items c.args.caller (refused c.index_mut.result.now c.in-Err.refusal)) c.self.inside.flow c.make_room.new.record) (slice_set c.self.inside.callers.items c.args.caller (refused c.index_mut.result.now c.in-Err.refusal)) c.make_room.new.record.room (Err r)) (sym c.refuse.ensures.answer)
+    subst (λ (i : ℕ). SettlesCall {A = ⊤} (meaning g.S.Shelf g.V.Disk) (view_of c.self.inside.setup.proposers c.self.inside.council c.self.inside.acceptors.items c.self.inside.desks.items c.self.inside.callers.items c.self.inside.flow c.self.inside.record) c.args.caller c.args.call c.args.key.now c.args.program.now (view_of c.self.inside.setup.proposers c.heed.new.council c.self.inside.acceptors.items c.self.inside.desks.items (slice_set c.self.inside.callers.items i c.refuse.new.caller) c.self.inside.flow c.make_room.new.record) (slice_set c.self.inside.callers.items i c.refuse.new.caller) c.make_room.new.record.room (Err c.refuse.result)) (sym c.from-place.ensures)
+    (subst (λ (x : Caller). SettlesCall {A = ⊤} (meaning g.S.Shelf g.V.Disk) (view_of c.self.inside.setup.proposers c.self.inside.council c.self.inside.acceptors.items c.self.inside.desks.items c.self.inside.callers.items c.self.inside.flow c.self.inside.record) c.args.caller c.args.call c.args.key.now c.args.program.now (view_of c.self.inside.setup.proposers c.heed.new.council c.self.inside.acceptors.items c.self.inside.desks.items (slice_set c.self.inside.callers.items c.args.caller x) c.self.inside.flow c.make_room.new.record) (slice_set c.self.inside.callers.items c.args.caller x) c.make_room.new.record.room (Err c.refuse.result)) (sym c.refuse.ensures.caller)
+    (subst (λ (r : Answer). SettlesCall {A = ⊤} (meaning g.S.Shelf g.V.Disk) (view_of c.self.inside.setup.proposers c.self.inside.council c.self.inside.acceptors.items c.self.inside.desks.items c.self.inside.callers.items c.self.inside.flow c.self.inside.record) c.args.caller c.args.call c.args.key.now c.args.program.now (view_of c.self.inside.setup.proposers c.heed.new.council c.self.inside.acceptors.items c.self.inside.desks.items (slice_set c.self.inside.callers.items c.args.caller (refused c.index_mut.result.now c.in-Err.refusal)) c.self.inside.flow c.make_room.new.record) (slice_set c.self.inside.callers.items c.args.caller (refused c.index_mut.result.now c.in-Err.refusal)) c.make_room.new.record.room (Err r)) (sym c.refuse.ensures.answer)
     (not_made ⊤ (meaning g.S.Shelf g.V.Disk) c.self.inside.setup.proposers c.self.inside.council c.self.inside.acceptors.items c.self.inside.desks.items c.self.inside.callers.items c.self.inside.flow c.self.inside.record c.args.caller c.args.call c.args.key.now c.args.program.now at.0 c.index_mut.result.now c.self.invariant at.1.at_desk at.1.at_caller c.heed.new.council c.heed.ensures.eras c.in-Err.refusal c.make_room.new.record at.1.may c.in-Err.ensures.refused (heeded g c) (over_full g c) c.make_room.ensures.made c.make_room.ensures.grows)))
 
 pub invariant_of-self : goal.invariant_of-self
@@ -94,14 +94,14 @@ heeded_loss g c =
     let at = found_caller c.self.inside.setup.proposers c.self.inside.council c.self.inside.acceptors.items c.self.inside.desks.items c.self.inside.callers.items c.self.inside.flow c.self.inside.record c.args.self.now c.from-place.result c.args.caller c.args.call c.args.key.now c.args.program.now c.from-place.ensures c.self.view_is c.requires.known c.self.invariant.safe c.requires.may c.index_mut-caller.result.now c.index_mut-caller.ensures.value in
     subst (λ (x : Caller). HeedsLoss x.call (council_view c.self.inside.council) c.args.caller c.args.key.now c.open_round-begun.result (council_view c.heed_loss.new.council)) (some_is (sym asking.1.at_caller ∙ at.1.at_caller)) c.heed_loss.ensures.heeds
 
-begun : (g : Over) (c : goal.After-self-3-1 g) → Settles {A = ⊤} (meaning g.S.Shelf g.V.Disk) (view_of c.self.inside.setup.proposers c.self.inside.council c.self.inside.acceptors.items c.self.inside.desks.items c.self.inside.callers.items c.self.inside.flow c.self.inside.record) c.args.caller c.args.call c.args.key.now c.args.program.now (view_of c.self.inside.setup.proposers c.heed_loss.new.council c.self.inside.acceptors.items (slice_set c.self.inside.desks.items c.from-place.result c.open_round-begun.new.desk) (slice_set c.self.inside.callers.items c.from-place.result c.settle.new.caller) c.open_round-begun.new.flow c.settle.new.record) (slice_set c.self.inside.callers.items c.from-place.result c.settle.new.caller) c.settle.new.record.room c.settle.result
+begun : (g : Over) (c : goal.After-self-3-1 g) → SettlesCall {A = ⊤} (meaning g.S.Shelf g.V.Disk) (view_of c.self.inside.setup.proposers c.self.inside.council c.self.inside.acceptors.items c.self.inside.desks.items c.self.inside.callers.items c.self.inside.flow c.self.inside.record) c.args.caller c.args.call c.args.key.now c.args.program.now (view_of c.self.inside.setup.proposers c.heed_loss.new.council c.self.inside.acceptors.items (slice_set c.self.inside.desks.items c.from-place.result c.open_round-begun.new.desk) (slice_set c.self.inside.callers.items c.from-place.result c.settle.new.caller) c.open_round-begun.new.flow c.settle.new.record) (slice_set c.self.inside.callers.items c.from-place.result c.settle.new.caller) c.settle.new.record.room c.settle.result
 begun g c =
     let at = found c.self.inside.setup.proposers c.self.inside.council c.self.inside.acceptors.items c.self.inside.desks.items c.self.inside.callers.items c.self.inside.flow c.self.inside.record c.args.self.now c.from-place.result c.args.caller c.args.call c.args.key.now c.args.program.now c.from-place.ensures c.self.view_is c.requires.known c.self.invariant.safe c.requires.may c.index_mut-desk.result.now c.index_mut-caller.result.now c.index_mut-desk.ensures.value c.index_mut-caller.ensures.value in
     let there : IsAt c.deref.result.now c.args.caller c.index_mut-caller.result.now = subst (λ (l : List Caller). IsAt l c.args.caller c.index_mut-caller.result.now) (sym c.deref.ensures.value) at.at_caller in
     let beside : reserved_beside c.deref.result.now c.args.caller ≡ reserved_beside c.self.inside.callers.items c.args.caller = ap (λ (l : List Caller). reserved_beside l c.args.caller) c.deref.ensures.value in
     let few = not_more (length c.self.inside.record.marks + reserved_beside c.deref.result.now c.args.caller + c.reserved.result + c.round_marks-marks.result) (λ many. absurd (cc (c.in-Ok.ensures.full.1 many))) in
-    subst (λ (i : ℕ). Settles {A = ⊤} (meaning g.S.Shelf g.V.Disk) (view_of c.self.inside.setup.proposers c.self.inside.council c.self.inside.acceptors.items c.self.inside.desks.items c.self.inside.callers.items c.self.inside.flow c.self.inside.record) c.args.caller c.args.call c.args.key.now c.args.program.now (view_of c.self.inside.setup.proposers c.heed_loss.new.council c.self.inside.acceptors.items (slice_set c.self.inside.desks.items i c.open_round-begun.new.desk) (slice_set c.self.inside.callers.items i c.settle.new.caller) c.open_round-begun.new.flow c.settle.new.record) (slice_set c.self.inside.callers.items i c.settle.new.caller) c.settle.new.record.room c.settle.result) (sym c.from-place.ensures)
-    (subst (λ (x : Caller). Settles {A = ⊤} (meaning g.S.Shelf g.V.Disk) (view_of c.self.inside.setup.proposers c.self.inside.council c.self.inside.acceptors.items c.self.inside.desks.items c.self.inside.callers.items c.self.inside.flow c.self.inside.record) c.args.caller c.args.call c.args.key.now c.args.program.now (view_of c.self.inside.setup.proposers c.heed_loss.new.council c.self.inside.acceptors.items (slice_set c.self.inside.desks.items c.args.caller c.open_round-begun.new.desk) (slice_set c.self.inside.callers.items c.args.caller x) c.open_round-begun.new.flow c.settle.new.record) (slice_set c.self.inside.callers.items c.args.caller x) c.settle.new.record.room c.settle.result) (sym c.settle.ensures.caller)
+    subst (λ (i : ℕ). SettlesCall {A = ⊤} (meaning g.S.Shelf g.V.Disk) (view_of c.self.inside.setup.proposers c.self.inside.council c.self.inside.acceptors.items c.self.inside.desks.items c.self.inside.callers.items c.self.inside.flow c.self.inside.record) c.args.caller c.args.call c.args.key.now c.args.program.now (view_of c.self.inside.setup.proposers c.heed_loss.new.council c.self.inside.acceptors.items (slice_set c.self.inside.desks.items i c.open_round-begun.new.desk) (slice_set c.self.inside.callers.items i c.settle.new.caller) c.open_round-begun.new.flow c.settle.new.record) (slice_set c.self.inside.callers.items i c.settle.new.caller) c.settle.new.record.room c.settle.result) (sym c.from-place.ensures)
+    (subst (λ (x : Caller). SettlesCall {A = ⊤} (meaning g.S.Shelf g.V.Disk) (view_of c.self.inside.setup.proposers c.self.inside.council c.self.inside.acceptors.items c.self.inside.desks.items c.self.inside.callers.items c.self.inside.flow c.self.inside.record) c.args.caller c.args.call c.args.key.now c.args.program.now (view_of c.self.inside.setup.proposers c.heed_loss.new.council c.self.inside.acceptors.items (slice_set c.self.inside.desks.items c.args.caller c.open_round-begun.new.desk) (slice_set c.self.inside.callers.items c.args.caller x) c.open_round-begun.new.flow c.settle.new.record) (slice_set c.self.inside.callers.items c.args.caller x) c.settle.new.record.room c.settle.result) (sym c.settle.ensures.caller)
     (settles ⊤ (meaning g.S.Shelf g.V.Disk) c.self.inside.setup.proposers c.self.inside.council c.self.inside.acceptors.items c.self.inside.desks.items c.self.inside.callers.items c.self.inside.flow c.self.inside.record c.args.caller c.args.call c.args.key.now c.args.program.now c.index_mut-desk.result.now c.index_mut-caller.result.now c.self.invariant at.at_desk at.at_caller
     c.round_marks-marks.result (c.round_marks-marks.ensures.value ∙ ap round_marks c.of.ensures) (omega (arith, few, beside)) c.in-Ok.opening (λ none. c.in-Ok.ensures.first c.index_mut-caller.result.now there none) (λ some. c.in-Ok.ensures.again c.index_mut-caller.result.now there some)
     at.may c.open_round-begun.new.desk c.open_round-begun.new.flow c.settle.new.record c.make_room.new.record.room (omega (arith, beside, c.in-Ok.ensures.room)) c.make_room.ensures.grows c.heed_loss.new.council c.heed_loss.ensures.eras

@@ -14,7 +14,7 @@ use Rattle.cas_model.proofs.Remembering.{crashed_desk}
 use Rattle.cas_world_calls.specs.declared.call.Caller.{Caller}
 use Rattle.cas_world_calls.specs.declared.call.OpenCall.{OpenCall}
 use Rattle.cas_world.specs.World.{view_of, call_view, caller_view}
-use Rattle.cas_world.proofs.Calls.Callers.{at_map, IsOpenIn, open_in, not_lent}
+use Rattle.cas_world.proofs.Calls.Callers.{at_map, IsRoundOpenIn, open_in, not_lent}
 use Rattle.cas_world.proofs.Stops.Stops.{crash_seen, crash_goes_on, crash_idle, crash_closes, crashed_caller, closed_is, room_closed, copies_closed, copies_idle}
 use Rattle.cas_world.proofs.Parts.{at_place}
 use Rattle.cas_world.proofs.world.World.crash_desk.Given.{Over}
@@ -58,7 +58,7 @@ close_round-requires g c =
     c.self.invariant.safe c.index_mut.ensures.value c.index.ensures c.round.ensures (sym c.if-closes.ensures) c.index_mut-then-closes.ensures.value in
     subst (λ (o : Option OpenCall). IsSome o) (sym found.is_open) refl
 
-found : (g : Over) (c : goal.After-self-then-closes-1 g) → IsOpenIn c.self.inside.desks.items c.self.inside.callers.items c.args.proposer c.index_mut.result.now c.index_mut-then-closes.result.now
+found : (g : Over) (c : goal.After-self-then-closes-1 g) → IsRoundOpenIn c.self.inside.desks.items c.self.inside.callers.items c.args.proposer c.index_mut.result.now c.index_mut-then-closes.result.now
 found g c = open_in (λ one. one.now) c.self.inside.setup.proposers c.self.inside.council c.self.inside.acceptors.items c.self.inside.desks.items c.self.inside.callers.items c.self.inside.flow c.self.inside.record
     c.from-place.result c.args.proposer c.index_mut.result.now c.index.result.now c.round.result c.index_mut-then-closes.result.now c.from-place.ensures (omega (arith, c.requires, ap (λ (v : View _ _). v.last_proposer) c.self.view_is))
     c.self.invariant.safe c.index_mut.ensures.value c.index.ensures c.round.ensures (sym c.if-closes.ensures) c.index_mut-then-closes.ensures.value

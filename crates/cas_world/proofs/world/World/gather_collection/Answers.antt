@@ -17,7 +17,7 @@ use Rattle.cas_model.proofs.Collection.Laws.{removals_done}
 use Rattle.cas_world.specs.Collection.Collect.{AreRemovalsDone}
 use Rattle.cas_world.specs.Exchanges.Exchange.{HasGathered, MayGatherCollected}
 use Rattle.cas_world.proofs.Exchanges.Exchanges.{council_next, council_world, in_world, open_code}
-use Rattle.cas_world.proofs.Collection.Gathers.{Gathers, gathers_collect}
+use Rattle.cas_world.proofs.Collection.Gathers.{GathersByStep, gathers_collect}
 use Rattle.cas_world.proofs.world.World.gather_collection.Given.{Over}
 use Rattle.cas_world.proofs.world.World.gather_collection.Goals as goal
 use Rattle.cas_world.proofs.world.World.gather_collection.Goals.{After-gather_collection}
@@ -37,8 +37,8 @@ may g c = record {
   none_waits = ap (λ (v : (View g.row.S.Denot g.row.V.Denot)). (queue_at v.flow exchange_place).messages) c.self.view_is ∙ c.requires.none_waits;
 }
 
-did : (g : Over) (c : After-gather_collection g) → Gathers (StepGatherCollect (view_of c.self.inside.setup.proposers c.self.inside.council c.self.inside.acceptors.items c.self.inside.desks.items c.self.inside.callers.items c.self.inside.flow c.self.inside.record)) (view_of c.self.inside.setup.proposers c.self.inside.council c.self.inside.acceptors.items c.self.inside.desks.items c.self.inside.callers.items c.self.inside.flow c.self.inside.record) c.gather_collection.result (view_of c.self.inside.setup.proposers c.gather_collection.new.self c.self.inside.acceptors.items c.self.inside.desks.items c.self.inside.callers.items c.self.inside.flow c.self.inside.record)
-did g c = subst (λ (v : (View g.row.S.Denot g.row.V.Denot)). Gathers (StepGatherCollect (view_of c.self.inside.setup.proposers c.self.inside.council c.self.inside.acceptors.items c.self.inside.desks.items c.self.inside.callers.items c.self.inside.flow c.self.inside.record)) (view_of c.self.inside.setup.proposers c.self.inside.council c.self.inside.acceptors.items c.self.inside.desks.items c.self.inside.callers.items c.self.inside.flow c.self.inside.record) c.gather_collection.result v) (sym (council_next c.self.inside.setup.proposers c.self.inside.council c.gather_collection.new.self c.self.inside.acceptors.items c.self.inside.desks.items c.self.inside.callers.items c.self.inside.flow c.self.inside.record (council_view c.gather_collection.new.self) c.gather_collection.ensures.eras refl))
+did : (g : Over) (c : After-gather_collection g) → GathersByStep (StepGatherCollect (view_of c.self.inside.setup.proposers c.self.inside.council c.self.inside.acceptors.items c.self.inside.desks.items c.self.inside.callers.items c.self.inside.flow c.self.inside.record)) (view_of c.self.inside.setup.proposers c.self.inside.council c.self.inside.acceptors.items c.self.inside.desks.items c.self.inside.callers.items c.self.inside.flow c.self.inside.record) c.gather_collection.result (view_of c.self.inside.setup.proposers c.gather_collection.new.self c.self.inside.acceptors.items c.self.inside.desks.items c.self.inside.callers.items c.self.inside.flow c.self.inside.record)
+did g c = subst (λ (v : (View g.row.S.Denot g.row.V.Denot)). GathersByStep (StepGatherCollect (view_of c.self.inside.setup.proposers c.self.inside.council c.self.inside.acceptors.items c.self.inside.desks.items c.self.inside.callers.items c.self.inside.flow c.self.inside.record)) (view_of c.self.inside.setup.proposers c.self.inside.council c.self.inside.acceptors.items c.self.inside.desks.items c.self.inside.callers.items c.self.inside.flow c.self.inside.record) c.gather_collection.result v) (sym (council_next c.self.inside.setup.proposers c.self.inside.council c.gather_collection.new.self c.self.inside.acceptors.items c.self.inside.desks.items c.self.inside.callers.items c.self.inside.flow c.self.inside.record (council_view c.gather_collection.new.self) c.gather_collection.ensures.eras refl))
     (gathers_collect (view_of c.self.inside.setup.proposers c.self.inside.council c.self.inside.acceptors.items c.self.inside.desks.items c.self.inside.callers.items c.self.inside.flow c.self.inside.record) c.gather_collection.result (council_view c.gather_collection.new.self) c.self.invariant.safe (may g c)
     (in_world c.self.inside.council.exchange c.requires.exchange (λ e. GathersCollectAs e (council_view c.self.inside.council) c.gather_collection.result (council_view c.gather_collection.new.self)) (may g c).is_open c.gather_collection.ensures.gathers))
 

@@ -9,13 +9,13 @@ use Rattle.cas_world.proofs.Parts.{seen_from, remembered_then}
 use Rattle.cas_model.specs.Collection.Step.{StepGatherRound}
 use Rattle.cas_world.specs.Exchanges.Exchange.{HasGathered, MayGatherRound}
 use Rattle.cas_world.proofs.Exchanges.Exchanges.{council_next, council_world}
-use Rattle.cas_world.proofs.Collection.Gathers.{Gathers, gathers_round}
+use Rattle.cas_world.proofs.Collection.Gathers.{GathersByStep, gathers_round}
 use Rattle.cas_world.proofs.world.World.gather_round.Given.{Over}
 use Rattle.cas_world.proofs.world.World.gather_round.Goals as goal
 use Rattle.cas_world.proofs.world.World.gather_round.Goals.{After-gather_round}
 
-did : (g : Over) (c : After-gather_round g) → Gathers (StepGatherRound (view_of c.self.inside.setup.proposers c.self.inside.council c.self.inside.acceptors.items c.self.inside.desks.items c.self.inside.callers.items c.self.inside.flow c.self.inside.record)) (view_of c.self.inside.setup.proposers c.self.inside.council c.self.inside.acceptors.items c.self.inside.desks.items c.self.inside.callers.items c.self.inside.flow c.self.inside.record) c.gather_round.result (view_of c.self.inside.setup.proposers c.gather_round.new.self c.self.inside.acceptors.items c.self.inside.desks.items c.self.inside.callers.items c.self.inside.flow c.self.inside.record)
-did g c = subst (λ (v : (View g.row.S.Denot g.row.V.Denot)). Gathers (StepGatherRound (view_of c.self.inside.setup.proposers c.self.inside.council c.self.inside.acceptors.items c.self.inside.desks.items c.self.inside.callers.items c.self.inside.flow c.self.inside.record)) (view_of c.self.inside.setup.proposers c.self.inside.council c.self.inside.acceptors.items c.self.inside.desks.items c.self.inside.callers.items c.self.inside.flow c.self.inside.record) c.gather_round.result v) (sym (council_next c.self.inside.setup.proposers c.self.inside.council c.gather_round.new.self c.self.inside.acceptors.items c.self.inside.desks.items c.self.inside.callers.items c.self.inside.flow c.self.inside.record (council_view c.gather_round.new.self) c.gather_round.ensures.eras refl))
+did : (g : Over) (c : After-gather_round g) → GathersByStep (StepGatherRound (view_of c.self.inside.setup.proposers c.self.inside.council c.self.inside.acceptors.items c.self.inside.desks.items c.self.inside.callers.items c.self.inside.flow c.self.inside.record)) (view_of c.self.inside.setup.proposers c.self.inside.council c.self.inside.acceptors.items c.self.inside.desks.items c.self.inside.callers.items c.self.inside.flow c.self.inside.record) c.gather_round.result (view_of c.self.inside.setup.proposers c.gather_round.new.self c.self.inside.acceptors.items c.self.inside.desks.items c.self.inside.callers.items c.self.inside.flow c.self.inside.record)
+did g c = subst (λ (v : (View g.row.S.Denot g.row.V.Denot)). GathersByStep (StepGatherRound (view_of c.self.inside.setup.proposers c.self.inside.council c.self.inside.acceptors.items c.self.inside.desks.items c.self.inside.callers.items c.self.inside.flow c.self.inside.record)) (view_of c.self.inside.setup.proposers c.self.inside.council c.self.inside.acceptors.items c.self.inside.desks.items c.self.inside.callers.items c.self.inside.flow c.self.inside.record) c.gather_round.result v) (sym (council_next c.self.inside.setup.proposers c.self.inside.council c.gather_round.new.self c.self.inside.acceptors.items c.self.inside.desks.items c.self.inside.callers.items c.self.inside.flow c.self.inside.record (council_view c.gather_round.new.self) c.gather_round.ensures.eras refl))
     (gathers_round (view_of c.self.inside.setup.proposers c.self.inside.council c.self.inside.acceptors.items c.self.inside.desks.items c.self.inside.callers.items c.self.inside.flow c.self.inside.record) c.gather_round.result (council_view c.gather_round.new.self) c.self.invariant.safe (subst (λ (v : (View g.row.S.Denot g.row.V.Denot)). MayGatherRound v) (sym c.self.view_is) c.requires) c.gather_round.ensures.gathers)
 
 pub invariant_of-self : goal.invariant_of-self

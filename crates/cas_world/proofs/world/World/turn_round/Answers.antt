@@ -9,7 +9,7 @@ use Rattle.cas_world_calls.specs.declared.call.Caller.{Caller}
 use Rattle.cas_world.specs.World.{view_of, IsWorld}
 use Rattle.cas_world.proofs.Parts.{seen_from, remembered_then}
 use Rattle.cas_model.specs.View.{View, meaning}
-use Rattle.cas_world.proofs.Frames.Turns.{turning, open_in, may_mark, has_room, holds, loses, place_in, desk_in, harm_kept, handles, handled_kept, told_caller, may_tell, IsRefused, refused, refused_step, refused_kept}
+use Rattle.cas_world.proofs.Frames.Turns.{turning, open_in, may_mark, has_room, holds, loses, place_in, desk_in, harm_kept, handles, handled_kept, told_caller, may_tell, IsTurnRefused, refused, refused_step, refused_kept}
 use Rattle.cas_world.proofs.world.World.turn_round.Goals as goal
 
 -- src/turn.rt:43:27
@@ -107,7 +107,7 @@ invariant_of-self-in-Err g c =
     let at_caller = place_in c.args.self.now c.self.inside.setup.proposers c.self.inside.council c.self.inside.acceptors.items c.self.inside.desks.items c.self.inside.callers.items c.self.inside.flow c.self.inside.record c.args.proposer c.from-place.result c.index_mut-in-Handle-2.result.now at c.from-place.ensures c.index_mut-in-Handle-2.ensures.value in
     let at_desk = desk_in c.args.self.now c.self.inside.setup.proposers c.self.inside.council c.self.inside.acceptors.items c.self.inside.desks.items c.self.inside.callers.items c.self.inside.flow c.self.inside.record c.args.proposer c.from-place.result c.index_mut-in-Handle.result.now at c.from-place.ensures c.index_mut-in-Handle.ensures.value in
     let same_who = told_caller c.self.inside.callers.items c.from-place.result c.args.proposer c.index_mut-in-Handle-2.result.now c.handle-done.new.caller c.index_mut-in-Err.result.now at_caller c.from-place.ensures c.in-Err.ensures.same.1 c.index_mut-in-Err.ensures.value in
-    let by : IsRefused c.self.inside.desks.items c.index_mut-in-Handle.result.now c.handle-done.new.desk c.self.inside.callers.items c.self.inside.flow c.handle-done.new.flow c.self.inside.record c.handle-done.new.record c.args.proposer c.from-place.result c.index_mut-in-Handle-2.result.now c.handle-done.new.caller c.index_mut-in-Err.result.now c.tell_no_memory.new.caller = record {
+    let by : IsTurnRefused c.self.inside.desks.items c.index_mut-in-Handle.result.now c.handle-done.new.desk c.self.inside.callers.items c.self.inside.flow c.handle-done.new.flow c.self.inside.record c.handle-done.new.record c.args.proposer c.from-place.result c.index_mut-in-Handle-2.result.now c.handle-done.new.caller c.index_mut-in-Err.result.now c.tell_no_memory.new.caller = record {
       at_desk = at_desk;
       at_caller = at_caller;
       is_open = is_open;
@@ -133,7 +133,7 @@ returns-in-Err-clause-err g c =
     let at_caller = place_in c.args.self.now c.self.inside.setup.proposers c.self.inside.council c.self.inside.acceptors.items c.self.inside.desks.items c.self.inside.callers.items c.self.inside.flow c.self.inside.record c.args.proposer c.from-place.result c.index_mut-in-Handle-2.result.now at c.from-place.ensures c.index_mut-in-Handle-2.ensures.value in
     let at_desk = desk_in c.args.self.now c.self.inside.setup.proposers c.self.inside.council c.self.inside.acceptors.items c.self.inside.desks.items c.self.inside.callers.items c.self.inside.flow c.self.inside.record c.args.proposer c.from-place.result c.index_mut-in-Handle.result.now at c.from-place.ensures c.index_mut-in-Handle.ensures.value in
     let same_who = told_caller c.self.inside.callers.items c.from-place.result c.args.proposer c.index_mut-in-Handle-2.result.now c.handle-done.new.caller c.index_mut-in-Err.result.now at_caller c.from-place.ensures c.in-Err.ensures.same.1 c.index_mut-in-Err.ensures.value in
-    let by : IsRefused c.self.inside.desks.items c.index_mut-in-Handle.result.now c.handle-done.new.desk c.self.inside.callers.items c.self.inside.flow c.handle-done.new.flow c.self.inside.record c.handle-done.new.record c.args.proposer c.from-place.result c.index_mut-in-Handle-2.result.now c.handle-done.new.caller c.index_mut-in-Err.result.now c.tell_no_memory.new.caller = record {
+    let by : IsTurnRefused c.self.inside.desks.items c.index_mut-in-Handle.result.now c.handle-done.new.desk c.self.inside.callers.items c.self.inside.flow c.handle-done.new.flow c.self.inside.record c.handle-done.new.record c.args.proposer c.from-place.result c.index_mut-in-Handle-2.result.now c.handle-done.new.caller c.index_mut-in-Err.result.now c.tell_no_memory.new.caller = record {
       at_desk = at_desk;
       at_caller = at_caller;
       is_open = is_open;
