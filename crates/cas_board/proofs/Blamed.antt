@@ -53,4 +53,4 @@ pub deserved_closed : {D : Type 0} (m : Meaning (DiskShelf D) D) (faults : D →
     → AreDeserved faults acceptors vaults marks
 deserved_closed m faults view acceptors vaults marks is first second shelves disks same k d low =
     let mark = slice_index_or marks k d in
-    fair_closed m faults view acceptors vaults first second shelves disks (blame_by mark) (is.marked mark (subst (λ (l : List Mark). Contains l mark) same (All-contains_itself marks k d low)))
+    fair_closed m faults view acceptors vaults first second shelves disks (blame_by mark) (is.1.marked mark (subst (λ (l : List Mark). Contains l mark) same (All-contains_itself marks k d low)))

@@ -1,9 +1,12 @@
 //! The board: how it is opened and closed, and where two callers meet.
 
-ghost use Rattle.std.specs.Prelude.{◌≡◌, ◌≢◌, ◌⊎◌, ◌≤◌, ◌<◌, ◌+◌, ℕ, suc, reverse, vec_len, vec_capacity, All, None, IsSome, IfOk, IfErr};
+ghost use Rattle.std.specs.Prelude.{◌≡◌, ◌≢◌, ◌⊎◌, ◌≤◌, ◌<◌, ◌+◌, ℕ, List, [], suc, take, reverse, vec_len, vec_capacity, All, None, IsSome, IfOk, IfErr};
 ghost use Rattle.std.specs.Option.{ForSome};
 ghost use Rattle.cas_record.specs.Legal.{IsLegal};
 ghost use Rattle.cas_model.specs.Exchanges.Tellings.{AreWritable};
+ghost use Rattle.cas_model.specs.Openings.{Opening, IsOpeningOn};
+ghost use Rattle.cas_model.specs.SafeLaws.{HasPlaces};
+ghost use Rattle.cas_model.specs.View.{meaning};
 ghost use Rattle.cas_model_causes.specs.Eras.Tellings.{AreTellingsSo};
 ghost use Rattle.cas_turn.specs.Seen.{Begins};
 ghost use Rattle.cas_turn.specs.Sitting.{fresh_seats};
@@ -12,18 +15,22 @@ ghost use Rattle.cas_board_steps.specs.Mine.{mine};
 ghost use Rattle.cas_board_steps.specs.Calls.Open.{NothingIsOpen};
 ghost use Rattle.cas_board_steps.specs.OwnParts.{own_part};
 ghost use Rattle.cas_store.specs.Kept.{AreKept};
-ghost use Rattle.cas_store.specs.Store.{StaysClosed};
+ghost use Rattle.cas_store.specs.Store.{StaysClosed, acceptor_disks};
+ghost use Rattle.cas_world.specs.Openings.Opening.{disks_of};
 ghost use Rattle.cas_board_world.specs.Blame.{AreDeserved};
+ghost use Rattle.cas_board_world.specs.Steady.{AreMembersUp, AreDesksUp, AreAgesCovered};
 ghost use Rattle.cas_board.specs.Passes.{IsPassOf};
 
 use crate::shared::Shared;
 use cas_board_world::SteadyWorld;
 use cas_disk::Disk;
+use cas_disk_shelf::DiskShelf;
 use cas_record::Record;
+use cas_slot::Shelf;
 use cas_store::{Rack, Store};
 use cas_turn::{Seat, Turn};
 use cas_world::{Config, OpenFault};
-use std::alloc::Global;
+use std::alloc::{AllocError, Global};
 use std::marker::Model;
 
 /// A store whose callers are in threads of their own.
@@ -73,7 +80,7 @@ impl<D: Disk> Board<D> {
         requires vaults { vec_len rack.vaults ≡ 17 }
         ensures callers { IfOk result (λ opened. opened.0.seats ≡ config.proposers + 1) }
         ensures passes { IfOk result
-            (λ opened. opened.1.items ≡ fresh_seats opened.0.id (config.proposers + 1)) }
+            (λ opened. opened.1.items ≡ fresh_seats opened.0.id (config.proposers + 1) []) }
         ensures count { IfOk result (λ opened. (vec_len opened.1 ≡ config.proposers + 1)
             × (vec_capacity opened.1 ≡ config.proposers + 1)) }
         ensures idle { IfOk result (λ opened. All (λ p. IsPassOf opened.0 p
@@ -85,15 +92,53 @@ impl<D: Disk> Board<D> {
             × (vec_len back.1.vaults ≡ 17)) }
     {
         let store = Store::open(alloc, config, rack)?;
+        match Board::over(alloc, store, config.proposers) {
+            Ok(opened) => Ok(opened),
+            Err((_, rack)) => Err((OpenFault::NoMemory, rack)),
+        }
+    }
+
+    /// A board over a store with so many proposers beside the operator's, in which nothing has happened, or nothing but that floors were
+    /// marked. It has a pass for each caller, from that of the operator on, whose number is 0. Each pass has seen the store's record.
+    ///
+    /// An `Err` comes only where there is no memory. The disks of the store come back then, those of acceptors in their order, and those
+    /// of the vaults of its proposers before all others.
+    pub fn over(
+        alloc: Global,
+        store: Store<D>,
+        proposers: u8,
+    ) -> Result<(Board<D>, Vec<Pass<D>>), (AllocError, Rack<D>)>
+        requires proposers { proposers ≡ store.world.last_proposer }
+        requires opening { (members used : List ℕ) × (floors : List Opening)
+            × IsOpeningOn (meaning ⟦<DiskShelf<D> as Shelf>⟧ D.Disk) members used floors store.world
+            × AreMembersUp members store.world.acceptors }
+        requires places { HasPlaces store.world }
+        requires desks { AreDesksUp store.world.desks }
+        requires ages { D.tells
+            → AreAgesCovered (meaning ⟦<DiskShelf<D> as Shelf>⟧ D.Disk) store.world }
+        ensures callers { IfOk result (λ opened. opened.0.seats ≡ suc store.world.last_proposer) }
+        ensures passes { IfOk result (λ opened. opened.1.items ≡ fresh_seats opened.0.id
+            (suc store.world.last_proposer) store.world.marks) }
+        ensures count { IfOk result (λ opened. (vec_len opened.1 ≡ suc store.world.last_proposer)
+            × (vec_capacity opened.1 ≡ suc store.world.last_proposer)) }
+        ensures idle { IfOk result (λ opened. All (λ p. IsPassOf opened.0 p
+            × NothingIsOpen p.own) opened.1.items) }
+        ensures acceptors { IfErr result (λ back. back.1.acceptors.items
+            ≡ acceptor_disks store.world.acceptors) }
+        ensures vaults { IfErr result (λ back. take (store.world.last_proposer + 1)
+            back.1.vaults.items ≡ disks_of store.world.desks) }
+        ensures back { IfErr result (λ back. (vec_len back.1.acceptors ≡ 64)
+            × (vec_len back.1.vaults ≡ 17)) }
+    {
         let Store { world, room } = store;
         let shared = Shared {
             world: SteadyWorld::over(world),
             room,
         };
-        let callers = u32::from(config.proposers) + 1;
+        let callers = u32::from(proposers) + 1;
         match Turn::new(alloc, shared, callers) {
             Ok((turn, passes)) => Ok((Board { turn, alloc }, passes)),
-            Err((_, shared)) => Err((OpenFault::NoMemory, shared.into_closed().rack)),
+            Err((error, shared)) => Err((error, shared.into_closed().rack)),
         }
     }
 
@@ -167,6 +212,9 @@ impl<D: Disk> Shared<D> {
     /// The record and the rack.
     fn into_closed(self) -> Closed<D>
         ensures marks { result.book.marks ≡ self.marks }
+        ensures acceptors { result.rack.acceptors.items ≡ acceptor_disks self.acceptors }
+        ensures vaults { take (self.last_proposer + 1) result.rack.vaults.items
+            ≡ disks_of self.desks }
         ensures legal { D.tells → IsLegal (reverse result.book.marks) }
         ensures writable { AreWritable result.book.marks }
         ensures tellings { D.tells

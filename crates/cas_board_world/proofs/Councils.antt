@@ -36,14 +36,14 @@ use Rattle.cas_model.specs.View.{DiskMeaning, Meaning, View, CallerView, era_at}
 use Rattle.cas_model.proofs.Places.{some_is, newest_or_older, contains_none, contains_at}
 use Rattle.cas_vault.specs.Vault.{disk_of}
 use Rattle.cas_board_world.specs.Blame.{Nobody, blame_by, blame_by_answer, blame_by_op, HasFailedAt}
-use Rattle.cas_board_world.specs.Steady.{AreBlamed, IsBlamed, IsFair, desk_faults, blame_by_exchange, blame_by_order, blame_if_broken, blame_if_said}
+use Rattle.cas_board_world.specs.Steady.{AreBlamed, IsBlamedSince, IsFair, desk_faults, blame_by_exchange, blame_by_order, blame_if_broken, blame_if_said}
 use Rattle.cas_board_world.proofs.Parts.{stays_above, fair_nobody, desk_goes_on, desk_failed, on_marks, on_council, on_telling, on_gathered, hushed_order}
 use Rattle.cas_board_world.proofs.Callers.{loses_low, later_listing}
 use Rattle.cas_board_world.proofs.Frames.{answered, down_fair, no_room_blamed, on_harm, on_votes, stopped}
 
 -- ---- the operator's call
-pub order_blamed : {S V : Type 0} (m : Meaning S V) (old : View S V) (asked : Asked) (new : View S V) → IsBlamed m old → StepOrder old asked new → IsBlamed m new
-order_blamed {S} {V} m old asked new is by = subst (IsBlamed m) (sym by.view) (on_council m is (record old.council { order = Some (record { asked = asked; told = None }) }) refl tt is.exchange is.later is.asked)
+pub order_blamed : {S V : Type 0} {were : List ℕ} (m : Meaning S V) (old : View S V) (asked : Asked) (new : View S V) → IsBlamedSince m were old → StepOrder old asked new → IsBlamedSince m were new
+order_blamed {S} {V} {were} m old asked new is by = subst (IsBlamedSince m were) (sym by.view) (on_council m is (record old.council { order = Some (record { asked = asked; told = None }) }) tt is.exchange is.later is.asked)
 
 says_blame : (said answer : OpAnswer) → SaysTheSame said answer → blame_by_op said ≡ blame_by_op answer
 says_blame (told.Probed key found) (told.Probed other seen) same = refl
@@ -66,19 +66,19 @@ later_rest : (plan : Option PlanView) (era : Era) → Contains (later_of (option
 later_rest None era there = there
 later_rest (Some plan) era there = there
 
-over_blamed : {S V : Type 0} (m : Meaning S V) (view : View S V) → IsBlamed m view → (of : Asked) (answer : OpAnswer) → IsFair m view.acceptors view.desks (blame_by_op answer) → IsBlamed m (told_over view of answer)
-over_blamed m view is of answer fair =
-    on_marks m (on_council m is (at_rest view.council) refl tt tt (λ era there. is.later era (later_rest view.council.plan era there)) (λ exchange none. absurd (cc none))) (told_marks of answer) (marks_fair m view.acceptors view.desks of answer fair)
+over_blamed : {S V : Type 0} {were : List ℕ} (m : Meaning S V) (view : View S V) → IsBlamedSince m were view → (of : Asked) (answer : OpAnswer) → IsFair m view.acceptors view.desks (blame_by_op answer) → IsBlamedSince m were (told_over view of answer)
+over_blamed {were = were} m view is of answer fair =
+    on_marks m (on_council m is (at_rest view.council) tt tt (λ era there. is.later era (later_rest view.council.plan era there)) (λ exchange none. absurd (cc none))) (told_marks of answer) (marks_fair m view.acceptors view.desks of answer fair)
 
-pub tell_blamed : {S V : Type 0} (m : Meaning S V) (old : View S V) (answer : OpAnswer) (new : View S V) → IsBlamed m old → StepTell old answer new → IsBlamed m new
-tell_blamed {S} {V} m old answer new is (council.tells order said is_open is_told same view) =
-    subst (IsBlamed m) (sym view) (over_blamed m old is order.asked answer (subst (IsFair m old.acceptors old.desks) (says_blame said answer same)
+pub tell_blamed : {S V : Type 0} {were : List ℕ} (m : Meaning S V) (old : View S V) (answer : OpAnswer) (new : View S V) → IsBlamedSince m were old → StepTell old answer new → IsBlamedSince m were new
+tell_blamed {S} {V} {were} m old answer new is (council.tells order said is_open is_told same view) =
+    subst (IsBlamedSince m were) (sym view) (over_blamed m old is order.asked answer (subst (IsFair m old.acceptors old.desks) (says_blame said answer same)
     (subst (λ (o : Option OpAnswer). IsFair m old.acceptors old.desks (blame_if_said o)) is_told (subst (λ (o : Option OrderView). IsFair m old.acceptors old.desks (blame_by_order o)) is_open is.order))))
-tell_blamed {S} {V} m old answer new is (council.finishes order is_open finishes view) =
-    subst (IsBlamed m) (sym view) (over_blamed m (record old { council = record old.council { plan = None } }) (on_council m is (record old.council { plan = None }) refl is.order is.exchange (λ era there. absurd (contains_none there)) is.asked) order.asked answer
+tell_blamed {S} {V} {were} m old answer new is (council.finishes order is_open finishes view) =
+    subst (IsBlamedSince m were) (sym view) (over_blamed m (record old { council = record old.council { plan = None } }) (on_council m is (record old.council { plan = None }) is.order is.exchange (λ era there. absurd (contains_none there)) is.asked) order.asked answer
     (fair_nobody m old.acceptors old.desks (blame_by_op answer) (finished_nobody order.asked finishes.plan.progress.era.number finishes.plan.rescanned answer finishes.tells)))
-tell_blamed {S} {V} m old answer new is (council.collects order is_open collects view) =
-    subst (IsBlamed m) (sym view) (over_blamed m old is order.asked answer (fair_nobody m old.acceptors old.desks (blame_by_op answer) (ap blame_by_op collects.tells)))
+tell_blamed {S} {V} {were} m old answer new is (council.collects order is_open collects view) =
+    subst (IsBlamedSince m were) (sym view) (over_blamed m old is order.asked answer (fair_nobody m old.acceptors old.desks (blame_by_op answer) (ap blame_by_op collects.tells)))
 
 -- ---- proposer 0 asks all members
 tag_low : {V : Type 0} (m : DiskMeaning V) (listing : Option ListingView) (desk now : DeskView V) (tag : Ballot) → HasTag m listing desk now tag → 0 < m.faults (disk_of desk.vault) → 0 < m.faults (disk_of now.vault)
@@ -105,69 +105,69 @@ asked_everyone old (NextKeys places) acceptor member = and_left (has_member (eve
 asked_everyone old (NewAges key least) acceptor member = member
 asked_everyone old (Removal key) acceptor member = member
 
-pub ask_blamed : {S V : Type 0} (m : Meaning S V) (old : View S V) (question : Question) (new : View S V) → IsBlamed m old → StepAskAll m old question new → IsBlamed m new
-ask_blamed {S} {V} m old question new is by = by_case by.asks
+pub ask_blamed : {S V : Type 0} {were : List ℕ} (m : Meaning S V) (old : View S V) (question : Question) (new : View S V) → IsBlamedSince m were old → StepAskAll m old question new → IsBlamedSince m were new
+ask_blamed {S} {V} {were} m old question new is by = by_case by.asks
   where
-    by_case : council.AsksAll m old question by.desk new → IsBlamed m new
+    by_case : council.AsksAll m old question by.desk new → IsBlamedSince m were new
     by_case (council.asks now tag flow up room tags now_is sends view) =
-        subst (IsBlamed m) (sym view) (on_council m (desk_goes_on m is 0 by.desk now by.may.at_desk (tag_low m.disks _ by.desk now tag tags.has_tag) (ap (λ (d : DeskView V). d.down) now_is))
-        (record old.council { exchange = Some (new_exchange question tag (asked_by old question) (length old.marks) (read_era old question)); plan = plan_asked question tag old.council.plan }) refl
+        subst (IsBlamedSince m were) (sym view) (on_council m (desk_goes_on m is 0 by.desk now by.may.at_desk (tag_low m.disks _ by.desk now tag tags.has_tag) (ap (λ (d : DeskView V). d.down) now_is))
+        (record old.council { exchange = Some (new_exchange question tag (asked_by old question) (length old.marks) (read_era old question)); plan = plan_asked question tag old.council.plan })
         (desk_goes_on m is 0 by.desk now by.may.at_desk (tag_low m.disks _ by.desk now tag tags.has_tag) (ap (λ (d : DeskView V). d.down) now_is)).order tt
         (λ era there. is.later era (later_asked question tag old.council.plan era there))
-        (λ exchange same acceptor member. is.used 0 acceptor (asked_everyone old question acceptor (subst (λ (e : ExchangeView). has_member e.members acceptor ≡ true) (sym (some_is same)) member))))
-    by_case (council.is_down down view) = subst (IsBlamed m) (sym view) (on_telling m is (told.Stopped answer.Down) (record { one = by.desk; at = by.may.at_desk; failed = is.failed 0 by.desk by.may.at_desk down }))
-    by_case (council.is_full up full view) = subst (IsBlamed m) (sym view) (on_telling m is (told.Stopped answer.RecordFull) tt)
+        (λ exchange same acceptor member. is.in_eras 0 acceptor (asked_everyone old question acceptor (subst (λ (e : ExchangeView). has_member e.members acceptor ≡ true) (sym (some_is same)) member))))
+    by_case (council.is_down down view) = subst (IsBlamedSince m were) (sym view) (on_telling m is (told.Stopped answer.Down) (record { one = by.desk; at = by.may.at_desk; failed = is.failed 0 by.desk by.may.at_desk down }))
+    by_case (council.is_full up full view) = subst (IsBlamedSince m were) (sym view) (on_telling m is (told.Stopped answer.RecordFull) tt)
     by_case (council.is_spent now up spent kept now_is view) =
-        subst (IsBlamed m) (sym view) (on_telling m (desk_goes_on m is 0 by.desk now by.may.at_desk (stays_above kept.goes_on.never_falls) (ap (λ (d : DeskView V). d.down) now_is)) (told.Stopped answer.Spent) tt)
+        subst (IsBlamedSince m were) (sym view) (on_telling m (desk_goes_on m is 0 by.desk now by.may.at_desk (stays_above kept.goes_on.never_falls) (ap (λ (d : DeskView V). d.down) now_is)) (told.Stopped answer.Spent) tt)
     by_case (council.fails now up drawn view) =
         let fails : FailsToDraw m.disks by.desk.cache by.desk now = was_drawn (listing_for old.council question) (FailsToDraw m.disks by.desk.cache by.desk now) drawn in
         let failed = desk_failed m is 0 by.desk now by.may.at_desk fails.faulted in
-        subst (IsBlamed m) (sym view) (on_telling m failed.0 (told.Stopped answer.VaultFault) failed.1)
+        subst (IsBlamedSince m were) (sym view) (on_telling m failed.0 (told.Stopped answer.VaultFault) failed.1)
     by_case (council.no_memory now tag up loses view) =
-        subst (IsBlamed m) (sym view) (on_telling m (desk_goes_on m is 0 by.desk now by.may.at_desk (stays_above (loses_low m.disks [] by.desk now tag loses)) (ap (λ (d : DeskView V). d.down) loses.desk)) (told.Stopped (answer.NoMemory false)) tt)
+        subst (IsBlamedSince m were) (sym view) (on_telling m (desk_goes_on m is 0 by.desk now by.may.at_desk (stays_above (loses_low m.disks [] by.desk now tag loses)) (ap (λ (d : DeskView V). d.down) loses.desk)) (told.Stopped (answer.NoMemory false)) tt)
 
 -- ---- a turn of its frames
 -- the exchange that is open goes on
-on_exchange : {S V : Type 0} (m : Meaning S V) {acceptors : List (AcceptorView S)} {desks : List (DeskView V)} {eras : List Era} {callers : List CallerView} {council : Council} {marks : List Mark}
-    → AreBlamed m acceptors desks eras callers council marks → (exchange now : ExchangeView) → council.exchange ≡ Some exchange → now.crashed ≡ exchange.crashed → now.members ≡ exchange.members
-    → AreBlamed m acceptors desks eras callers (record council { exchange = Some now }) marks
-on_exchange {S} {V} m {acceptors} {desks} {eras} {callers} {council} {marks} is exchange now is_open same_crashed same_members =
-    on_council m is (record council { exchange = Some now }) refl is.order
+on_exchange : {S V : Type 0} (m : Meaning S V) {were : List ℕ} {acceptors : List (AcceptorView S)} {desks : List (DeskView V)} {eras : List Era} {callers : List CallerView} {council : Council} {marks : List Mark}
+    → AreBlamed m were acceptors desks eras callers council marks → (exchange now : ExchangeView) → council.exchange ≡ Some exchange → now.crashed ≡ exchange.crashed → now.members ≡ exchange.members
+    → AreBlamed m were acceptors desks eras callers (record council { exchange = Some now }) marks
+on_exchange {S} {V} m {were} {acceptors} {desks} {eras} {callers} {council} {marks} is exchange now is_open same_crashed same_members =
+    on_council m is (record council { exchange = Some now }) is.order
     (subst (λ (b : Bool). IsFair m acceptors desks (blame_if_broken b)) (sym same_crashed) (subst (λ (o : Option ExchangeView). IsFair m acceptors desks (blame_by_exchange o)) is_open is.exchange)) is.later
     (λ each same acceptor member. is.asked exchange is_open acceptor (subst (λ (l : List ℕ). has_member l acceptor ≡ true) (ap (λ (e : ExchangeView). e.members) (sym (some_is same)) ∙ same_members) member))
 
-harms_blamed : {S V : Type 0} (m : Meaning S V) (view : View S V) → IsBlamed m view → (exchange : ExchangeView) → view.council.exchange ≡ Some exchange → (member : ℕ) (down : Bool) → IsFair m view.acceptors view.desks (blame_by (Harmed 0 0 down)) → IsBlamed m (harms view exchange member down)
-harms_blamed m view is exchange is_open member down fair = on_harm m (on_exchange m is exchange (harmed_exchange exchange member) is_open refl refl) (has_member exchange.harmed member) (Harmed 0 0 down) fair
+harms_blamed : {S V : Type 0} {were : List ℕ} (m : Meaning S V) (view : View S V) → IsBlamedSince m were view → (exchange : ExchangeView) → view.council.exchange ≡ Some exchange → (member : ℕ) (down : Bool) → IsFair m view.acceptors view.desks (blame_by (Harmed 0 0 down)) → IsBlamedSince m were (harms view exchange member down)
+harms_blamed {were = were} m view is exchange is_open member down fair = on_harm m (on_exchange m is exchange (harmed_exchange exchange member) is_open refl refl) (has_member exchange.harmed member) (Harmed 0 0 down) fair
 
-waiting_used : {S V : Type 0} (m : Meaning S V) (old : View S V) (exchange : ExchangeView) (front : Message) → IsSafe old → IsBlamed m old → old.council.exchange ≡ Some exchange → slice_get (queue_at old.flow exchange_place).messages 0 ≡ Some front
-    → has_member old.council.used (head_of front).1 ≡ true
-waiting_used {S} {V} m old exchange front safe is is_open first =
+waiting_used : {S V : Type 0} {were : List ℕ} (m : Meaning S V) (old : View S V) (exchange : ExchangeView) (front : Message) → IsSafe old → IsBlamedSince m were old → old.council.exchange ≡ Some exchange → slice_get (queue_at old.flow exchange_place).messages 0 ≡ Some front
+    → has_member were (head_of front).1 ≡ true
+waiting_used {S} {V} {were} m old exchange front safe is is_open first =
     let asking : IsExchangeSafe exchange (queue_at old.flow exchange_place) = subst (λ (o : Option ExchangeView). IsAskingSafe o (queue_at old.flow exchange_place)) is_open safe.sound.asking in
     is.asked exchange is_open (head_of front).1 (asking.about front (contains_at (queue_at old.flow exchange_place).messages 0 front first))
 
-pub turn_exchange_blamed : {S V : Type 0} (m : Meaning S V) (old : View S V) (v : Verdict) (new : View S V) → IsSafe old → IsBlamed m old → StepTurnExchange m old v new → IsBlamed m new
-turn_exchange_blamed {S} {V} m old v new safe is by = by_case by.turn
+pub turn_exchange_blamed : {S V : Type 0} {were : List ℕ} (m : Meaning S V) (old : View S V) (v : Verdict) (new : View S V) → IsSafe old → IsBlamedSince m were old → StepTurnExchange m old v new → IsBlamedSince m were new
+turn_exchange_blamed {S} {V} {were} m old v new safe is by = by_case by.turn
   where
-    by_case : council.TurnsExchange m old v by.front by.at.exchange new → IsBlamed m new
-    by_case (council.held stays view) = subst (IsBlamed m) (sym view) is
-    by_case (council.gone goes view) = subst (IsBlamed m) (sym view) (harms_blamed m (record old { flow = taken old.flow exchange_place v }) is by.at.exchange by.at.is_open (head_of by.front).1 false tt)
-    by_case (council.answers request acceptor now reply handle is_front at answers view) = subst (IsBlamed m) (sym view) (on_votes m (answered m is request reply acceptor now at answers) request reply)
+    by_case : council.TurnsExchange m old v by.front by.at.exchange new → IsBlamedSince m were new
+    by_case (council.held stays view) = subst (IsBlamedSince m were) (sym view) is
+    by_case (council.gone goes view) = subst (IsBlamedSince m were) (sym view) (harms_blamed m (record old { flow = taken old.flow exchange_place v }) is by.at.exchange by.at.is_open (head_of by.front).1 false tt)
+    by_case (council.answers request acceptor now reply handle is_front at answers view) = subst (IsBlamedSince m were) (sym view) (on_votes m (answered m is request reply acceptor now at answers) request reply)
     by_case (council.finds_down request acceptor handle is_front at down view) =
-        subst (IsBlamed m) (sym view) (harms_blamed m (record old { flow = taken old.flow exchange_place v }) is by.at.exchange by.at.is_open request.to true
-        (down_fair m is request.to acceptor at down (subst (λ (x : Message). has_member old.council.used (head_of x).1 ≡ true) is_front (waiting_used m old by.at.exchange by.front safe is by.at.is_open by.waits))))
+        subst (IsBlamedSince m were) (sym view) (harms_blamed m (record old { flow = taken old.flow exchange_place v }) is by.at.exchange by.at.is_open request.to true
+        (down_fair m is request.to acceptor at down (subst (λ (x : Message). has_member were (head_of x).1 ≡ true) is_front (waiting_used m old by.at.exchange by.front safe is by.at.is_open by.waits))))
     by_case (council.brings_down request acceptor now handle is_front at stops view) =
         let failed = stopped m is request acceptor now at stops in
-        subst (IsBlamed m) (sym view) (harms_blamed m (record old { acceptors = slice_set old.acceptors request.to now; flow = taken old.flow exchange_place v }) failed.0 by.at.exchange by.at.is_open request.to true failed.1)
-    by_case (council.arrives reply handle is_front answers view) = subst (IsBlamed m) (sym view) (on_exchange m is by.at.exchange (record by.at.exchange { told = hears reply by.at.exchange.told }) by.at.is_open refl refl)
+        subst (IsBlamedSince m were) (sym view) (harms_blamed m (record old { acceptors = slice_set old.acceptors request.to now; flow = taken old.flow exchange_place v }) failed.0 by.at.exchange by.at.is_open request.to true failed.1)
+    by_case (council.arrives reply handle is_front answers view) = subst (IsBlamedSince m were) (sym view) (on_exchange m is by.at.exchange (record by.at.exchange { told = hears reply by.at.exchange.told }) by.at.is_open refl refl)
 
-pub refuse_exchange_blamed : {S V : Type 0} (m : Meaning S V) (old new : View S V) → IsBlamed m old → StepRefuseTurnExchange m old new → IsBlamed m new
-refuse_exchange_blamed {S} {V} m old new is by = subst (IsBlamed m) (sym by.view) (on_telling m (no_room_blamed m old by.middle is by.refuses) (told.Stopped (answer.NoMemory false)) tt)
+pub refuse_exchange_blamed : {S V : Type 0} {were : List ℕ} (m : Meaning S V) (old new : View S V) → IsBlamedSince m were old → StepRefuseTurnExchange m old new → IsBlamedSince m were new
+refuse_exchange_blamed {S} {V} {were} m old new is by = subst (IsBlamedSince m were) (sym by.view) (on_telling m (no_room_blamed m old by.middle is by.refuses) (told.Stopped (answer.NoMemory false)) tt)
 
 -- ---- what was told is gathered
 -- an exchange that was broken off blames the vault of proposer 0
-pub broken_fair : {S V : Type 0} (m : Meaning S V) {acceptors : List (AcceptorView S)} {desks : List (DeskView V)} {eras : List Era} {callers : List CallerView} {council : Council} {marks : List Mark}
-    → AreBlamed m acceptors desks eras callers council marks → (exchange : ExchangeView) → council.exchange ≡ Some exchange → exchange.crashed ≡ true → HasFailedAt (desk_faults m) desks 0
-broken_fair {S} {V} m {acceptors} {desks} is exchange is_open crashed =
+pub broken_fair : {S V : Type 0} (m : Meaning S V) {were : List ℕ} {acceptors : List (AcceptorView S)} {desks : List (DeskView V)} {eras : List Era} {callers : List CallerView} {council : Council} {marks : List Mark}
+    → AreBlamed m were acceptors desks eras callers council marks → (exchange : ExchangeView) → council.exchange ≡ Some exchange → exchange.crashed ≡ true → HasFailedAt (desk_faults m) desks 0
+broken_fair {S} {V} m {were} {acceptors} {desks} is exchange is_open crashed =
     subst (λ (b : Bool). IsFair m acceptors desks (blame_if_broken b)) crashed (subst (λ (o : Option ExchangeView). IsFair m acceptors desks (blame_by_exchange o)) is_open is.exchange)
 
 missing_nobody : (era : Era) (by : List ℕ) (short : Answer) → missing era by ≡ Some short → blame_by_answer 0 short ≡ Nobody
@@ -201,17 +201,17 @@ read_nobody era key found older marks (is_counted accepted agree above same) mar
     votes_nobody key accepted.ballot (acknowledgment_of key accepted (holders_of accepted.ballot found)) (holders_of accepted.ballot found) mark (subst (λ (l : List Mark). Contains l mark) same there)
 read_nobody era key found older marks (nothing none same) mark there = absurd (contains_none (subst (λ (l : List Mark). Contains l mark) same there))
 
-pub gather_blamed : {S V : Type 0} (m : Meaning S V) (old new : View S V) → IsBlamed m old → StepGather old new → IsBlamed m new
-gather_blamed {S} {V} m old new is by = by_case by.gathers
+pub gather_blamed : {S V : Type 0} {were : List ℕ} (m : Meaning S V) (old new : View S V) → IsBlamedSince m were old → StepGather old new → IsBlamedSince m were new
+gather_blamed {S} {V} {were} m old new is by = by_case by.gathers
   where
-    by_case : council.Gathers old by.at.exchange new → IsBlamed m new
-    by_case (council.crashed down view) = subst (IsBlamed m) (sym view) (on_gathered m is (told.Stopped answer.Crashed) (broken_fair m is by.at.exchange by.at.is_open down))
-    by_case (council.probed key found up question plain keeps view) = subst (IsBlamed m) (sym view) (on_gathered m is (told.Probed key found) tt)
+    by_case : council.Gathers old by.at.exchange new → IsBlamedSince m were new
+    by_case (council.crashed down view) = subst (IsBlamedSince m were) (sym view) (on_gathered m is (told.Stopped answer.Crashed) (broken_fair m is by.at.exchange by.at.is_open down))
+    by_case (council.probed key found up question plain keeps view) = subst (IsBlamedSince m were) (sym view) (on_gathered m is (told.Probed key found) tt)
     by_case (council.read key era found marks up question reads keeps made view) =
-        subst (IsBlamed m) (sym view) (on_marks m (on_gathered m is (told.Probed key found) tt) marks (λ mark there. fair_nobody m old.acceptors old.desks (blame_by mark) (read_nobody era key by.at.exchange.told (reverse old.marks) marks made mark there)))
+        subst (IsBlamedSince m were) (sym view) (on_marks m (on_gathered m is (told.Probed key found) tt) marks (λ mark there. fair_nobody m old.acceptors old.desks (blame_by mark) (read_nobody era key by.at.exchange.told (reverse old.marks) marks made mark there)))
     by_case (council.lists of listing up enough on view) =
-        subst (IsBlamed m) (sym view) (on_council m is (record (hushed old.council) { exchange = None; plan = Some (with_listing of.plan listing) }) refl (hushed_order m old.acceptors old.desks old.council.order) tt
+        subst (IsBlamedSince m were) (sym view) (on_council m is (record (hushed old.council) { exchange = None; plan = Some (with_listing of.plan listing) }) (hushed_order m old.acceptors old.desks old.council.order) tt
         (λ era there. is.later era (subst (λ (p : Option PlanView). Contains (later_of p) era) (sym of.is_plan) (later_listing of.plan listing era there))) (λ exchange none. absurd (cc none)))
     by_case (council.is_short of short up lacks view) =
-        subst (IsBlamed m) (sym view) (on_gathered m is (told.Stopped (why_short by.at.exchange.told short)) (fair_nobody m old.acceptors old.desks (blame_by_op (told.Stopped (why_short by.at.exchange.told short))) (short_nobody by.at.exchange.told short (missing_nobody (era_at old 0) (counted by.at.exchange.told of.listing.places) short lacks))))
-    by_case (council.no_memory up view) = subst (IsBlamed m) (sym view) (on_telling m is (told.Stopped (answer.NoMemory false)) tt)
+        subst (IsBlamedSince m were) (sym view) (on_gathered m is (told.Stopped (why_short by.at.exchange.told short)) (fair_nobody m old.acceptors old.desks (blame_by_op (told.Stopped (why_short by.at.exchange.told short))) (short_nobody by.at.exchange.told short (missing_nobody (era_at old 0) (counted by.at.exchange.told of.listing.places) short lacks))))
+    by_case (council.no_memory up view) = subst (IsBlamedSince m were) (sym view) (on_telling m is (told.Stopped (answer.NoMemory false)) tt)

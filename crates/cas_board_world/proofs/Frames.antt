@@ -38,7 +38,7 @@ use Rattle.cas_model.proofs.Frames.Harms.{member_low}
 use Rattle.cas_model.proofs.Places.{at_set, newest_or_older, contains_none, contains_at}
 use Rattle.cas_model.proofs.Safety.Parts.{low_at, at_low}
 use Rattle.cas_board_world.specs.Blame.{Nobody, SomeAcceptor, blame_by}
-use Rattle.cas_board_world.specs.Steady.{AreBlamed, WereMembers, IsBlamed, IsFair, desk_faults}
+use Rattle.cas_board_world.specs.Steady.{AreBlamed, WereMembers, IsBlamedSince, IsFair, desk_faults}
 use Rattle.cas_board_world.proofs.Parts.{rose_above, stays_above, fair_nobody, acceptor_up, acceptor_failed, desk_goes_on, on_callers, on_marks}
 
 -- ---- votes and harms
@@ -50,34 +50,34 @@ votes_nobody id (ask.Accept key ballot era ride state) tell.Accepted mark there 
 ]
 votes_nobody id a t mark there = absurd (contains_none there)
 
-pub on_votes : {S V : Type 0} (m : Meaning S V) {acceptors : List (AcceptorView S)} {desks : List (DeskView V)} {eras : List Era} {callers : List CallerView} {council : Council} {marks : List Mark}
-    → AreBlamed m acceptors desks eras callers council marks → (request : Request) (reply : Reply) → AreBlamed m acceptors desks eras callers council (marks ++ votes_marked request reply)
-on_votes m {acceptors} {desks} is request reply = on_marks m is (votes_marked request reply) (λ mark there. fair_nobody m acceptors desks (blame_by mark) (votes_nobody request.to request.ask reply.tell mark there))
+pub on_votes : {S V : Type 0} (m : Meaning S V) {were : List ℕ} {acceptors : List (AcceptorView S)} {desks : List (DeskView V)} {eras : List Era} {callers : List CallerView} {council : Council} {marks : List Mark}
+    → AreBlamed m were acceptors desks eras callers council marks → (request : Request) (reply : Reply) → AreBlamed m were acceptors desks eras callers council (marks ++ votes_marked request reply)
+on_votes m {were} {acceptors} {desks} is request reply = on_marks m is (votes_marked request reply) (λ mark there. fair_nobody m acceptors desks (blame_by mark) (votes_nobody request.to request.ask reply.tell mark there))
 
 -- the first harm is marked
-pub on_harm : {S V : Type 0} (m : Meaning S V) {acceptors : List (AcceptorView S)} {desks : List (DeskView V)} {eras : List Era} {callers : List CallerView} {council : Council} {marks : List Mark}
-    → AreBlamed m acceptors desks eras callers council marks → (known : Bool) (mark : Mark) → IsFair m acceptors desks (blame_by mark) → AreBlamed m acceptors desks eras callers council (marks ++ (if known then [] else mark ∷ []))
+pub on_harm : {S V : Type 0} (m : Meaning S V) {were : List ℕ} {acceptors : List (AcceptorView S)} {desks : List (DeskView V)} {eras : List Era} {callers : List CallerView} {council : Council} {marks : List Mark}
+    → AreBlamed m were acceptors desks eras callers council marks → (known : Bool) (mark : Mark) → IsFair m acceptors desks (blame_by mark) → AreBlamed m were acceptors desks eras callers council (marks ++ (if known then [] else mark ∷ []))
 on_harm m is true mark fair = on_marks m is [] (λ other there. absurd (contains_none there))
-on_harm {S} {V} m {acceptors} {desks} is false mark fair = on_marks m is (mark ∷ []) (λ other there. elim (newest_or_older [] there) [
+on_harm {S} {V} m {were} {acceptors} {desks} is false mark fair = on_marks m is (mark ∷ []) (λ other there. elim (newest_or_older [] there) [
   | inl now ↦ subst (λ (k : Mark). IsFair m acceptors desks (blame_by k)) now fair
   | inr none ↦ absurd (contains_none none)
 ])
 
 -- ---- acceptors that answer or fail
-pub answered : {S V : Type 0} (m : Meaning S V) {acceptors : List (AcceptorView S)} {desks : List (DeskView V)} {eras : List Era} {callers : List CallerView} {council : Council} {marks : List Mark}
-    → AreBlamed m acceptors desks eras callers council marks → (request : Request) (reply : Reply) (was now : AcceptorView S) → IsAt acceptors request.to was → AnswersByTable m.shelves was now request reply
-    → AreBlamed m (slice_set acceptors request.to now) desks eras callers council marks
+pub answered : {S V : Type 0} (m : Meaning S V) {were : List ℕ} {acceptors : List (AcceptorView S)} {desks : List (DeskView V)} {eras : List Era} {callers : List CallerView} {council : Council} {marks : List Mark}
+    → AreBlamed m were acceptors desks eras callers council marks → (request : Request) (reply : Reply) (was now : AcceptorView S) → IsAt acceptors request.to was → AnswersByTable m.shelves was now request reply
+    → AreBlamed m were (slice_set acceptors request.to now) desks eras callers council marks
 answered {S} {V} m is request reply was now at by = acceptor_up m is request.to was now at (stays_above by.never_falls) (ap (λ (a : AcceptorView S). a.down) by.acceptor ∙ by.up)
 
-pub stopped : {S V : Type 0} (m : Meaning S V) {acceptors : List (AcceptorView S)} {desks : List (DeskView V)} {eras : List Era} {callers : List CallerView} {council : Council} {marks : List Mark}
-    → AreBlamed m acceptors desks eras callers council marks → (request : Request) (was now : AcceptorView S) → IsAt acceptors request.to was → StopsWithin m.shelves was now request
-    → AreBlamed m (slice_set acceptors request.to now) desks eras callers council marks × IsFair m (slice_set acceptors request.to now) desks SomeAcceptor
-stopped m {acceptors} is request was now at by =
+pub stopped : {S V : Type 0} (m : Meaning S V) {were : List ℕ} {acceptors : List (AcceptorView S)} {desks : List (DeskView V)} {eras : List Era} {callers : List CallerView} {council : Council} {marks : List Mark}
+    → AreBlamed m were acceptors desks eras callers council marks → (request : Request) (was now : AcceptorView S) → IsAt acceptors request.to was → StopsWithin m.shelves was now request
+    → AreBlamed m were (slice_set acceptors request.to now) desks eras callers council marks × IsFair m (slice_set acceptors request.to now) desks SomeAcceptor
+stopped m {were} {acceptors} is request was now at by =
     (acceptor_failed m is request.to was now at by.faulted, (request.to, record { one = now; at = at_set acceptors request.to was now at; failed = rose_above by.faulted }))
 
 -- one that is down and was a member has failed
-pub down_fair : {S V : Type 0} (m : Meaning S V) {acceptors : List (AcceptorView S)} {desks : List (DeskView V)} {eras : List Era} {callers : List CallerView} {council : Council} {marks : List Mark}
-    → AreBlamed m acceptors desks eras callers council marks → (id : ℕ) (acceptor : AcceptorView S) → IsAt acceptors id acceptor → acceptor.down ≡ true → has_member council.used id ≡ true → IsFair m acceptors desks SomeAcceptor
+pub down_fair : {S V : Type 0} (m : Meaning S V) {were : List ℕ} {acceptors : List (AcceptorView S)} {desks : List (DeskView V)} {eras : List Era} {callers : List CallerView} {council : Council} {marks : List Mark}
+    → AreBlamed m were acceptors desks eras callers council marks → (id : ℕ) (acceptor : AcceptorView S) → IsAt acceptors id acceptor → acceptor.down ≡ true → has_member were id ≡ true → IsFair m acceptors desks SomeAcceptor
 down_fair m is id acceptor at down used = elim (is.excused id acceptor at down) [
   | inl failed ↦ (id, record { one = acceptor; at = at; failed = failed })
   | inr unused ↦ absurd (cc (sym used ∙ unused.1))
@@ -97,56 +97,56 @@ pub none_first : (messages : List Message) {front : Message} → messages ≡ []
 none_first messages none first = cc (sym (ap (λ (l : List Message). slice_get l 0) none) ∙ first)
 
 -- so whose frame waits was one
-waiting_used : {S V : Type 0} (m : Meaning S V) (old : View S V) (id : ℕ) (caller : CallerView) (front : Message) → IsSafe old → IsBlamed m old → IsAt old.callers id caller → slice_get (queue_at old.flow id).messages 0 ≡ Some front
-    → has_member old.council.used (head_of front).1 ≡ true
-waiting_used {S} {V} m old id caller front safe is at first =
+waiting_used : {S V : Type 0} {were : List ℕ} (m : Meaning S V) (old : View S V) (id : ℕ) (caller : CallerView) (front : Message) → IsSafe old → IsBlamedSince m were old → IsAt old.callers id caller → slice_get (queue_at old.flow id).messages 0 ≡ Some front
+    → has_member were (head_of front).1 ≡ true
+waiting_used {S} {V} {were} m old id caller front safe is at first =
     let there = at_low old.desks id (omega (arith, low_at old.callers id at, safe.sound.desks, safe.sound.callers)) in
     by_round there.0.round (safe.sound.parties id there.0 caller there.1 at).round
   where
-    by_round : (round : Option Round) → IsRoundSafe (era_at old id) caller (queue_at old.flow id) round → has_member old.council.used (head_of front).1 ≡ true
+    by_round : (round : Option Round) → IsRoundSafe (era_at old id) caller (queue_at old.flow id) round → has_member were (head_of front).1 ≡ true
     by_round None idle = absurd (none_first (queue_at old.flow id).messages idle.none_waits first)
-    by_round (Some round) open_ = asked_used old id old.council.used round.phase (head_of front).1 safe (is.used id) (open_.about front (contains_at (queue_at old.flow id).messages 0 front first))
+    by_round (Some round) open_ = asked_used old id were round.phase (head_of front).1 safe (is.in_eras id) (open_.about front (contains_at (queue_at old.flow id).messages 0 front first))
 
 -- ---- a turn
-harmed_blamed : {S V : Type 0} (m : Meaning S V) (view : View S V) → IsBlamed m view → (id : ℕ) (caller : CallerView) (call : CallView) (acceptor : ℕ) (down : Bool) → IsFair m view.acceptors view.desks (blame_by (Harmed id caller.number down))
-    → IsBlamed m (harmed_view view id caller call acceptor down)
-harmed_blamed m view is id caller call acceptor down fair = on_harm m (on_callers m is id (record caller { call = Some (harmed_by call acceptor) }) tt) (has_member call.harmed acceptor) (Harmed id caller.number down) fair
+harmed_blamed : {S V : Type 0} {were : List ℕ} (m : Meaning S V) (view : View S V) → IsBlamedSince m were view → (id : ℕ) (caller : CallerView) (call : CallView) (acceptor : ℕ) (down : Bool) → IsFair m view.acceptors view.desks (blame_by (Harmed id caller.number down))
+    → IsBlamedSince m were (harmed_view view id caller call acceptor down)
+harmed_blamed {were = were} m view is id caller call acceptor down fair = on_harm m (on_callers m is id (record caller { call = Some (harmed_by call acceptor) }) tt) (has_member call.harmed acceptor) (Harmed id caller.number down) fair
 
-turns_blamed : {S V : Type 0} (m : Meaning S V) (old : View S V) (id : ℕ) (v : Verdict) (front : Message) (caller : CallerView) (call : CallView) (new : View S V) → IsBlamed m old → has_member old.council.used (head_of front).1 ≡ true → TakesTurn m old id v front caller call new → IsBlamed m new
-turns_blamed {S} {V} m old id v front caller call new is used (frames.held stays view) = subst (IsBlamed m) (sym view) is
-turns_blamed {S} {V} m old id v front caller call new is used (frames.gone goes view) = subst (IsBlamed m) (sym view) (harmed_blamed m (record old { flow = taken old.flow id v }) is id caller call (head_of front).1 false tt)
-turns_blamed {S} {V} m old id v front caller call new is used (frames.answers request acceptor now reply handle is_front at by view) =
-    subst (IsBlamed m) (sym view) (on_votes m (on_callers m (answered m is request reply acceptor now at by) id (record caller { call = Some (marking call (length (votes_marked request reply))) }) tt) request reply)
-turns_blamed {S} {V} m old id v front caller call new is used (frames.finds_down request acceptor handle is_front at down view) =
-    subst (IsBlamed m) (sym view) (harmed_blamed m (record old { flow = taken old.flow id v }) is id caller call request.to true
-    (down_fair m is request.to acceptor at down (subst (λ (x : Message). has_member old.council.used (head_of x).1 ≡ true) is_front used)))
-turns_blamed {S} {V} m old id v front caller call new is used (frames.brings_down request acceptor now handle is_front at by view) =
+turns_blamed : {S V : Type 0} {were : List ℕ} (m : Meaning S V) (old : View S V) (id : ℕ) (v : Verdict) (front : Message) (caller : CallerView) (call : CallView) (new : View S V) → IsBlamedSince m were old → has_member were (head_of front).1 ≡ true → TakesTurn m old id v front caller call new → IsBlamedSince m were new
+turns_blamed {S} {V} {were} m old id v front caller call new is used (frames.held stays view) = subst (IsBlamedSince m were) (sym view) is
+turns_blamed {S} {V} {were} m old id v front caller call new is used (frames.gone goes view) = subst (IsBlamedSince m were) (sym view) (harmed_blamed m (record old { flow = taken old.flow id v }) is id caller call (head_of front).1 false tt)
+turns_blamed {S} {V} {were} m old id v front caller call new is used (frames.answers request acceptor now reply handle is_front at by view) =
+    subst (IsBlamedSince m were) (sym view) (on_votes m (on_callers m (answered m is request reply acceptor now at by) id (record caller { call = Some (marking call (length (votes_marked request reply))) }) tt) request reply)
+turns_blamed {S} {V} {were} m old id v front caller call new is used (frames.finds_down request acceptor handle is_front at down view) =
+    subst (IsBlamedSince m were) (sym view) (harmed_blamed m (record old { flow = taken old.flow id v }) is id caller call request.to true
+    (down_fair m is request.to acceptor at down (subst (λ (x : Message). has_member were (head_of x).1 ≡ true) is_front used)))
+turns_blamed {S} {V} {were} m old id v front caller call new is used (frames.brings_down request acceptor now handle is_front at by view) =
     let failed = stopped m is request acceptor now at by in
-    subst (IsBlamed m) (sym view) (harmed_blamed m (record old { acceptors = slice_set old.acceptors request.to now; flow = taken old.flow id v }) failed.0 id caller call request.to true failed.1)
-turns_blamed {S} {V} m old id v front caller call new is used (frames.arrives reply desk now round heard handle is_front at is_open hears view) =
-    subst (IsBlamed m) (sym view) (on_callers m (desk_goes_on m is id desk now at (subst (λ (d : DeskView V). 0 < desk_faults m desk → 0 < desk_faults m d) (sym hears.desk) (λ some. some)) (ap (λ (d : DeskView V). d.down) hears.desk)) id (record caller { call = Some (silent call) }) tt)
+    subst (IsBlamedSince m were) (sym view) (harmed_blamed m (record old { acceptors = slice_set old.acceptors request.to now; flow = taken old.flow id v }) failed.0 id caller call request.to true failed.1)
+turns_blamed {S} {V} {were} m old id v front caller call new is used (frames.arrives reply desk now round heard handle is_front at is_open hears view) =
+    subst (IsBlamedSince m were) (sym view) (on_callers m (desk_goes_on m is id desk now at (subst (λ (d : DeskView V). 0 < desk_faults m desk → 0 < desk_faults m d) (sym hears.desk) (λ some. some)) (ap (λ (d : DeskView V). d.down) hears.desk)) id (record caller { call = Some (silent call) }) tt)
 
-pub turn_blamed : {S V : Type 0} (m : Meaning S V) (old : View S V) (id : ℕ) (v : Verdict) (new : View S V) → IsSafe old → IsBlamed m old → StepTurn m old id v new → IsBlamed m new
-turn_blamed m old id v new safe is by =
+pub turn_blamed : {S V : Type 0} {were : List ℕ} (m : Meaning S V) (old : View S V) (id : ℕ) (v : Verdict) (new : View S V) → IsSafe old → IsBlamedSince m were old → StepTurn m old id v new → IsBlamedSince m were new
+turn_blamed {were = were} m old id v new safe is by =
     turns_blamed m old id v by.front by.of_call.caller by.of_call.call new is (waiting_used m old id by.of_call.caller by.front safe is by.of_call.at_caller by.waits) by.turn
 
 -- no memory is found
-pub no_room_blamed : {S V : Type 0} (m : Meaning S V) (old new : View S V) → IsBlamed m old → FindsNoRoom m old new → IsBlamed m new
-no_room_blamed {S} {V} m old new is (frames.stays view) = subst (IsBlamed m) (sym view) is
-no_room_blamed {S} {V} m old new is (frames.kept id acceptor now at by view) =
-    subst (IsBlamed m) (sym view) (acceptor_up m is id acceptor now at (stays_above by.never_falls) (ap (λ (a : AcceptorView S). a.down) by.acceptor ∙ by.up))
+pub no_room_blamed : {S V : Type 0} {were : List ℕ} (m : Meaning S V) (old new : View S V) → IsBlamedSince m were old → FindsNoRoom m old new → IsBlamedSince m were new
+no_room_blamed {S} {V} {were} m old new is (frames.stays view) = subst (IsBlamedSince m were) (sym view) is
+no_room_blamed {S} {V} {were} m old new is (frames.kept id acceptor now at by view) =
+    subst (IsBlamedSince m were) (sym view) (acceptor_up m is id acceptor now at (stays_above by.never_falls) (ap (λ (a : AcceptorView S). a.down) by.acceptor ∙ by.up))
 
-pub refuse_turn_blamed : {S V : Type 0} (m : Meaning S V) (old : View S V) (id : ℕ) (new : View S V) → IsBlamed m old → StepRefuseTurn m old id new → IsBlamed m new
-refuse_turn_blamed {S} {V} m old id new is by =
-    subst (IsBlamed m) (sym by.view) (on_callers m (no_room_blamed m old by.middle is by.refuses) id (record by.of_call.caller { call = Some (telling by.of_call.call (answer.NoMemory (is_some by.of_call.call.proposed))) }) tt)
+pub refuse_turn_blamed : {S V : Type 0} {were : List ℕ} (m : Meaning S V) (old : View S V) (id : ℕ) (new : View S V) → IsBlamedSince m were old → StepRefuseTurn m old id new → IsBlamedSince m were new
+refuse_turn_blamed {S} {V} {were} m old id new is by =
+    subst (IsBlamedSince m were) (sym by.view) (on_callers m (no_room_blamed m old by.middle is by.refuses) id (record by.of_call.caller { call = Some (telling by.of_call.call (answer.NoMemory (is_some by.of_call.call.proposed))) }) tt)
 
 -- ---- a late frame
-strays_blamed : {S V : Type 0} (m : Meaning S V) (old : View S V) (index : ℕ) (late : Message) (new : View S V) → IsBlamed m old → Strays m old index late new → IsBlamed m new
-strays_blamed {S} {V} m old index late new is (frames.answers request acceptor now reply is_late at by view) = subst (IsBlamed m) (sym view) (on_votes m (answered m is request reply acceptor now at by) request reply)
-strays_blamed {S} {V} m old index late new is (frames.brings_down request acceptor now is_late at by view) = subst (IsBlamed m) (sym view) (stopped m is request acceptor now at by).0
-strays_blamed {S} {V} m old index late new is (frames.arrives reply desk now round heard is_late at is_open hears view) =
-    subst (IsBlamed m) (sym view) (desk_goes_on m is reply.to desk now at (subst (λ (d : DeskView V). 0 < desk_faults m desk → 0 < desk_faults m d) (sym hears.desk) (λ some. some)) (ap (λ (d : DeskView V). d.down) hears.desk))
-strays_blamed {S} {V} m old index late new is (frames.drops ignored view) = subst (IsBlamed m) (sym view) is
+strays_blamed : {S V : Type 0} {were : List ℕ} (m : Meaning S V) (old : View S V) (index : ℕ) (late : Message) (new : View S V) → IsBlamedSince m were old → Strays m old index late new → IsBlamedSince m were new
+strays_blamed {S} {V} {were} m old index late new is (frames.answers request acceptor now reply is_late at by view) = subst (IsBlamedSince m were) (sym view) (on_votes m (answered m is request reply acceptor now at by) request reply)
+strays_blamed {S} {V} {were} m old index late new is (frames.brings_down request acceptor now is_late at by view) = subst (IsBlamedSince m were) (sym view) (stopped m is request acceptor now at by).0
+strays_blamed {S} {V} {were} m old index late new is (frames.arrives reply desk now round heard is_late at is_open hears view) =
+    subst (IsBlamedSince m were) (sym view) (desk_goes_on m is reply.to desk now at (subst (λ (d : DeskView V). 0 < desk_faults m desk → 0 < desk_faults m d) (sym hears.desk) (λ some. some)) (ap (λ (d : DeskView V). d.down) hears.desk))
+strays_blamed {S} {V} {were} m old index late new is (frames.drops ignored view) = subst (IsBlamedSince m were) (sym view) is
 
-pub stray_blamed : {S V : Type 0} (m : Meaning S V) (old : View S V) (index : ℕ) (new : View S V) → IsBlamed m old → StepStray m old index new → IsBlamed m new
-stray_blamed m old index new is by = strays_blamed m old index by.late new is by.strays
+pub stray_blamed : {S V : Type 0} {were : List ℕ} (m : Meaning S V) (old : View S V) (index : ℕ) (new : View S V) → IsBlamedSince m were old → StepStray m old index new → IsBlamedSince m were new
+stray_blamed {were = were} m old index new is by = strays_blamed m old index by.late new is by.strays

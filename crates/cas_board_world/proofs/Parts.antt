@@ -2,7 +2,7 @@
 use Rattle.std.proofs.Common.{◌≡◌, ◌≤◌, ◌<◌, ℕ, zero, suc, true, false, List, [], ◌∷◌, ◌++◌, Option, None, Some, refl, sym, ap, subst, ◌∙◌, inl, inr, arith}
 use Rattle.std.specs.Prelude.{◌⊎◌, option_map, slice_set, Contains}
 use Rattle.cas_base.specs.Faults.{Rose}
-use Rattle.cas_ballot.specs.Members.{has_member, IsMemberSet}
+use Rattle.cas_ballot.specs.Members.{has_member}
 use Rattle.cas_acceptor.specs.Acceptor.{AcceptorView}
 use Rattle.cas_proposer.specs.Desk.{DeskView}
 use Rattle.cas_quorum.specs.declared.era.Era.{Era}
@@ -61,20 +61,20 @@ pub fair_nobody : {S V : Type 0} (m : Meaning S V) (acceptors : List (AcceptorVi
 fair_nobody m acceptors desks blame is = subst (IsFair m acceptors desks) (sym is) tt
 
 -- ---- an acceptor changes
-pub on_acceptors : {S V : Type 0} (m : Meaning S V) {acceptors : List (AcceptorView S)} {desks : List (DeskView V)} {eras : List Era} {callers : List CallerView} {council : Council} {marks : List Mark}
-    → AreBlamed m acceptors desks eras callers council marks → (id : ℕ) (was now : AcceptorView S) → IsAt acceptors id was → (0 < acceptor_faults m was → 0 < acceptor_faults m now) → (now.down ≡ true → IsExcused m council.used id now)
-    → AreBlamed m (slice_set acceptors id now) desks eras callers council marks
-on_acceptors {S} {V} m {acceptors} {desks} {eras} {callers} {council} {marks} is id was now at low excused = record {
+pub on_acceptors : {S V : Type 0} (m : Meaning S V) {were : List ℕ} {acceptors : List (AcceptorView S)} {desks : List (DeskView V)} {eras : List Era} {callers : List CallerView} {council : Council} {marks : List Mark}
+    → AreBlamed m were acceptors desks eras callers council marks → (id : ℕ) (was now : AcceptorView S) → IsAt acceptors id was → (0 < acceptor_faults m was → 0 < acceptor_faults m now) → (now.down ≡ true → IsExcused m were id now)
+    → AreBlamed m were (slice_set acceptors id now) desks eras callers council marks
+on_acceptors {S} {V} m {were} {acceptors} {desks} {eras} {callers} {council} {marks} is id was now at low excused = record {
   excused = λ p acceptor at_p down. elim (but_set acceptors id now p acceptor at_p) [
-    | inl same ↦ subst (λ (n : ℕ). IsExcused m council.used n acceptor) (sym same.0) (subst (IsExcused m council.used id) (sym same.1) (excused (sym (ap (λ (a : AcceptorView S). a.down) same.1) ∙ down)))
+    | inl same ↦ subst (λ (n : ℕ). IsExcused m were n acceptor) (sym same.0) (subst (IsExcused m were id) (sym same.1) (excused (sym (ap (λ (a : AcceptorView S). a.down) same.1) ∙ down)))
     | inr other ↦ is.excused p acceptor other.1 down
   ];
   failed = is.failed;
   calls = λ p caller at_p. then_ _ (is.calls p caller at_p);
   order = then_ _ is.order;
   exchange = then_ _ is.exchange;
-  used_set = is.used_set;
-  used = is.used;
+  were_set = is.were_set;
+  in_eras = is.in_eras;
   later = is.later;
   asked = is.asked;
   marked = λ mark there. then_ _ (is.marked mark there);
@@ -84,21 +84,21 @@ on_acceptors {S} {V} m {acceptors} {desks} {eras} {callers} {council} {marks} is
     then_ blame fair = fair_then m acceptors (slice_set acceptors id now) desks desks blame (lasts_set (acceptor_faults m) acceptors id was now at low) (lasts_same (desk_faults m) desks) fair
 
 -- one that is up, or has failed
-pub acceptor_up : {S V : Type 0} (m : Meaning S V) {acceptors : List (AcceptorView S)} {desks : List (DeskView V)} {eras : List Era} {callers : List CallerView} {council : Council} {marks : List Mark}
-    → AreBlamed m acceptors desks eras callers council marks → (id : ℕ) (was now : AcceptorView S) → IsAt acceptors id was → (0 < acceptor_faults m was → 0 < acceptor_faults m now) → now.down ≡ false
-    → AreBlamed m (slice_set acceptors id now) desks eras callers council marks
+pub acceptor_up : {S V : Type 0} (m : Meaning S V) {were : List ℕ} {acceptors : List (AcceptorView S)} {desks : List (DeskView V)} {eras : List Era} {callers : List CallerView} {council : Council} {marks : List Mark}
+    → AreBlamed m were acceptors desks eras callers council marks → (id : ℕ) (was now : AcceptorView S) → IsAt acceptors id was → (0 < acceptor_faults m was → 0 < acceptor_faults m now) → now.down ≡ false
+    → AreBlamed m were (slice_set acceptors id now) desks eras callers council marks
 acceptor_up m is id was now at low up = on_acceptors m is id was now at low (λ down. absurd (cc (sym up ∙ down)))
 
-pub acceptor_failed : {S V : Type 0} (m : Meaning S V) {acceptors : List (AcceptorView S)} {desks : List (DeskView V)} {eras : List Era} {callers : List CallerView} {council : Council} {marks : List Mark}
-    → AreBlamed m acceptors desks eras callers council marks → (id : ℕ) (was now : AcceptorView S) → IsAt acceptors id was → Rose (acceptor_faults m was) (acceptor_faults m now)
-    → AreBlamed m (slice_set acceptors id now) desks eras callers council marks
+pub acceptor_failed : {S V : Type 0} (m : Meaning S V) {were : List ℕ} {acceptors : List (AcceptorView S)} {desks : List (DeskView V)} {eras : List Era} {callers : List CallerView} {council : Council} {marks : List Mark}
+    → AreBlamed m were acceptors desks eras callers council marks → (id : ℕ) (was now : AcceptorView S) → IsAt acceptors id was → Rose (acceptor_faults m was) (acceptor_faults m now)
+    → AreBlamed m were (slice_set acceptors id now) desks eras callers council marks
 acceptor_failed m is id was now at rose = on_acceptors m is id was now at (λ before. rose_above rose) (λ down. inl (rose_above rose))
 
 -- ---- a desk changes
-pub on_desks : {S V : Type 0} (m : Meaning S V) {acceptors : List (AcceptorView S)} {desks : List (DeskView V)} {eras : List Era} {callers : List CallerView} {council : Council} {marks : List Mark}
-    → AreBlamed m acceptors desks eras callers council marks → (id : ℕ) (was now : DeskView V) → IsAt desks id was → (0 < desk_faults m was → 0 < desk_faults m now) → (now.down ≡ true → 0 < desk_faults m now)
-    → AreBlamed m acceptors (slice_set desks id now) eras callers council marks
-on_desks {S} {V} m {acceptors} {desks} {eras} {callers} {council} {marks} is id was now at low failed = record {
+pub on_desks : {S V : Type 0} (m : Meaning S V) {were : List ℕ} {acceptors : List (AcceptorView S)} {desks : List (DeskView V)} {eras : List Era} {callers : List CallerView} {council : Council} {marks : List Mark}
+    → AreBlamed m were acceptors desks eras callers council marks → (id : ℕ) (was now : DeskView V) → IsAt desks id was → (0 < desk_faults m was → 0 < desk_faults m now) → (now.down ≡ true → 0 < desk_faults m now)
+    → AreBlamed m were acceptors (slice_set desks id now) eras callers council marks
+on_desks {S} {V} m {were} {acceptors} {desks} {eras} {callers} {council} {marks} is id was now at low failed = record {
   excused = is.excused;
   failed = λ p desk at_p down. elim (but_set desks id now p desk at_p) [
     | inl same ↦ subst (λ (d : DeskView V). 0 < desk_faults m d) (sym same.1) (failed (sym (ap (λ (d : DeskView V). d.down) same.1) ∙ down))
@@ -107,8 +107,8 @@ on_desks {S} {V} m {acceptors} {desks} {eras} {callers} {council} {marks} is id 
   calls = λ p caller at_p. then_ _ (is.calls p caller at_p);
   order = then_ _ is.order;
   exchange = then_ _ is.exchange;
-  used_set = is.used_set;
-  used = is.used;
+  were_set = is.were_set;
+  in_eras = is.in_eras;
   later = is.later;
   asked = is.asked;
   marked = λ mark there. then_ _ (is.marked mark there);
@@ -118,24 +118,24 @@ on_desks {S} {V} m {acceptors} {desks} {eras} {callers} {council} {marks} is id 
     then_ blame fair = fair_then m acceptors acceptors desks (slice_set desks id now) blame (lasts_same (acceptor_faults m) acceptors) (lasts_set (desk_faults m) desks id was now at low) fair
 
 -- one that is down only where it was
-pub desk_goes_on : {S V : Type 0} (m : Meaning S V) {acceptors : List (AcceptorView S)} {desks : List (DeskView V)} {eras : List Era} {callers : List CallerView} {council : Council} {marks : List Mark}
-    → AreBlamed m acceptors desks eras callers council marks → (id : ℕ) (was now : DeskView V) → IsAt desks id was → (0 < desk_faults m was → 0 < desk_faults m now) → now.down ≡ was.down
-    → AreBlamed m acceptors (slice_set desks id now) eras callers council marks
+pub desk_goes_on : {S V : Type 0} (m : Meaning S V) {were : List ℕ} {acceptors : List (AcceptorView S)} {desks : List (DeskView V)} {eras : List Era} {callers : List CallerView} {council : Council} {marks : List Mark}
+    → AreBlamed m were acceptors desks eras callers council marks → (id : ℕ) (was now : DeskView V) → IsAt desks id was → (0 < desk_faults m was → 0 < desk_faults m now) → now.down ≡ was.down
+    → AreBlamed m were acceptors (slice_set desks id now) eras callers council marks
 desk_goes_on {S} {V} m is id was now at low same =
     on_desks m is id was now at low (λ down. low (is.failed id was at (sym same ∙ down)))
 
 -- one that has failed, which is at its place then
-pub desk_failed : {S V : Type 0} (m : Meaning S V) {acceptors : List (AcceptorView S)} {desks : List (DeskView V)} {eras : List Era} {callers : List CallerView} {council : Council} {marks : List Mark}
-    → AreBlamed m acceptors desks eras callers council marks → (id : ℕ) (was now : DeskView V) → IsAt desks id was → Rose (desk_faults m was) (desk_faults m now)
-    → AreBlamed m acceptors (slice_set desks id now) eras callers council marks × HasFailedAt (desk_faults m) (slice_set desks id now) id
-desk_failed m {acceptors} {desks} is id was now at rose =
+pub desk_failed : {S V : Type 0} (m : Meaning S V) {were : List ℕ} {acceptors : List (AcceptorView S)} {desks : List (DeskView V)} {eras : List Era} {callers : List CallerView} {council : Council} {marks : List Mark}
+    → AreBlamed m were acceptors desks eras callers council marks → (id : ℕ) (was now : DeskView V) → IsAt desks id was → Rose (desk_faults m was) (desk_faults m now)
+    → AreBlamed m were acceptors (slice_set desks id now) eras callers council marks × HasFailedAt (desk_faults m) (slice_set desks id now) id
+desk_failed m {were} {acceptors} {desks} is id was now at rose =
     (on_desks m is id was now at (λ before. rose_above rose) (λ down. rose_above rose), record { one = now; at = at_set desks id was now at; failed = rose_above rose })
 
 -- ---- a caller changes
-pub on_callers : {S V : Type 0} (m : Meaning S V) {acceptors : List (AcceptorView S)} {desks : List (DeskView V)} {eras : List Era} {callers : List CallerView} {council : Council} {marks : List Mark}
-    → AreBlamed m acceptors desks eras callers council marks → (id : ℕ) (now : CallerView) → IsFair m acceptors desks (blame_by_call id now.call)
-    → AreBlamed m acceptors desks eras (slice_set callers id now) council marks
-on_callers {S} {V} m {acceptors} {desks} {eras} {callers} {council} {marks} is id now fair = record {
+pub on_callers : {S V : Type 0} (m : Meaning S V) {were : List ℕ} {acceptors : List (AcceptorView S)} {desks : List (DeskView V)} {eras : List Era} {callers : List CallerView} {council : Council} {marks : List Mark}
+    → AreBlamed m were acceptors desks eras callers council marks → (id : ℕ) (now : CallerView) → IsFair m acceptors desks (blame_by_call id now.call)
+    → AreBlamed m were acceptors desks eras (slice_set callers id now) council marks
+on_callers {S} {V} m {were} {acceptors} {desks} {eras} {callers} {council} {marks} is id now fair = record {
   excused = is.excused;
   failed = is.failed;
   calls = λ p caller at_p. elim (but_set callers id now p caller at_p) [
@@ -144,25 +144,25 @@ on_callers {S} {V} m {acceptors} {desks} {eras} {callers} {council} {marks} is i
   ];
   order = is.order;
   exchange = is.exchange;
-  used_set = is.used_set;
-  used = is.used;
+  were_set = is.were_set;
+  in_eras = is.in_eras;
   later = is.later;
   asked = is.asked;
   marked = is.marked;
 }
 
 -- ---- marks are made
-pub on_marks : {S V : Type 0} (m : Meaning S V) {acceptors : List (AcceptorView S)} {desks : List (DeskView V)} {eras : List Era} {callers : List CallerView} {council : Council} {marks : List Mark}
-    → AreBlamed m acceptors desks eras callers council marks → (more : List Mark) → ((mark : Mark) → Contains more mark → IsFair m acceptors desks (blame_by mark))
-    → AreBlamed m acceptors desks eras callers council (marks ++ more)
-on_marks {S} {V} m {acceptors} {desks} {eras} {callers} {council} {marks} is more fair = record {
+pub on_marks : {S V : Type 0} (m : Meaning S V) {were : List ℕ} {acceptors : List (AcceptorView S)} {desks : List (DeskView V)} {eras : List Era} {callers : List CallerView} {council : Council} {marks : List Mark}
+    → AreBlamed m were acceptors desks eras callers council marks → (more : List Mark) → ((mark : Mark) → Contains more mark → IsFair m acceptors desks (blame_by mark))
+    → AreBlamed m were acceptors desks eras callers council (marks ++ more)
+on_marks {S} {V} m {were} {acceptors} {desks} {eras} {callers} {council} {marks} is more fair = record {
   excused = is.excused;
   failed = is.failed;
   calls = is.calls;
   order = is.order;
   exchange = is.exchange;
-  used_set = is.used_set;
-  used = is.used;
+  were_set = is.were_set;
+  in_eras = is.in_eras;
   later = is.later;
   asked = is.asked;
   marked = λ mark there. elim (contains_append marks more there) [
@@ -171,9 +171,9 @@ on_marks {S} {V} m {acceptors} {desks} {eras} {callers} {council} {marks} is mor
   ];
 }
 
-pub on_mark : {S V : Type 0} (m : Meaning S V) {acceptors : List (AcceptorView S)} {desks : List (DeskView V)} {eras : List Era} {callers : List CallerView} {council : Council} {marks : List Mark}
-    → AreBlamed m acceptors desks eras callers council marks → (mark : Mark) → IsFair m acceptors desks (blame_by mark) → AreBlamed m acceptors desks eras callers council (marks ++ mark ∷ [])
-on_mark {S} {V} m {acceptors} {desks} is mark fair = on_marks m is (mark ∷ []) (λ other there. elim (newest_or_older [] there) [
+pub on_mark : {S V : Type 0} (m : Meaning S V) {were : List ℕ} {acceptors : List (AcceptorView S)} {desks : List (DeskView V)} {eras : List Era} {callers : List CallerView} {council : Council} {marks : List Mark}
+    → AreBlamed m were acceptors desks eras callers council marks → (mark : Mark) → IsFair m acceptors desks (blame_by mark) → AreBlamed m were acceptors desks eras callers council (marks ++ mark ∷ [])
+on_mark {S} {V} m {were} {acceptors} {desks} is mark fair = on_marks m is (mark ∷ []) (λ other there. elim (newest_or_older [] there) [
   | inl now ↦ subst (λ (k : Mark). IsFair m acceptors desks (blame_by k)) now fair
   | inr none ↦ absurd (contains_none none)
 ])
@@ -186,18 +186,18 @@ era_set (e ∷ eras) zero (suc p) era = inl refl
 era_set (e ∷ eras) (suc place) zero era = inl refl
 era_set (e ∷ eras) (suc place) (suc p) era = era_set eras place p era
 
-pub on_eras : {S V : Type 0} (m : Meaning S V) {acceptors : List (AcceptorView S)} {desks : List (DeskView V)} {eras : List Era} {callers : List CallerView} {council : Council} {marks : List Mark}
-    → AreBlamed m acceptors desks eras callers council marks → (id : ℕ) (era : Era) → WereMembers council.used era → AreBlamed m acceptors desks (slice_set eras id era) callers council marks
-on_eras {S} {V} m {acceptors} {desks} {eras} {callers} {council} {marks} is id era used = record {
+pub on_eras : {S V : Type 0} (m : Meaning S V) {were : List ℕ} {acceptors : List (AcceptorView S)} {desks : List (DeskView V)} {eras : List Era} {callers : List CallerView} {council : Council} {marks : List Mark}
+    → AreBlamed m were acceptors desks eras callers council marks → (id : ℕ) (era : Era) → WereMembers were era → AreBlamed m were acceptors desks (slice_set eras id era) callers council marks
+on_eras {S} {V} m {were} {acceptors} {desks} {eras} {callers} {council} {marks} is id era used = record {
   excused = is.excused;
   failed = is.failed;
   calls = is.calls;
   order = is.order;
   exchange = is.exchange;
-  used_set = is.used_set;
-  used = λ p. elim (era_set eras id p era) [
-    | inl same ↦ subst (WereMembers council.used) (sym same) (is.used p)
-    | inr new ↦ subst (WereMembers council.used) (sym new) used
+  were_set = is.were_set;
+  in_eras = λ p. elim (era_set eras id p era) [
+    | inl same ↦ subst (WereMembers were) (sym same) (is.in_eras p)
+    | inr new ↦ subst (WereMembers were) (sym new) used
   ];
   later = is.later;
   asked = is.asked;
@@ -205,22 +205,22 @@ on_eras {S} {V} m {acceptors} {desks} {eras} {callers} {council} {marks} is id e
 }
 
 -- ---- the operator
--- who was a member stays
-pub on_council : {S V : Type 0} (m : Meaning S V) {acceptors : List (AcceptorView S)} {desks : List (DeskView V)} {eras : List Era} {callers : List CallerView} {council : Council} {marks : List Mark}
-    → AreBlamed m acceptors desks eras callers council marks → (now : Council) → now.used ≡ council.used → IsFair m acceptors desks (blame_by_order now.order) → IsFair m acceptors desks (blame_by_exchange now.exchange)
-    → ((era : Era) → Contains (later_of now.plan) era → WereMembers council.used era)
-    → ((exchange : ExchangeView) → now.exchange ≡ Some exchange → (acceptor : ℕ) → has_member exchange.members acceptor ≡ true → has_member council.used acceptor ≡ true)
-    → AreBlamed m acceptors desks eras callers now marks
-on_council {S} {V} m {acceptors} {desks} {eras} {callers} {council} {marks} is now same order exchange later asked = record {
-  excused = λ id acceptor at down. subst (λ (u : List ℕ). IsExcused m u id acceptor) (sym same) (is.excused id acceptor at down);
+-- all else stays
+pub on_council : {S V : Type 0} (m : Meaning S V) {were : List ℕ} {acceptors : List (AcceptorView S)} {desks : List (DeskView V)} {eras : List Era} {callers : List CallerView} {council : Council} {marks : List Mark}
+    → AreBlamed m were acceptors desks eras callers council marks → (now : Council) → IsFair m acceptors desks (blame_by_order now.order) → IsFair m acceptors desks (blame_by_exchange now.exchange)
+    → ((era : Era) → Contains (later_of now.plan) era → WereMembers were era)
+    → ((exchange : ExchangeView) → now.exchange ≡ Some exchange → (acceptor : ℕ) → has_member exchange.members acceptor ≡ true → has_member were acceptor ≡ true)
+    → AreBlamed m were acceptors desks eras callers now marks
+on_council {S} {V} m {were} {acceptors} {desks} {eras} {callers} {council} {marks} is now order exchange later asked = record {
+  excused = is.excused;
   failed = is.failed;
   calls = is.calls;
   order = order;
   exchange = exchange;
-  used_set = subst IsMemberSet (sym same) is.used_set;
-  used = λ id. subst (λ (u : List ℕ). WereMembers u (era_in eras id)) (sym same) (is.used id);
-  later = λ era there. subst (λ (u : List ℕ). WereMembers u era) (sym same) (later era there);
-  asked = λ each is_it acceptor member. subst (λ (u : List ℕ). has_member u acceptor ≡ true) (sym same) (asked each is_it acceptor member);
+  were_set = is.were_set;
+  in_eras = is.in_eras;
+  later = later;
+  asked = asked;
   marked = is.marked;
 }
 
@@ -234,13 +234,13 @@ pub hushed_order : {S V : Type 0} (m : Meaning S V) (acceptors : List (AcceptorV
 hushed_order m acceptors desks None = tt
 hushed_order m acceptors desks (Some order) = tt
 
-pub on_telling : {S V : Type 0} (m : Meaning S V) {acceptors : List (AcceptorView S)} {desks : List (DeskView V)} {eras : List Era} {callers : List CallerView} {council : Council} {marks : List Mark}
-    → AreBlamed m acceptors desks eras callers council marks → (answer : OpAnswer) → IsFair m acceptors desks (blame_by_op answer) → AreBlamed m acceptors desks eras callers (telling council answer) marks
-on_telling {S} {V} m {acceptors} {desks} {eras} {callers} {council} {marks} is answer fair =
-    on_council m is (telling council answer) refl (told_order m acceptors desks council.order answer fair) is.exchange is.later is.asked
+pub on_telling : {S V : Type 0} (m : Meaning S V) {were : List ℕ} {acceptors : List (AcceptorView S)} {desks : List (DeskView V)} {eras : List Era} {callers : List CallerView} {council : Council} {marks : List Mark}
+    → AreBlamed m were acceptors desks eras callers council marks → (answer : OpAnswer) → IsFair m acceptors desks (blame_by_op answer) → AreBlamed m were acceptors desks eras callers (telling council answer) marks
+on_telling {S} {V} m {were} {acceptors} {desks} {eras} {callers} {council} {marks} is answer fair =
+    on_council m is (telling council answer) (told_order m acceptors desks council.order answer fair) is.exchange is.later is.asked
 
 -- and its exchange is over
-pub on_gathered : {S V : Type 0} (m : Meaning S V) {acceptors : List (AcceptorView S)} {desks : List (DeskView V)} {eras : List Era} {callers : List CallerView} {council : Council} {marks : List Mark}
-    → AreBlamed m acceptors desks eras callers council marks → (answer : OpAnswer) → IsFair m acceptors desks (blame_by_op answer) → AreBlamed m acceptors desks eras callers (record (telling council answer) { exchange = None }) marks
-on_gathered {S} {V} m {acceptors} {desks} {eras} {callers} {council} {marks} is answer fair =
-    on_council m is (record (telling council answer) { exchange = None }) refl (told_order m acceptors desks council.order answer fair) tt is.later (λ exchange none. absurd (cc none))
+pub on_gathered : {S V : Type 0} (m : Meaning S V) {were : List ℕ} {acceptors : List (AcceptorView S)} {desks : List (DeskView V)} {eras : List Era} {callers : List CallerView} {council : Council} {marks : List Mark}
+    → AreBlamed m were acceptors desks eras callers council marks → (answer : OpAnswer) → IsFair m acceptors desks (blame_by_op answer) → AreBlamed m were acceptors desks eras callers (record (telling council answer) { exchange = None }) marks
+on_gathered {S} {V} m {were} {acceptors} {desks} {eras} {callers} {council} {marks} is answer fair =
+    on_council m is (record (telling council answer) { exchange = None }) (told_order m acceptors desks council.order answer fair) tt is.later (λ exchange none. absurd (cc none))

@@ -32,27 +32,21 @@ use Rattle.cas_model.proofs.Frames.Harms.{member_low}
 use Rattle.cas_model.proofs.Places.{some_is, own_set, at_one, contains_new, contains_older}
 use Rattle.cas_model.proofs.Eras.Plans as laws
 use Rattle.cas_model.proofs.Eras.Plans.{IsMemberOfOne, IsMemberThen, planned_members}
-use Rattle.cas_board_world.specs.Steady.{IsBlamed, acceptor_faults}
+use Rattle.cas_board_world.specs.Steady.{IsBlamed, IsBlamedSince, acceptor_faults}
 use Rattle.cas_board_world.proofs.Parts.{rose_above, stays_above, acceptor_up, on_acceptors, desk_goes_on, on_mark, on_eras, on_council, on_telling, hushed_order}
 use Rattle.cas_board_world.proofs.Stops.{left_blamed, moved_fair, down_blamed}
 
 -- ---- an acceptor that joins
-welcome_blamed : {S V : Type 0} (m : Meaning S V) (old middle : View S V) (of : Asked) → IsBlamed m old → Welcomes m old of middle → IsBlamed m middle
-welcome_blamed {S} {V} m old middle of is (plans.starts id acceptor now joins at by view) =
-    subst (IsBlamed m) (sym view) (acceptor_up m is id acceptor now at (stays_above by.never_falls) (ap (λ (a : AcceptorView S). a.down) by.acceptor))
-welcome_blamed {S} {V} m old middle of is (plans.fails id acceptor now joins at by view) =
-    subst (IsBlamed m) (sym view) (on_acceptors m is id acceptor now at (stays_above by.never_falls) (λ down. elim (is.excused id acceptor at by.was_down) [
+welcome_blamed : {S V : Type 0} {were : List ℕ} (m : Meaning S V) (old middle : View S V) (of : Asked) → IsBlamedSince m were old → Welcomes m old of middle → IsBlamedSince m were middle
+welcome_blamed {S} {V} {were} m old middle of is (plans.starts id acceptor now joins at by view) =
+    subst (IsBlamedSince m were) (sym view) (acceptor_up m is id acceptor now at (stays_above by.never_falls) (ap (λ (a : AcceptorView S). a.down) by.acceptor))
+welcome_blamed {S} {V} {were} m old middle of is (plans.fails id acceptor now joins at by view) =
+    subst (IsBlamedSince m were) (sym view) (on_acceptors m is id acceptor now at (stays_above by.never_falls) (λ down. elim (is.excused id acceptor at by.was_down) [
       | inl failed ↦ inl (stays_above by.never_falls failed)
       | inr unused ↦ inr (ap (λ (a : AcceptorView S). a.started) by.acceptor ∙ unused.0, unused.1)
     ]))
-welcome_blamed {S} {V} m old middle of is (plans.is_up id acceptor joins at up view) = subst (IsBlamed m) (sym view) is
-welcome_blamed {S} {V} m old middle of is (plans.stays joins_none view) = subst (IsBlamed m) (sym view) is
-
-welcome_council : {S V : Type 0} (m : Meaning S V) (old middle : View S V) (of : Asked) → Welcomes m old of middle → middle.council ≡ old.council
-welcome_council {S} {V} m old middle of (plans.starts id acceptor now joins at by view) = ap (λ (v : View S V). v.council) view
-welcome_council {S} {V} m old middle of (plans.fails id acceptor now joins at by view) = ap (λ (v : View S V). v.council) view
-welcome_council {S} {V} m old middle of (plans.is_up id acceptor joins at up view) = ap (λ (v : View S V). v.council) view
-welcome_council {S} {V} m old middle of (plans.stays joins_none view) = ap (λ (v : View S V). v.council) view
+welcome_blamed {S} {V} {were} m old middle of is (plans.is_up id acceptor joins at up view) = subst (IsBlamedSince m were) (sym view) is
+welcome_blamed {S} {V} {were} m old middle of is (plans.stays joins_none view) = subst (IsBlamedSince m were) (sym view) is
 
 abbrev joined_of : Asked → ℕ
 joined_of (asked.Join id) = id
@@ -108,12 +102,12 @@ member_of_one (e ∷ eras) era acceptor (inl same) member = inl (subst (λ (x : 
 member_of_one (e ∷ eras) era acceptor (inr there) member = inr (member_of_one eras era acceptor there member)
 
 -- ---- a change begins
-opened_blamed : {S V : Type 0} (m : Meaning S V) (old middle : View S V) (of : Asked) (progress : Progress) → IsSafe old → IsBlamed m old → old.council.plan ≡ None → IsPlanned (era_at old 0) old.council.used of (Ok progress) → Welcomes m old of middle → FailsByFaults m old of middle
-    → IsBlamed m (opened_plan middle of progress)
-opened_blamed {S} {V} m old middle of progress safe is none planned welcomes faulted = record {
+opened_blamed : {S V : Type 0} {were : List ℕ} (m : Meaning S V) (old middle : View S V) (of : Asked) (progress : Progress) → IsSafe old → IsBlamedSince m were old → old.council.plan ≡ None → IsPlanned (era_at old 0) old.council.used of (Ok progress) → Welcomes m old of middle → FailsByFaults m old of middle
+    → IsBlamedSince m (used_with of were) (opened_plan middle of progress)
+opened_blamed {S} {V} {were} m old middle of progress safe is none planned welcomes faulted = record {
   excused = λ id acceptor at down. elim (mid.excused id acceptor at down) [
     | inl failed ↦ inl failed
-    | inr unused ↦ elim (used_else of middle.council.used id unused.1) [
+    | inr unused ↦ elim (used_else of were id unused.1) [
       | inl joins ↦ inl (joined_failed m old middle of id acceptor welcomes faulted joins at unused.0 down)
       | inr still ↦ inr (unused.0, still)
     ]
@@ -122,19 +116,15 @@ opened_blamed {S} {V} m old middle of progress safe is none planned welcomes fau
   calls = mid.calls;
   order = hushed_order m middle.acceptors middle.desks middle.council.order;
   exchange = mid.exchange;
-  used_set = used_set of middle.council.used mid.used_set;
-  used = λ id acceptor member. used_more of middle.council.used acceptor mid.used_set (mid.used id acceptor member);
-  later = λ era there acceptor member. subst (λ (c : Council). has_member (used_with of c.used) acceptor ≡ true) (sym same)
-      (by_member acceptor (planned_members (era_at old 0) old.council.used of progress settled.whole planned acceptor (member_of_one (eras_in progress.left) era acceptor (has era (eras_in progress.left) there) member)));
-  asked = λ exchange is_open acceptor member. used_more of middle.council.used acceptor mid.used_set (mid.asked exchange is_open acceptor member);
+  were_set = used_set of were mid.were_set;
+  in_eras = λ id acceptor member. used_more of were acceptor mid.were_set (mid.in_eras id acceptor member);
+  later = λ era there acceptor member. by_member acceptor (planned_members (era_at old 0) old.council.used of progress settled.whole planned acceptor (member_of_one (eras_in progress.left) era acceptor (has era (eras_in progress.left) there) member));
+  asked = λ exchange is_open acceptor member. used_more of were acceptor mid.were_set (mid.asked exchange is_open acceptor member);
   marked = mid.marked;
 }
   where
-    mid : IsBlamed m middle
+    mid : IsBlamedSince m were middle
     mid = welcome_blamed m old middle of is welcomes
-
-    same : middle.council ≡ old.council
-    same = welcome_council m old middle of welcomes
 
     settled : IsSettled (course_of old)
     settled = subst (λ (p : Option PlanView). CourseIsUnderWay (course_of old) p) none safe.course.under_way
@@ -144,21 +134,23 @@ opened_blamed {S} {V} m old middle of progress safe is none planned welcomes fau
         has-members_where (λ n. has_member (era_at old 0).prep n || has_member (era_at old 0).acc n) acceptor (member_low (era_at old 0).prep acceptor (safe.sound.prep_sets 0) member)
         ∙ or_left (has_member (era_at old 0).prep acceptor) (has_member (era_at old 0).acc acceptor) member
 
-    by_member : (acceptor : ℕ) → IsMemberThen (era_at old 0) old.council.used of acceptor → has_member (used_with of old.council.used) acceptor ≡ true
-    by_member acceptor (laws.already member) = used_more of old.council.used acceptor is.used_set (is.used 0 acceptor (in_era acceptor member))
-    by_member acceptor (laws.joins joins unused low) = used_join of old.council.used acceptor joins low
+    by_member : (acceptor : ℕ) → IsMemberThen (era_at old 0) old.council.used of acceptor → has_member (used_with of were) acceptor ≡ true
+    by_member acceptor (laws.already member) = used_more of were acceptor is.were_set (is.in_eras 0 acceptor (in_era acceptor member))
+    by_member acceptor (laws.joins joins unused low) = used_join of were acceptor joins low
 
-pub open_blamed : {S V : Type 0} (m : Meaning S V) (old new : View S V) → IsSafe old → IsBlamed m old → StepOpenPlan m old new → IsBlamed m new
-open_blamed {S} {V} m old new safe is by = by_case by.opens
+pub open_blamed : {S V : Type 0} {were : List ℕ} (m : Meaning S V) (old new : View S V) → IsSafe old → IsBlamedSince m were old → StepOpenPlan m old new → IsBlamed m new
+open_blamed {S} {V} {were} m old new safe is by = by_case by.opens
   where
     by_case : OpensPlan m old by.order.asked by.desk new → IsBlamed m new
-    by_case (plans.is_down down view) = subst (IsBlamed m) (sym view) (on_telling m is (told.Stopped answer.Down) (record { one = by.desk; at = by.at_desk; failed = is.failed 0 by.desk by.at_desk down }))
-    by_case (plans.is_busy plan up busy view) = subst (IsBlamed m) (sym view) (on_telling m is (told.Busy (era_at old 0).number) tt)
-    by_case (plans.refuses fault up none planned view) = subst (IsBlamed m) (sym view) (on_telling m is (told.Refused fault) tt)
-    by_case (plans.opens progress middle up none planned welcomes view) =
-        subst (IsBlamed m) (sym view) (opened_blamed m old middle by.order.asked progress safe is none planned welcomes
-        (λ id was now joins at_was at_now fresh down. by.faulted (new_plan by.order.asked progress) none (ap (λ (v : View S V). v.council.plan) view) id was now joins at_was (subst (λ (v : View S V). IsAt v.acceptors id now) (sym view) at_now) fresh down))
-    by_case (plans.no_memory progress middle up none planned welcomes view) = subst (IsBlamed m) (sym view) (on_telling m (welcome_blamed m old middle by.order.asked is welcomes) (told.Stopped (answer.NoMemory false)) tt)
+    by_case (plans.is_down down view) = (were, subst (IsBlamedSince m were) (sym view) (on_telling m is (told.Stopped answer.Down) (record { one = by.desk; at = by.at_desk; failed = is.failed 0 by.desk by.at_desk down })))
+    by_case (plans.is_busy plan up busy view) = (were, subst (IsBlamedSince m were) (sym view) (on_telling m is (told.Busy (era_at old 0).number) tt))
+    by_case (plans.refuses fault up none planned view) = (were, subst (IsBlamedSince m were) (sym view) (on_telling m is (told.Refused fault) tt))
+    by_case (plans.opens progress middle up none planned welcomes view) = (
+      used_with by.order.asked were,
+      subst (IsBlamedSince m (used_with by.order.asked were)) (sym view) (opened_blamed m old middle by.order.asked progress safe is none planned welcomes
+          (λ id was now joins at_was at_now fresh down. by.faulted (new_plan by.order.asked progress) none (ap (λ (v : View S V). v.council.plan) view) id was now joins at_was (subst (λ (v : View S V). IsAt v.acceptors id now) (sym view) at_now) fresh down)),
+    )
+    by_case (plans.no_memory progress middle up none planned welcomes view) = (were, subst (IsBlamedSince m were) (sym view) (on_telling m (welcome_blamed m old middle by.order.asked is welcomes) (told.Stopped (answer.NoMemory false)) tt))
 
 -- ---- a proposer enters the next era
 left_council : {S V : Type 0} (DeskTurns : DeskView V → DeskView V → Type 0) (closed : CallView → CallView) (old : View S V) (id : ℕ) (new : View S V) → LeavesRound DeskTurns closed old id new → new.council ≡ old.council
@@ -188,33 +180,33 @@ later_entered last_proposer plan next era = by_last (plan.entered == last_propos
     by_last true there = rest_later plan.progress.left era there
     by_last false there = there
 
-enters_blamed : {S V : Type 0} (m : Meaning S V) (old middle : View S V) (plan : PlanView) (next : Era) → IsBlamed m old → old.council.plan ≡ Some plan → next_era old.council.plan ≡ Some next
-    → LeavesRound (EntersEra m.disks next) (closed_by (answer.Moved next.number) (cause.Moved next.number)) old plan.entered middle → IsBlamed m (entered_view middle plan next)
-enters_blamed {S} {V} m old middle plan next is is_plan is_next leaves =
-    on_mark m (on_eras m (on_council m left (record (hushed middle.council) { plan = Some (plan_after middle.last_proposer plan next) }) refl (hushed_order m middle.acceptors middle.desks middle.council.order) left.exchange
+enters_blamed : {S V : Type 0} {were : List ℕ} (m : Meaning S V) (old middle : View S V) (plan : PlanView) (next : Era) → IsBlamedSince m were old → old.council.plan ≡ Some plan → next_era old.council.plan ≡ Some next
+    → LeavesRound (EntersEra m.disks next) (closed_by (answer.Moved next.number) (cause.Moved next.number)) old plan.entered middle → IsBlamedSince m were (entered_view middle plan next)
+enters_blamed {S} {V} {were} m old middle plan next is is_plan is_next leaves =
+    on_mark m (on_eras m (on_council m left (record (hushed middle.council) { plan = Some (plan_after middle.last_proposer plan next) }) (hushed_order m middle.acceptors middle.desks middle.council.order) left.exchange
     (λ era there. left.later era (subst (λ (p : Option PlanView). Contains (later_of p) era) (sym (ap (λ (c : Council). c.plan) same ∙ is_plan)) (later_entered middle.last_proposer plan next era there)))
     left.asked) plan.entered next (left.later next (subst (λ (c : Council). Contains (later_of c.plan) next) (sym same) (next_in old.council.plan next is_next)))) (EraEntered plan.entered next.number) tt
   where
     same : middle.council ≡ old.council
     same = left_council (EntersEra m.disks next) (closed_by (answer.Moved next.number) (cause.Moved next.number)) old plan.entered middle leaves
 
-    left : IsBlamed m middle
+    left : IsBlamedSince m were middle
     left = left_blamed m (EntersEra m.disks next) (closed_by (answer.Moved next.number) (cause.Moved next.number)) old plan.entered middle is (λ desk now at enters. record {
       stays = stays_above enters.never_falls;
       failed = λ down. absurd (cc (sym (ap (λ (d : DeskView V). d.down) enters.desk ∙ enters.up) ∙ down));
       call = moved_fair m old plan.entered (answer.Moved next.number) (cause.Moved next.number) now refl refl;
     }) leaves
 
-pub enter_blamed : {S V : Type 0} (m : Meaning S V) (old : View S V) (id : ℕ) (new : View S V) → IsBlamed m old → StepEnterEra m old id new → IsBlamed m new
-enter_blamed {S} {V} m old id new is by = by_case by.enters
+pub enter_blamed : {S V : Type 0} {were : List ℕ} (m : Meaning S V) (old : View S V) (id : ℕ) (new : View S V) → IsBlamedSince m were old → StepEnterEra m old id new → IsBlamedSince m were new
+enter_blamed {S} {V} {were} m old id new is by = by_case by.enters
   where
-    by_case : EntersNext m old by.plan by.next by.desk new → IsBlamed m new
-    by_case (plans.enters middle room leaves view) = subst (IsBlamed m) (sym view) (enters_blamed m old middle by.plan by.next is by.may.is_plan by.may.is_next leaves)
-    by_case (plans.is_full full view) = subst (IsBlamed m) (sym view) (on_telling m is (told.Stopped answer.RecordFull) tt)
+    by_case : EntersNext m old by.plan by.next by.desk new → IsBlamedSince m were new
+    by_case (plans.enters middle room leaves view) = subst (IsBlamedSince m were) (sym view) (enters_blamed m old middle by.plan by.next is by.may.is_plan by.may.is_next leaves)
+    by_case (plans.is_full full view) = subst (IsBlamedSince m were) (sym view) (on_telling m is (told.Stopped answer.RecordFull) tt)
     by_case (plans.is_down room down view) =
-        subst (IsBlamed m) (sym view) (on_telling m is (told.ProposerDown by.plan.entered) (record { one = by.desk; at = by.may.at_desk; failed = is.failed by.plan.entered by.desk by.may.at_desk down }))
+        subst (IsBlamedSince m were) (sym view) (on_telling m is (told.ProposerDown by.plan.entered) (record { one = by.desk; at = by.may.at_desk; failed = is.failed by.plan.entered by.desk by.may.at_desk down }))
     by_case (plans.fails middle room down view) =
         let failed = down_blamed m (FailsToEnter m.disks by.next) old by.plan.entered middle is (λ desk now fails. fails.faulted) down in
-        subst (IsBlamed m) (sym view) (on_telling m failed.0 (told.ProposerDown by.plan.entered) failed.1)
+        subst (IsBlamedSince m were) (sym view) (on_telling m failed.0 (told.ProposerDown by.plan.entered) failed.1)
     by_case (plans.no_memory now room up kept now_is view) =
-        subst (IsBlamed m) (sym view) (on_telling m (desk_goes_on m is by.plan.entered by.desk now by.may.at_desk (stays_above kept.goes_on.never_falls) (ap (λ (d : DeskView V). d.down) now_is)) (told.Stopped (answer.NoMemory false)) tt)
+        subst (IsBlamedSince m were) (sym view) (on_telling m (desk_goes_on m is by.plan.entered by.desk now by.may.at_desk (stays_above kept.goes_on.never_falls) (ap (λ (d : DeskView V). d.down) now_is)) (told.Stopped (answer.NoMemory false)) tt)

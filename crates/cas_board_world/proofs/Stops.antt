@@ -14,7 +14,7 @@ use Rattle.cas_model.specs.Stops.Step.{LeavesRound, GoesDown, closed_by, closed_
 use Rattle.cas_model.specs.View.{Meaning, View, CallView, IsAt}
 use Rattle.cas_model.proofs.Places.{at_set, some_is}
 use Rattle.cas_board_world.specs.Blame.{Nobody, blame_by_answer, HasFailedAt}
-use Rattle.cas_board_world.specs.Steady.{IsBlamed, IsFair, desk_faults, blame_by_exchange, blame_if_told}
+use Rattle.cas_board_world.specs.Steady.{IsBlamedSince, IsFair, desk_faults, blame_by_exchange, blame_if_told}
 use Rattle.cas_board_world.proofs.Parts.{rose_above, on_callers, on_council, on_desks}
 
 -- the desk that changes so stays down only where it has failed, and whom its closed call blames has failed
@@ -23,12 +23,12 @@ pub record IsFairTurn {S V : Type 0} (m : Meaning S V) (old : View S V) (id : �
   pub failed : now.down ≡ true → 0 < desk_faults m now
   pub call : (call : CallView) → IsFair m old.acceptors (slice_set old.desks id now) (blame_if_told id (closed call).told)
 
-pub left_blamed : {S V : Type 0} (m : Meaning S V) (DeskTurns : DeskView V → DeskView V → Type 0) (closed : CallView → CallView) (old : View S V) (id : ℕ) (new : View S V) → IsBlamed m old
-    → ((desk now : DeskView V) → IsAt old.desks id desk → DeskTurns desk now → IsFairTurn m old id closed desk now) → LeavesRound DeskTurns closed old id new → IsBlamed m new
-left_blamed {S} {V} m DeskTurns closed old id new is fair (stops.idle desk now at none turns view) =
-    subst (IsBlamed m) (sym view) (on_desks m is id desk now at (fair desk now at turns).stays (fair desk now at turns).failed)
-left_blamed {S} {V} m DeskTurns closed old id new is fair (stops.closes desk now round of_call at some turns view) =
-    subst (IsBlamed m) (sym view) (on_callers m (on_desks m is id desk now at (fair desk now at turns).stays (fair desk now at turns).failed) id (record of_call.caller { call = Some (closed of_call.call) }) ((fair desk now at turns).call of_call.call))
+pub left_blamed : {S V : Type 0} {were : List ℕ} (m : Meaning S V) (DeskTurns : DeskView V → DeskView V → Type 0) (closed : CallView → CallView) (old : View S V) (id : ℕ) (new : View S V) → IsBlamedSince m were old
+    → ((desk now : DeskView V) → IsAt old.desks id desk → DeskTurns desk now → IsFairTurn m old id closed desk now) → LeavesRound DeskTurns closed old id new → IsBlamedSince m were new
+left_blamed {S} {V} {were} m DeskTurns closed old id new is fair (stops.idle desk now at none turns view) =
+    subst (IsBlamedSince m were) (sym view) (on_desks m is id desk now at (fair desk now at turns).stays (fair desk now at turns).failed)
+left_blamed {S} {V} {were} m DeskTurns closed old id new is fair (stops.closes desk now round of_call at some turns view) =
+    subst (IsBlamedSince m were) (sym view) (on_callers m (on_desks m is id desk now at (fair desk now at turns).stays (fair desk now at turns).failed) id (record of_call.caller { call = Some (closed of_call.call) }) ((fair desk now at turns).call of_call.call))
 
 -- ---- a desk moves on
 pub moved_fair : {S V : Type 0} (m : Meaning S V) (old : View S V) (id : ℕ) (told : Answer) (why : Cause) (now : DeskView V) → blame_by_answer id told ≡ Nobody → blame_by_answer id (answer.Unsettled why) ≡ Nobody
@@ -65,19 +65,19 @@ broken_members : {S V : Type 0} (view : View S V) (exchange : Option ExchangeVie
 broken_members view None now is = absurd (cc is)
 broken_members view (Some exchange) now is = (exchange, refl, ap (λ (e : ExchangeView). e.members) (some_is is))
 
-broken_blamed : {S V : Type 0} (m : Meaning S V) (view : View S V) → IsBlamed m view → HasFailedAt (desk_faults m) view.desks 0 → IsBlamed m (broken_off_view view)
-broken_blamed {S} {V} m view is failed =
-    on_council m is (crashed_in view.council) refl is.order (broken_fair m view view.council.exchange failed) is.later
+broken_blamed : {S V : Type 0} {were : List ℕ} (m : Meaning S V) (view : View S V) → IsBlamedSince m were view → HasFailedAt (desk_faults m) view.desks 0 → IsBlamedSince m were (broken_off_view view)
+broken_blamed {S} {V} {were} m view is failed =
+    on_council m is (crashed_in view.council) is.order (broken_fair m view view.council.exchange failed) is.later
     (λ now same acceptor member.
     let was = broken_members view view.council.exchange now same in
     is.asked was.0 was.1 acceptor (subst (λ (l : List ℕ). has_member l acceptor ≡ true) (sym was.2) member))
 
 -- by a fault of its disk, and it has failed then
-pub down_blamed : {S V : Type 0} (m : Meaning S V) (DeskTurns : DeskView V → DeskView V → Type 0) (old : View S V) (id : ℕ) (new : View S V) → IsBlamed m old
-    → ((desk now : DeskView V) → DeskTurns desk now → Rose (desk_faults m desk) (desk_faults m now)) → GoesDown DeskTurns old id new → IsBlamed m new × HasFailedAt (desk_faults m) new.desks id
-down_blamed {S} {V} m DeskTurns old id new is rose (stops.of_client client leaves) =
+pub down_blamed : {S V : Type 0} {were : List ℕ} (m : Meaning S V) (DeskTurns : DeskView V → DeskView V → Type 0) (old : View S V) (id : ℕ) (new : View S V) → IsBlamedSince m were old
+    → ((desk now : DeskView V) → DeskTurns desk now → Rose (desk_faults m desk) (desk_faults m now)) → GoesDown DeskTurns old id new → IsBlamedSince m were new × HasFailedAt (desk_faults m) new.desks id
+down_blamed {S} {V} {were} m DeskTurns old id new is rose (stops.of_client client leaves) =
     (left_blamed m DeskTurns closed_by_crash old id new is (λ desk now at turns. crash_fair m old id desk now at (rose desk now turns)) leaves, left_failed m DeskTurns closed_by_crash old id new rose leaves)
-down_blamed {S} {V} m DeskTurns old id new is rose (stops.of_operator middle operator leaves view) =
+down_blamed {S} {V} {were} m DeskTurns old id new is rose (stops.of_operator middle operator leaves view) =
     let blamed = left_blamed m DeskTurns closed_by_crash old id middle is (λ desk now at turns. crash_fair m old id desk now at (rose desk now turns)) leaves in
     let failed = left_failed m DeskTurns closed_by_crash old id middle rose leaves in
-    (subst (IsBlamed m) (sym view) (broken_blamed m middle blamed (subst (HasFailedAt (desk_faults m) middle.desks) operator failed)), subst (λ (v : View S V). HasFailedAt (desk_faults m) v.desks id) (sym view) failed)
+    (subst (IsBlamedSince m were) (sym view) (broken_blamed m middle blamed (subst (HasFailedAt (desk_faults m) middle.desks) operator failed)), subst (λ (v : View S V). HasFailedAt (desk_faults m) v.desks id) (sym view) failed)

@@ -7,10 +7,12 @@ use Rattle.cas_quorum.specs.declared.era.Era.{Era}
 use Rattle.cas_record.specs.declared.answer.Answer.{Answer}
 use Rattle.cas_record.specs.declared.mark.Mark.{Mark}
 use Rattle.cas_record.specs.declared.operator.OpAnswer.{OpAnswer}
+use Rattle.cas_slot.specs.Ages.{least_age}
 use Rattle.cas_vault.specs.Vault.{disk_of}
 use Rattle.cas_model.specs.Council.{ExchangeView, OrderView, Council}
 use Rattle.cas_model.specs.Eras.Course.{later_of}
 use Rattle.cas_model.specs.History.{IsRemembered}
+use Rattle.cas_model.specs.Parties.{IsAged}
 use Rattle.cas_model.specs.Safe.{IsSafe}
 use Rattle.cas_model.specs.Step.{Event, CrashAcceptor, RestartAcceptor, CrashProposer, RestartProposer}
 use Rattle.cas_model.specs.View.{Meaning, View, CallView, CallerView, IsAt, era_in}
@@ -68,30 +70,34 @@ blame_by_exchange None = Nobody
 blame_by_exchange (Some exchange) = blame_if_broken exchange.crashed
 
 -- ---- who is down
--- an acceptor that is down has failed, or it never started and was never a member
+-- an acceptor that is down has failed, or it never started and was no member since the cluster opened
 abbrev pub IsExcused : {S V : Type 0} → Meaning S V → List ℕ → ℕ → AcceptorView S → Type 0
-IsExcused m used id acceptor = (0 < acceptor_faults m acceptor) ⊎ ((acceptor.started ≡ false) × (has_member used id ≡ false))
+IsExcused m were id acceptor = (0 < acceptor_faults m acceptor) ⊎ ((acceptor.started ≡ false) × (has_member were id ≡ false))
 
 -- the members of an era were members
 abbrev pub WereMembers : List ℕ → Era → Type 0
-WereMembers used era = (acceptor : ℕ) → has_member (union_of era.prep era.acc) acceptor ≡ true → has_member used acceptor ≡ true
+WereMembers were era = (acceptor : ℕ) → has_member (union_of era.prep era.acc) acceptor ≡ true → has_member were acceptor ≡ true
 
 -- ---- the whole
--- Who is down has failed, and who is blamed has, by what was told and by what is marked. Who may be asked was a member.
-pub record AreBlamed {S V : Type 0} (m : Meaning S V) (acceptors : List (AcceptorView S)) (desks : List (DeskView V)) (eras : List Era) (callers : List CallerView) (council : Council) (marks : List Mark) : Type 0 where
-  pub excused : (id : ℕ) (acceptor : AcceptorView S) → IsAt acceptors id acceptor → acceptor.down ≡ true → IsExcused m council.used id acceptor
+-- Who is down has failed, and who is blamed has, by what was told and by what is marked. Who may be asked was a member since the opening.
+pub record AreBlamed {S V : Type 0} (m : Meaning S V) (were : List ℕ) (acceptors : List (AcceptorView S)) (desks : List (DeskView V)) (eras : List Era) (callers : List CallerView) (council : Council) (marks : List Mark) : Type 0 where
+  pub excused : (id : ℕ) (acceptor : AcceptorView S) → IsAt acceptors id acceptor → acceptor.down ≡ true → IsExcused m were id acceptor
   pub failed : (id : ℕ) (desk : DeskView V) → IsAt desks id desk → desk.down ≡ true → 0 < desk_faults m desk
   pub calls : (id : ℕ) (caller : CallerView) → IsAt callers id caller → IsFair m acceptors desks (blame_by_call id caller.call)
   pub order : IsFair m acceptors desks (blame_by_order council.order)
   pub exchange : IsFair m acceptors desks (blame_by_exchange council.exchange)
-  pub used_set : IsMemberSet council.used
-  pub used : (id : ℕ) → WereMembers council.used (era_in eras id)
-  pub later : (era : Era) → Contains (later_of council.plan) era → WereMembers council.used era
-  pub asked : (exchange : ExchangeView) → council.exchange ≡ Some exchange → (acceptor : ℕ) → has_member exchange.members acceptor ≡ true → has_member council.used acceptor ≡ true
+  pub were_set : IsMemberSet were
+  pub in_eras : (id : ℕ) → WereMembers were (era_in eras id)
+  pub later : (era : Era) → Contains (later_of council.plan) era → WereMembers were era
+  pub asked : (exchange : ExchangeView) → council.exchange ≡ Some exchange → (acceptor : ℕ) → has_member exchange.members acceptor ≡ true → has_member were acceptor ≡ true
   pub marked : (mark : Mark) → Contains marks mark → IsFair m acceptors desks (blame_by mark)
 
+abbrev pub IsBlamedSince : {S V : Type 0} → Meaning S V → List ℕ → View S V → Type 0
+IsBlamedSince m were view = AreBlamed m were view.acceptors view.desks view.eras view.callers view.council view.marks
+
+-- some acceptors were members since the cluster opened
 abbrev pub IsBlamed : {S V : Type 0} → Meaning S V → View S V → Type 0
-IsBlamed m view = AreBlamed m view.acceptors view.desks view.eras view.callers view.council view.marks
+IsBlamed m view = (were : List ℕ) × IsBlamedSince m were view
 
 -- The cluster is safe, and nobody was stopped by a call. An exchange asks whom it is to ask, and hears them out. And where shelves and disks
 -- tell what they keep, what was told of a key and to the operator is so.
@@ -112,3 +118,8 @@ AreMembersUp {S} members acceptors = (id : ℕ) (acceptor : AcceptorView S) → 
 
 abbrev pub AreDesksUp : {V : Type 0} → List (DeskView V) → Type 0
 AreDesksUp {V} desks = (id : ℕ) (desk : DeskView V) → IsAt desks id desk → desk.down ≡ false
+
+-- no acceptor that is up asks proposer 0 for more than the age that its vault keeps, wherever it stops
+abbrev pub AreAgesCovered : {S V : Type 0} → Meaning S V → View S V → Type 0
+AreAgesCovered {S} {V} m view = (id : ℕ) (acceptor : AcceptorView S) (desk : DeskView V) → IsAt view.acceptors id acceptor → acceptor.down ≡ false → IsAt view.desks 0 desk
+    → IsAged m.disks (least_age (m.shelves.contents acceptor.shelf).ages 0) desk.vault

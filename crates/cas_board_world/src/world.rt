@@ -3,9 +3,9 @@
 ghost use Rattle.std.specs.Prelude.{◌≡◌, List, ℕ, suc, reverse};
 ghost use Rattle.cas_model_causes.specs.Eras.Tellings.{AreTellingsSo};
 ghost use Rattle.cas_model.specs.SafeLaws.{HasPlaces};
-ghost use Rattle.cas_model.specs.Step.{IsOpening};
+ghost use Rattle.cas_model.specs.Openings.{Opening, IsOpeningOn};
 ghost use Rattle.cas_model.specs.View.{meaning};
-ghost use Rattle.cas_board_world.specs.Steady.{IsBlamed, AreMembersUp, AreDesksUp};
+ghost use Rattle.cas_board_world.specs.Steady.{IsBlamed, AreMembersUp, AreDesksUp, AreAgesCovered};
 
 use cas_disk::Disk;
 use cas_slot::Shelf;
@@ -32,10 +32,13 @@ impl<S: Shelf, V: Disk> Model for SteadyWorld<S, V> {
 }
 
 impl<S: Shelf, V: Disk> SteadyWorld<S, V> {
-    /// A world in which nothing has happened, and the members and the proposers are up.
+    /// A world in which nothing has happened, or nothing but that floors were marked, and the members and the proposers are up. No
+    /// acceptor asks the operator's proposer for more than its age.
     pub fn over(world: World<S, V>) -> SteadyWorld<S, V>
-        requires opening { (members : List ℕ) × IsOpening (meaning S.Shelf V.Disk) members world
+        requires opening { (members used : List ℕ) × (floors : List Opening)
+            × IsOpeningOn (meaning S.Shelf V.Disk) members used floors world
             × AreMembersUp members world.acceptors }
+        requires ages { S.tells → V.tells → AreAgesCovered (meaning S.Shelf V.Disk) world }
         requires places { HasPlaces world }
         requires desks { AreDesksUp world.desks }
         ensures { result ≡ world }

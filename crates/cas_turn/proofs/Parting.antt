@@ -18,11 +18,8 @@ use Rattle.cas_turn.specs.Seen.{Begins, HasSeenOwn, longer_of}
 use Rattle.cas_turn.specs.Rule.{Moment, tickets_of, numbers_of, sat, IsHolder, home_of, SeatKnows, IsUngiven, Learned, LearnedFits, Fits, Kept}
 use Rattle.cas_turn.specs.Steps.{Sat, known_of, stage_of, newcomer, without_next, next_seat, note_of, told, gathered, settled, HeardNote, them_of}
 use Rattle.cas_turn.proofs.Rows.{sum_two}
-use Rattle.cas_turn.proofs.SeenLemmas.{begins_nothing, sees_nothing, sees_begins, sees_longer, learns}
+use Rattle.cas_turn.proofs.SeenLemmas.{begins_nothing, sees_self, sees_begins, sees_longer, learns}
 use Rattle.cas_turn.proofs.Steady.{at_one, at_one_here, at_one_else, moved, holder_stays, cut, joined}
-
-none_some : (n : ℕ) → ◌≡◌ {A = Option ℕ} None (Some n) → ⊥
-none_some n e = cc
 
 module _ {V I : Type 0} (list : V → List I) (owner : I → Option ℕ) (part : V → ℕ → List ℕ) (made_for : V → ℕ) (seats : ℕ) where
   abbrev D : Type 0
@@ -39,7 +36,7 @@ module _ {V I : Type 0} (list : V → List I) (owner : I → Option ℕ) (part :
 
   -- a seat keeps what it knows where desks change for numbers that it does not have
   on_desks : (m : Moment V) (desk : ℕ → ℕ) (j : ℕ) (d : D) → ((n : ℕ) → m.desk n ≡ j → desk n ≡ j) → F m j d → F (record m { desk = desk }) j d
-  on_desks m desk j (Opens next count) keep f = (f.0, λ n le. let g = f.1 n le in record { stands = record { at_desk = keep n g.stands.at_desk; has_seen = g.stands.has_seen }; no_part = g.no_part })
+  on_desks m desk j (Opens next count seen) keep f = (f.0, λ n le. let g = f.1 n le in record { stands = record { at_desk = keep n g.stands.at_desk; has_seen = g.stands.has_seen }; no_part = g.no_part })
   on_desks m desk j (Tells seen) keep f = f
   on_desks m desk j (Sits k Idle learned) keep f = record { stands = record { at_desk = keep k.number f.stands.at_desk; has_seen = f.stands.has_seen }; own_part = f.own_part; for_seats = f.for_seats; stage_fits = tt; learned_fits = f.learned_fits }
   on_desks m desk j (Sits k (Waiting t) learned) keep f = let q = f.stage_fits in record { stands = record { at_desk = keep k.number f.stands.at_desk; has_seen = f.stands.has_seen }; own_part = f.own_part; for_seats = f.for_seats; stage_fits = record { at_queue = q.at_queue; not_served = q.not_served; was_drawn = q.was_drawn }; learned_fits = f.learned_fits }
@@ -47,8 +44,8 @@ module _ {V I : Type 0} (list : V → List I) (owner : I → Option ℕ) (part :
   on_desks m desk j (Gathers them) keep f = All-weaker (λ k. SeatKnows list owner part made_for m.now m.desk j k) (λ k. SeatKnows list owner part made_for m.now desk j k)
       (λ k g. record { stands = record { at_desk = keep k.number g.stands.at_desk; has_seen = g.stands.has_seen }; own_part = g.own_part }) them f
 
-  not_opening : (n count : ℕ) → IsHolder {V = V} {I = I} (Opens n count) → ⊥
-  not_opening n count h = let k' : Known I = h.0 in let t' : ℕ = h.1 in let v' : V = h.2 in let l' : Option (List I × List I) = h.3 in let e : ◌≡◌ {A = D} (Opens n count) (Sits k' (Holding t' v') l') = h.4 in cc
+  not_opening : (n count : ℕ) (seen : List I) → IsHolder {V = V} {I = I} (Opens n count seen) → ⊥
+  not_opening n count seen h = let k' : Known I = h.0 in let t' : ℕ = h.1 in let v' : V = h.2 in let l' : Option (List I × List I) = h.3 in let e : ◌≡◌ {A = D} (Opens n count seen) (Sits k' (Holding t' v') l') = h.4 in cc
 
   not_telling : (seen : List I) → IsHolder {V = V} {I = I} (Tells seen) → ⊥
   not_telling seen h = let k' : Known I = h.0 in let t' : ℕ = h.1 in let v' : V = h.2 in let l' : Option (List I × List I) = h.3 in let e : ◌≡◌ {A = D} (Tells seen) (Sits k' (Holding t' v') l') = h.4 in cc
@@ -60,11 +57,11 @@ module _ {V I : Type 0} (list : V → List I) (owner : I → Option ℕ) (part :
   not_sitting k learned h = let k' : Known I = h.0 in let t' : ℕ = h.1 in let v' : V = h.2 in let l' : Option (List I × List I) = h.3 in let e : ◌≡◌ {A = D} (Sits k Idle learned) (Sits k' (Holding t' v') l') = h.4 in cc
 
   -- the next number is given
-  pub numbers : (id next count : ℕ) → next < seats → Splits Rule id (Opens next count) (without_next (Opens next count)) (next_seat (Opens next count))
-  numbers id next count room s r at = let m = r.moment in let desk : ℕ → ℕ = at_one m.desk next (length s.views) in
-      let f : F m id (Opens next count) = r.each_seat id (Opens next count) at in
-      let g : IsUngiven list owner part made_for m.now m.desk id next = f.1 next (omega arith) in
-      cut list owner part made_for seats s r id (Opens next count) (Opens (next + 1) count) (sat (newcomer count next) Idle) desk at refl (omega arith) (λ h. absurd (not_opening next count h))
+  pub numbers : (id next count : ℕ) (seen : List I) → next < seats → Splits Rule id (Opens next count seen) (without_next (Opens next count seen)) (next_seat (Opens next count seen))
+  numbers id next count seen room s r at = let m = r.moment in let desk : ℕ → ℕ = at_one m.desk next (length s.views) in
+      let f : F m id (Opens next count seen) = r.each_seat id (Opens next count seen) at in
+      let g : IsUngiven list owner part made_for m.now m.desk id next seen = f.1 next (omega arith) in
+      cut list owner part made_for seats s r id (Opens next count seen) (Opens (next + 1) count seen) (sat (newcomer count seen next) Idle) desk at refl (omega arith) (λ h. absurd (not_opening next count seen h))
       (f.0, λ n le. let u = f.1 n (omega arith) in record { stands = record { at_desk = at_one_else m.desk next (length s.views) n (λ e. omega arith) ∙ u.stands.at_desk; has_seen = u.stands.has_seen }; no_part = u.no_part })
       (record { stands = record { at_desk = at_one_here m.desk next (length s.views); has_seen = g.stands.has_seen }; own_part = g.no_part; for_seats = f.0; stage_fits = tt; learned_fits = tt })
       (λ j d other below there x. on_desks m desk j d (λ n e. at_one_else m.desk next (length s.views) n (λ same. other (sym e ∙ (ap m.desk same ∙ g.stands.at_desk))) ∙ e) x)
@@ -132,22 +129,22 @@ module _ {V I : Type 0} (list : V → List I) (owner : I → Option ℕ) (part :
       (begins_nothing (list m.now))
       (λ j d a b c x. on_desks m desk j d (λ n e. at_one_else m.desk k.number id n (λ same. b (sym e ∙ (ap m.desk same ∙ f.stands.at_desk))) ∙ e) x)
 
-  opens_seat : (v : V) → All (λ i. owner i ≡ None) (list v) → ((n : ℕ) → part v n ≡ []) → made_for v ≡ seats → (j : ℕ) (d : D) → get_elem? (Opens 0 seats ∷ []) j ≡ some d → F (record { now = v; out = false; drawn = 0; served = 0; queue = λ _. 0; desk = λ _. 0 }) j d
-  opens_seat v free parts is zero d e = subst (F (record { now = v; out = false; drawn = 0; served = 0; queue = λ _. 0; desk = λ _. 0 }) 0) (some-injective (Opens 0 seats) d e)
-      (is, λ n le. record { stands = record { at_desk = refl; has_seen = sees_nothing owner n (list v) (All-weaker (λ i. owner i ≡ None) (λ i. owner i ≢ Some n) (λ i none owned. none_some n (sym none ∙ owned)) (list v) free) }; no_part = parts n })
-  opens_seat v free parts is (suc j) d e = absurd (some-ne-none d (sym e))
+  opens_seat : (v : V) → ((n : ℕ) → part v n ≡ []) → made_for v ≡ seats → (j : ℕ) (d : D) → get_elem? (Opens 0 seats (list v) ∷ []) j ≡ some d → F (record { now = v; out = false; drawn = 0; served = 0; queue = λ _. 0; desk = λ _. 0 }) j d
+  opens_seat v parts is zero d e = subst (F (record { now = v; out = false; drawn = 0; served = 0; queue = λ _. 0; desk = λ _. 0 }) 0) (some-injective (Opens 0 seats (list v)) d e)
+      (is, λ n le. record { stands = record { at_desk = refl; has_seen = sees_self owner n (list v) }; no_part = parts n })
+  opens_seat v parts is (suc j) d e = absurd (some-ne-none d (sym e))
 
   -- a value is under the rule at the start
-  pub opens : (v : V) → All (λ i. owner i ≡ None) (list v) → ((n : ℕ) → part v n ≡ []) → made_for v ≡ seats → Rule (opening (0 ∷ 0 ∷ length (list v) ∷ []) (Some v ∷ []) (Opens 0 seats))
-  opens v free parts is = record {
+  pub opens : (v : V) → ((n : ℕ) → part v n ≡ []) → made_for v ≡ seats → Rule (opening (0 ∷ 0 ∷ length (list v) ∷ []) (Some v ∷ []) (Opens 0 seats (list v)))
+  opens v parts is = record {
     moment = record { now = v; out = false; drawn = 0; served = 0; queue = λ _. 0; desk = λ _. 0 };
     words = refl;
     homes = refl;
-    tickets = (let t = sum_by-cons {X = D} tickets_of (Opens 0 seats) [] in omega arith);
-    numbers = (let t = sum_by-cons {X = D} (numbers_of seats) (Opens 0 seats) [] in omega arith);
+    tickets = (let t = sum_by-cons {X = D} tickets_of (Opens 0 seats (list v)) [] in omega arith);
+    numbers = (let t = sum_by-cons {X = D} (numbers_of seats) (Opens 0 seats (list v)) [] in omega arith);
     for_seats = is;
     holder = λ (e : false ≡ true). absurd (cc);
-    each_seat = opens_seat v free parts is;
+    each_seat = opens_seat v parts is;
   }
 
   -- with all numbers, the seat that closes the turn knows that the value is at home
@@ -195,8 +192,8 @@ module _ {V I : Type 0} (list : V → List I) (owner : I → Option ℕ) (part :
       → Allows Rule slots id before 2 (λ n. n) (settled list owner part made_for (step slots 2 0 0 none) before)
   settles_at slots id me before theirs told = settles slots id before (record (known_of me.0) { seen = longer_of (known_of me.0).seen theirs }) (stage_of me.0) (Some ((known_of me.0).seen, theirs)) (ap (λ (x : Sat V I). x.0) told)
 
-  pub numbers_at : (id next count : ℕ) (v : D) → v ≡ Opens next count → next < seats → Splits Rule id v (without_next v) (next_seat v)
-  numbers_at id next count v is room = subst (λ (x : D). Splits Rule id x (without_next x) (next_seat x)) (sym is) (numbers id next count room)
+  pub numbers_at : (id next count : ℕ) (seen : List I) (v : D) → v ≡ Opens next count seen → next < seats → Splits Rule id v (without_next v) (next_seat v)
+  numbers_at id next count seen v is room = subst (λ (x : D). Splits Rule id x (without_next x) (next_seat x)) (sym is) (numbers id next count seen room)
 
   pub gathers_at : (id other : ℕ) (v w : D) (k : Known I) → v ≡ Gathers (them_of v) → w ≡ sat k Idle → Joins Rule id v other w (gathered v w) (Tells [])
   gathers_at id other v w k is seat = subst (λ (x : D × D). Joins Rule id x.0 other x.1 (gathered x.0 x.1) (Tells [])) (λ i. (sym is i, sym seat i)) (gathers id other (them_of v) k)

@@ -29,9 +29,9 @@ module _ {V I : Type 0} where
       (h.0, h.1, ap (λ (x : View V I). (x, me.1)) view ∙ h.2)
 
   -- the seats of a new turn, with one more
-  pub fresh_more : (turn : TurnId) (count n : ℕ) (before after : List (Sitting V I)) (s : Sitting V I) → after ≡ before ++ s ∷ [] → before ≡ first_seats turn count n → s ≡ fresh_seat turn count n
-      → after ≡ first_seats turn count (n + 1)
-  fresh_more turn count n before after s pushed given is = pushed ∙ ((λ i. given i ++ is i ∷ []) ∙ sym (map-range_with_len_more (fresh_seat turn count) 0 n n (omega arith)))
+  pub fresh_more : (turn : TurnId) (count : ℕ) (seen : List I) (n : ℕ) (before after : List (Sitting V I)) (s : Sitting V I) → after ≡ before ++ s ∷ [] → before ≡ first_seats turn count seen n → s ≡ fresh_seat turn count seen n
+      → after ≡ first_seats turn count seen (n + 1)
+  fresh_more turn count seen n before after s pushed given is = pushed ∙ ((λ i. given i ++ is i ∷ []) ∙ sym (map-range_with_len_more (fresh_seat turn count seen) 0 n n (omega arith)))
 
   idle_by_stage : (k : Known I) (stage : Stage V) (slots : List (ℕ × Option V)) → SlotFits stage slots → held_by stage ≡ None → ◌≡◌ {A = Sat V I} (sat k stage, slots) (idle k)
   idle_by_stage k Idle slots fits none = ap (λ (x : List (ℕ × Option V)). (sat k Idle, x)) fits
@@ -69,5 +69,5 @@ module _ {V I : Type 0} where
   them_in me them is = ap (λ (m : Sat V I). them_of m.0) is
 
   -- each seat of a new turn is that turn's, and holds nothing
-  pub fresh_all : (turn : TurnId) (count : ℕ) → All (λ (s : Sitting V I). (s.turn ≡ turn) × (s.holds ≡ None)) (fresh_seats turn count)
-  fresh_all turn count = All-map (λ (s : Sitting V I). (s.turn ≡ turn) × (s.holds ≡ None)) (fresh_seat turn count) (range_with_len 0 count) (λ k d _. (refl, refl))
+  pub fresh_all : (turn : TurnId) (count : ℕ) (seen : List I) → All (λ (s : Sitting V I). (s.turn ≡ turn) × (s.holds ≡ None)) (fresh_seats turn count seen)
+  fresh_all turn count seen = All-map (λ (s : Sitting V I). (s.turn ≡ turn) × (s.holds ≡ None)) (fresh_seat turn count seen) (range_with_len 0 count) (λ k d _. (refl, refl))

@@ -59,9 +59,6 @@ module _ {I : Type 0} (owner : I → Option ℕ) (n : ℕ) where
   pub sees_self : (l : List I) → HasSeenOwn owner n l l
   sees_self l = record { behind = []; whole = append_nil l; none_own = All-nil others }
 
-  pub sees_nothing : (l : List I) → NoneOwned owner n l → HasSeenOwn owner n [] l
-  sees_nothing l none = record { behind = l; whole = refl; none_own = none }
-
   pub sees_begins : (a l : List I) → HasSeenOwn owner n a l → Begins a l
   sees_begins a l h = record { behind = h.behind; whole = h.whole }
 

@@ -42,7 +42,7 @@ module _ {V I : Type 0} (list : V → List I) (owner : I → Option ℕ) (part :
       → ((t : ℕ) → StageFits list owner part made_for m j (Waiting t) → StageFits list owner part made_for (record { now = m.now; out = out; drawn = drawn; served = served; queue = queue; desk = m.desk }) j (Waiting t))
       → ((t : ℕ) (v : V) → StageFits list owner part made_for m j (Holding t v) → StageFits list owner part made_for (record { now = m.now; out = out; drawn = drawn; served = served; queue = queue; desk = m.desk }) j (Holding t v))
       → F m j d → F (record { now = m.now; out = out; drawn = drawn; served = served; queue = queue; desk = m.desk }) j d
-  on_stages m out drawn served queue j (Opens n count) waits holds f = f
+  on_stages m out drawn served queue j (Opens n count seen) waits holds f = f
   on_stages m out drawn served queue j (Tells seen) waits holds f = f
   on_stages m out drawn served queue j (Sits k Idle learned) waits holds f = record { stands = f.stands; own_part = f.own_part; for_seats = f.for_seats; stage_fits = tt; learned_fits = f.learned_fits }
   on_stages m out drawn served queue j (Sits k (Waiting t) learned) waits holds f = record { stands = f.stands; own_part = f.own_part; for_seats = f.for_seats; stage_fits = waits t f.stage_fits; learned_fits = f.learned_fits }

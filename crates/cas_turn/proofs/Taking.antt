@@ -36,7 +36,7 @@ same_slot {V} w u e = let e' : Some w ≡ Some u = ap inner e in cc
 module _ {V I : Type 0} where
   -- a seat with a ticket has a number
   light : (n : ℕ) (d : View V I) → tickets_of d ≤ numbers_of n d
-  light n (Opens next count) = omega arith
+  light n (Opens next count seen) = omega arith
   light n (Tells seen) = omega arith
   light n (Sits k stage learned) = stage_light stage
   light n (Gathers them) = omega arith
@@ -162,7 +162,7 @@ module _ {V I : Type 0} (list : V → List I) (owner : I → Option ℕ) (part :
     grown = record { now = w; out = m.out; drawn = m.drawn; served = m.served; queue = m.queue; desk = m.desk }
 
     fits_on : (j : ℕ) (d : D) → j ≢ me → m.queue m.served ≡ me → F m j d → F grown j d
-    fits_on j (Opens next count) other holds f = (still ∙ f.0, λ n le. let g = f.1 n le in record { stands = stands_on j n [] other g.stands; no_part = parts n (elsewhere j n other g.stands.at_desk) ∙ g.no_part })
+    fits_on j (Opens next count seen) other holds f = (still ∙ f.0, λ n le. let g = f.1 n le in record { stands = stands_on j n seen other g.stands; no_part = parts n (elsewhere j n other g.stands.at_desk) ∙ g.no_part })
     fits_on j (Tells seen) other holds f = subst (Begins seen) whole (begins_grows seen (list m.now) new f)
     fits_on j (Sits k Idle learned) other holds f = record { stands = stands_on j k.number k.seen other f.stands; own_part = parts k.number (elsewhere j k.number other f.stands.at_desk) ∙ f.own_part; for_seats = still ∙ f.for_seats; stage_fits = tt; learned_fits = f.learned_fits }
     fits_on j (Sits k (Waiting t) learned) other holds f = let q = f.stage_fits in record { stands = stands_on j k.number k.seen other f.stands; own_part = parts k.number (elsewhere j k.number other f.stands.at_desk) ∙ f.own_part; for_seats = still ∙ f.for_seats; stage_fits = record { at_queue = q.at_queue; not_served = q.not_served; was_drawn = q.was_drawn }; learned_fits = f.learned_fits }

@@ -37,14 +37,14 @@ module _ {V I : Type 0} where
 
   -- 1 for a seat that has a ticket
   abbrev pub tickets_of : View V I → ℕ
-  tickets_of (Opens n count) = 0
+  tickets_of (Opens n count seen) = 0
   tickets_of (Tells seen) = 0
   tickets_of (Sits k stage learned) = stage_weight stage
   tickets_of (Gathers them) = 0
 
   -- how many of the numbers below `seats` a seat has
   abbrev pub numbers_of : ℕ → View V I → ℕ
-  numbers_of seats (Opens n count) = seats - n
+  numbers_of seats (Opens n count seen) = seats - n
   numbers_of seats (Tells seen) = 0
   numbers_of seats (Sits k stage learned) = 1
   numbers_of seats (Gathers them) = length them
@@ -69,9 +69,9 @@ module _ {V I : Type 0} (list : V → List I) (owner : I → Option ℕ) (part :
     pub stands : SeatStands now desk me k.number k.seen
     pub own_part : part now k.number ≡ k.own
 
-  -- a number that was not given owns nothing yet
-  pub record IsUngiven (now : V) (desk : ℕ → ℕ) (me n : ℕ) : Type 0 where
-    pub stands : SeatStands now desk me n []
+  -- a number that was not given has seen what the first seats see, and has no part yet
+  pub record IsUngiven (now : V) (desk : ℕ → ℕ) (me n : ℕ) (seen : List I) : Type 0 where
+    pub stands : SeatStands now desk me n seen
     pub no_part : part now n ≡ []
 
   -- a ticket is one of those that are drawn and not served
@@ -114,7 +114,7 @@ module _ {V I : Type 0} (list : V → List I) (owner : I → Option ℕ) (part :
 
   -- what is true of any seat
   abbrev pub Fits : Moment V → ℕ → View V I → Type 0
-  Fits m me (Opens next count) = (made_for m.now ≡ count) × ((n : ℕ) → next ≤ n → IsUngiven m.now m.desk me n)
+  Fits m me (Opens next count seen) = (made_for m.now ≡ count) × ((n : ℕ) → next ≤ n → IsUngiven m.now m.desk me n seen)
   Fits m me (Tells seen) = Begins seen (list m.now)
   Fits m me (Sits k stage learned) = SeatFits m me k stage learned
   Fits m me (Gathers them) = All (λ k. SeatKnows m.now m.desk me k) them

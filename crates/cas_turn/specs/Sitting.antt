@@ -21,17 +21,17 @@ pub record Sitting (V I : Type 0) : Type 0 where
   -- the part of the value that is its number's own, as it left it
   pub own : List ℕ
 
--- a seat of a new turn that has so many
-abbrev pub fresh_seat : {V I : Type 0} → TurnId → ℕ → ℕ → Sitting V I
-fresh_seat turn count n = record { turn = turn; number = n; seats = count; holds = None; seen = []; own = [] }
+-- a seat of a new turn that has so many, around a value with this list
+abbrev pub fresh_seat : {V I : Type 0} → TurnId → ℕ → List I → ℕ → Sitting V I
+fresh_seat turn count seen n = record { turn = turn; number = n; seats = count; holds = None; seen = seen; own = [] }
 
 -- the first seats of a new turn, in order
-abbrev pub first_seats : {V I : Type 0} → TurnId → ℕ → ℕ → List (Sitting V I)
-first_seats turn count given = map (fresh_seat turn count) (range_with_len 0 given)
+abbrev pub first_seats : {V I : Type 0} → TurnId → ℕ → List I → ℕ → List (Sitting V I)
+first_seats turn count seen given = map (fresh_seat turn count seen) (range_with_len 0 given)
 
 -- all of them
-abbrev pub fresh_seats : {V I : Type 0} → TurnId → ℕ → List (Sitting V I)
-fresh_seats turn count = first_seats turn count count
+abbrev pub fresh_seats : {V I : Type 0} → TurnId → ℕ → List I → List (Sitting V I)
+fresh_seats turn count seen = first_seats turn count seen count
 
 -- a turn as its user sees it: which one it is, and how many seats it gave out
 pub record Turning : Type 0 where

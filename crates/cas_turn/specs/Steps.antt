@@ -16,9 +16,9 @@ use Rattle.cas_turn.specs.Sitting.{Sitting}
 abbrev pub Sat : Type 0 → Type 0 → Type 0
 Sat V I = Me (Option V) (View V I)
 
--- one of so many numbers, which has seen nothing and owns nothing
-abbrev pub newcomer : {I : Type 0} → ℕ → ℕ → Known I
-newcomer count n = record { number = n; seats = count; seen = []; own = [] }
+-- one of so many numbers, which has seen this and has no part
+abbrev pub newcomer : {I : Type 0} → ℕ → List I → ℕ → Known I
+newcomer count seen n = record { number = n; seats = count; seen = seen; own = [] }
 
 -- the ticket of a seat that waits or holds
 abbrev pub ticket_of : {V : Type 0} → Stage V → ℕ
@@ -30,13 +30,13 @@ module _ {V I : Type 0} where
   -- what a seat with a number knows for it
   abbrev pub known_of : View V I → Known I
   known_of (Sits k stage learned) = k
-  known_of (Opens n count) = newcomer 0 0
-  known_of (Tells seen) = newcomer 0 0
-  known_of (Gathers them) = newcomer 0 0
+  known_of (Opens n count seen) = newcomer 0 [] 0
+  known_of (Tells seen) = newcomer 0 [] 0
+  known_of (Gathers them) = newcomer 0 [] 0
 
   abbrev pub stage_of : View V I → Stage V
   stage_of (Sits k stage learned) = stage
-  stage_of (Opens n count) = Idle
+  stage_of (Opens n count seen) = Idle
   stage_of (Tells seen) = Idle
   stage_of (Gathers them) = Idle
 
@@ -84,14 +84,14 @@ module _ {V I : Type 0} where
 
   -- the next number comes off the seat that has all from there on
   abbrev pub without_next : View V I → View V I
-  without_next (Opens n count) = Opens (n + 1) count
+  without_next (Opens n count seen) = Opens (n + 1) count seen
   without_next (Tells seen) = Tells seen
   without_next (Sits k stage learned) = Sits k stage learned
   without_next (Gathers them) = Gathers them
 
   -- the seat of that number
   abbrev pub next_seat : View V I → View V I
-  next_seat (Opens n count) = sat (newcomer count n) Idle
+  next_seat (Opens n count seen) = sat (newcomer count seen n) Idle
   next_seat (Tells seen) = Tells []
   next_seat (Sits k stage learned) = Tells []
   next_seat (Gathers them) = Tells []
@@ -104,7 +104,7 @@ module _ {V I : Type 0} where
   abbrev pub told : View V I → View V I → View V I
   told (Sits k stage learned) (Tells theirs) = Sits (record k { seen = longer_of k.seen theirs }) stage (Some (k.seen, theirs))
   told (Sits k stage learned) w = Sits k stage learned
-  told (Opens n count) w = Opens n count
+  told (Opens n count seen) w = Opens n count seen
   told (Tells seen) w = Tells seen
   told (Gathers them) w = Gathers them
 
@@ -113,7 +113,7 @@ module _ {V I : Type 0} where
   gathered (Gathers them) (Sits k stage learned) = Gathers (k ∷ them)
   gathered (Gathers them) w = Gathers them
   gathered (Sits k stage learned) w = Sits k stage learned
-  gathered (Opens n count) w = Opens n count
+  gathered (Opens n count seen) w = Opens n count seen
   gathered (Tells seen) w = Tells seen
 
 -- a place at a table of this shape
@@ -171,6 +171,6 @@ known_by s = record { number = s.number; seats = s.seats; seen = s.seen; own = s
 -- what a seat that closes the turn took in
 abbrev pub them_of : {V I : Type 0} → View V I → List (Known I)
 them_of (Gathers them) = them
-them_of (Opens n count) = []
+them_of (Opens n count seen) = []
 them_of (Tells seen) = []
 them_of (Sits k stage learned) = []

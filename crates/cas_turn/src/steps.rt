@@ -26,7 +26,7 @@ fn draw<V: Grows>(top: &Top<V>, place: &mut Place<V>) -> u64
 /// Waits until the ticket is served, and takes the value then.
 fn wait<V: Grows, R: Wait>(rt: &R, top: &Top<V>, place: &mut Place<V>, ticket: u64)
     requires table { IsPlaceOf top.now.table_id place.old }
-    requires few { top.now.key < 2 ^ 32 }
+    requires few { top.now.key.seats < 2 ^ 32 }
     requires waits { IsWaiting place.old.me (known_of place.old.me.0) ticket }
     ensures same { IsSamePlace place.old place.new }
     ensures took { (v : V) × Took V.list V.owner V.part V.seats place.old.me place.new.me v }
@@ -111,7 +111,7 @@ fn leave<V: Grows>(top: &Top<V>, place: &mut Place<V>)
 /// Waits for the seat's turn, and takes the value out.
 pub(crate) fn take_turn<V: Grows, R: Wait>(rt: &R, top: &Top<V>, place: &mut Place<V>) -> V
     requires table { IsPlaceOf top.now.table_id place.old }
-    requires few { top.now.key < 2 ^ 32 }
+    requires few { top.now.key.seats < 2 ^ 32 }
     requires idle { place.old.me ≡ idle (known_of place.old.me.0) }
     ensures same { IsSamePlace place.old place.new }
     ensures holds { place.new.me ≡ holding (known_from V.list V.owner V.part V.seats

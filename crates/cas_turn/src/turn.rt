@@ -22,7 +22,7 @@ impl<V: Grows> Model for Turn<V> {
 
     ghost Value = { Turning };
 
-    ghost view = { λ t. record { id = t.board.shared.table_id; seats = t.board.shared.key } };
+    ghost view = { λ t. record { id = t.board.shared.table_id; seats = t.board.shared.key.seats } };
 
-    ghost invariant = { λ t. (t.board.shared.table_id.words ≡ 3) × (t.board.shared.table_id.slots ≡ 1) × (0 < t.board.shared.key) × (t.board.shared.key < 2 ^ 32) };
+    ghost invariant = { λ t. (t.board.shared.table_id.words ≡ 3) × (t.board.shared.table_id.slots ≡ 1) × (0 < t.board.shared.key.seats) × (t.board.shared.key.seats < 2 ^ 32) };
 }

@@ -22,8 +22,8 @@ pub struct Known<I> {
 }
 
 pub enum View<V, I> {
-    /// The seat that makes the numbered ones, and has all numbers from the first on, of so many.
-    Opens(u64, u64),
+    /// The seat that makes the numbered ones, and has all numbers from the first on, of so many. Each of them has seen this.
+    Opens(u64, u64, LinkedList<I>),
     /// A note, which tells another seat what was seen. It has no number.
     Tells(LinkedList<I>),
     /// A seat with a number. After it took in a note it has the two lists that it then knew, its own first.

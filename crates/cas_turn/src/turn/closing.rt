@@ -55,8 +55,8 @@ fn gather_all<V: Grows>(top: &Top<V>, gatherer: &mut Place<V>, mut seats: Vec<Se
 fn value_at_home<V: Grows>(board: Board<V>, gatherer: Place<V>) -> V
     requires table { IsPlaceOf board.shared.table_id gatherer }
     requires gathers { gatherer.me ≡ (Gathers (them_of gatherer.me.0), []) }
-    requires all { length (them_of gatherer.me.0) ≡ board.shared.key }
-    ensures seats { V.seats result ≡ board.shared.key }
+    requires all { length (them_of gatherer.me.0) ≡ board.shared.key.seats }
+    ensures seats { V.seats result ≡ board.shared.key.seats }
     ensures them { All (λ k. HasSeenOwn V.owner k.number k.seen (V.list result)
         × (V.part result k.number ≡ k.own)) (them_of gatherer.me.0) }
 {

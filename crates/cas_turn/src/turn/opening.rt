@@ -1,5 +1,5 @@
 //! A turn is made, with its seats.
-ghost use Rattle.std.specs.Prelude.{◌≡◌, ℕ, ◌+◌, ◌<◌, ◌≤◌, ◌^◌, List, [], ◌∷◌, length, All, Some, None, IfOk, IfErr, vec_len, vec_capacity};
+ghost use Rattle.std.specs.Prelude.{◌≡◌, ℕ, ◌+◌, ◌<◌, ◌≤◌, ◌^◌, List, [], ◌∷◌, Some, IfOk, IfErr, vec_len, vec_capacity};
 ghost use Rattle.cas_turn.specs.declared.view.View.TheVariants.{Opens};
 ghost use Rattle.cas_turn.specs.Sitting.{fresh_seat, fresh_seats};
 ghost use Rattle.cas_turn.specs.Steps.{IsPlaceOf, IsSamePlace};
@@ -7,10 +7,11 @@ ghost use Rattle.cas_turn.specs.Steps.{IsPlaceOf, IsSamePlace};
 use super::Turn;
 use crate::grows::Grows;
 use crate::plays::Number;
-use crate::rule::{Board, Place, Top};
+use crate::rule::{Board, Place, Start, Top};
 use crate::seat::Seat;
 use atomic_table::{Refused, Table};
 use std::alloc::{AllocError, Global};
+use std::snapshot::Snapshot;
 
 /// The value of a table that was not made.
 fn value_of<V: Grows>(mut slots: Vec<Option<V>>) -> V
@@ -30,21 +31,21 @@ fn board_of<V: Grows>(
     value: V,
     seats: u32,
 ) -> Result<(Board<V>, Place<V>), (AllocError, V)>
-    requires unowned { All (λ i. V.owner i ≡ None) (V.list value) }
     requires no_parts { (n : ℕ) → V.part value n ≡ [] }
     requires seats { V.seats value ≡ seats }
     ensures board { IfOk result (λ b. IsPlaceOf b.0.shared.table_id b.1
-        × (b.0.shared.key ≡ seats)) }
-    ensures place { IfOk result (λ b. b.1.me ≡ (Opens 0 seats, [])) }
+        × (b.0.shared.key.seats ≡ seats) × (b.0.shared.key.opened.value ≡ value)) }
+    ensures place { IfOk result (λ b. b.1.me ≡ (Opens 0 seats (V.list value), [])) }
     ensures err { IfErr result (λ e. e.1 ≡ value) }
 {
     let words = [0, 0, value.items()];
+    let opened = Snapshot::of(&value);
     let mut slots = match Vec::with_capacity(alloc, 1) {
         Ok(slots) => slots,
         Err(error) => return Err((error, value)),
     };
     slots.push_reserved(Some(value));
-    match Table::new(alloc, &words, slots, &seats) {
+    match Table::new(alloc, &words, slots, &Start { seats, opened }) {
         Ok(made) => Ok(made),
         Err(Refused { slots }) => Err((AllocError, value_of(slots))),
     }
@@ -53,11 +54,14 @@ fn board_of<V: Grows>(
 /// The seat of the next number.
 fn next_seat<V: Grows>(top: &Top<V>, opener: &mut Place<V>, number: u32) -> Seat<V>
     requires table { IsPlaceOf top.now.table_id opener.old }
-    requires opens { opener.old.me ≡ (Opens number top.now.key, []) }
-    requires room { number < top.now.key }
+    requires opens { opener.old.me
+        ≡ (Opens number top.now.key.seats (V.list top.now.key.opened.value), []) }
+    requires room { number < top.now.key.seats }
     ensures same { IsSamePlace opener.old opener.new }
-    ensures opens { opener.new.me ≡ (Opens (number + 1) top.now.key, []) }
-    ensures seat { result ≡ fresh_seat top.now.table_id top.now.key number }
+    ensures opens { opener.new.me
+        ≡ (Opens (number + 1) top.now.key.seats (V.list top.now.key.opened.value), []) }
+    ensures seat { result ≡ fresh_seat top.now.table_id
+        top.now.key.seats (V.list top.now.key.opened.value) number }
 {
     Seat {
         place: top.split_seat::<Number>(opener),
@@ -73,10 +77,11 @@ fn seats_of<V: Grows>(
     count: u32,
 ) -> Vec<Seat<V>>
     requires table { IsPlaceOf top.now.table_id opener }
-    requires opens { opener.me ≡ (Opens 0 count, []) }
-    requires count { count ≡ top.now.key }
+    requires opens { opener.me ≡ (Opens 0 count (V.list top.now.key.opened.value), []) }
+    requires count { count ≡ top.now.key.seats }
     requires room { (room.items ≡ []) × (vec_len room ≡ 0) × (count ≤ vec_capacity room) }
-    ensures seats { result.items ≡ fresh_seats top.now.table_id count }
+    ensures seats { result.items
+        ≡ fresh_seats top.now.table_id count (V.list top.now.key.opened.value) }
     ensures count { vec_len result ≡ count }
     ensures room { vec_capacity result ≡ vec_capacity room }
 {
@@ -88,7 +93,7 @@ fn seats_of<V: Grows>(
 }
 
 impl<V: Grows> Turn<V> {
-    /// A turn round the value, and its seats, with the numbers from 0 in order.
+    /// A turn round the value, and its seats, with the numbers from 0 in order. Each seat has seen the value's list.
     ///
     /// The list of seats has room for just them, so they can be taken out and handed back without memory. Without memory
     /// the value comes back as it was.
@@ -98,11 +103,10 @@ impl<V: Grows> Turn<V> {
         seats: u32,
     ) -> Result<(Turn<V>, Vec<Seat<V>>), (AllocError, V)>
         requires some { 1 ≤ seats }
-        requires unowned { All (λ i. V.owner i ≡ None) (V.list value) }
         requires no_parts { (n : ℕ) → V.part value n ≡ [] }
         requires seats { V.seats value ≡ seats }
         ensures count { IfOk result (λ t. (t.0.seats ≡ seats) × (vec_len t.1 ≡ seats)) }
-        ensures seats { IfOk result (λ t. t.1.items ≡ fresh_seats t.0.id seats) }
+        ensures seats { IfOk result (λ t. t.1.items ≡ fresh_seats t.0.id seats (V.list value)) }
         ensures room { IfOk result (λ t. vec_capacity t.1 ≡ seats) }
         ensures err { IfErr result (λ e. e.1 ≡ value) }
     {

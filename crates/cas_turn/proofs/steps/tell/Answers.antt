@@ -22,14 +22,14 @@ load-requires g c = let t = c.requires.table in let n = c.split_seat-note.ensure
   search rules,
   search rules,
   settles_at g.V.Grows.list g.V.Grows.owner g.V.Grows.part g.V.Grows.seats _ _ _ c.args.to.now.me _ _
-      (told_is g.V.Grows.list g.V.Grows.owner g.V.Grows.part g.V.Grows.seats c.args.top.now.key c.args.to.now.me c.split_seat-note.result.me c.join_seat.new.seat.me _ c.requires.seats.1 n.4 j.2),
+      (told_is g.V.Grows.list g.V.Grows.owner g.V.Grows.part g.V.Grows.seats c.args.top.now.key.seats c.args.to.now.me c.split_seat-note.result.me c.join_seat.new.seat.me _ c.requires.seats.1 n.4 j.2),
 )
 
 pub returns : goal.returns
 returns g c = let t = c.requires.table in let n = c.split_seat-note.ensures in let j = c.join_seat.ensures in let l = c.load.ensures in record {
   same = (record { table = search rules; place = search rules }, record { table = search rules; place = search rules });
   from = n.2;
-  to = hears g.V.Grows.list g.V.Grows.owner g.V.Grows.part g.V.Grows.seats c.args.top.now.key (step 0 0 0 0 none) 0 c.args.to.now.me _ _ _
-      (told_is g.V.Grows.list g.V.Grows.owner g.V.Grows.part g.V.Grows.seats c.args.top.now.key c.args.to.now.me c.split_seat-note.result.me c.join_seat.new.seat.me _ c.requires.seats.1 n.4 j.2)
+  to = hears g.V.Grows.list g.V.Grows.owner g.V.Grows.part g.V.Grows.seats c.args.top.now.key.seats (step 0 0 0 0 none) 0 c.args.to.now.me _ _ _
+      (told_is g.V.Grows.list g.V.Grows.owner g.V.Grows.part g.V.Grows.seats c.args.top.now.key.seats c.args.to.now.me c.split_seat-note.result.me c.join_seat.new.seat.me _ c.requires.seats.1 n.4 j.2)
       l.2;
 }

@@ -7,4 +7,4 @@ use Rattle.cas_turn.proofs.SeatedLemmas.{fresh_all}
 use Rattle.cas_turn.proofs.tests.tally_of.Goals as goal
 
 pub hold_in_threads-requires-clause-idle : goal.hold_in_threads-requires-clause-idle
-hold_in_threads-requires-clause-idle g c = λ κs lives. All-same (λ (s : Sitting Tally ℕ). (s.turn ≡ c.in-Ok.made.0.id) × (s.holds ≡ None)) _ _ (c.as_mut_slice.ensures.value ∙ c.in-Ok.ensures.seats) (fresh_all _ _)
+hold_in_threads-requires-clause-idle g c = λ κs lives. All-same (λ (s : Sitting Tally ℕ). (s.turn ≡ c.in-Ok.made.0.id) × (s.holds ≡ None)) _ _ (c.as_mut_slice.ensures.value ∙ c.in-Ok.ensures.seats) (fresh_all _ _ _)
