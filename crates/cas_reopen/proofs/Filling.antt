@@ -93,23 +93,25 @@ module _ {D : Type 0} (m : RackMeaning D) (old : List D) where
       (subst (λ (b : Bool). IsFoundFilled m b was now) (sym (before.none place (omega arith))) empty))
 
   -- the next gave no length
-  pub one_gives_none : (n place : ℕ) (all : List D) (found : List ℕ) (fault : FilledFault) (was now : D) → n ≡ place → place < length all → was ≡ slice_index_or all n was → FoundBelow m old
+  pub one_gives_none : (first n place : ℕ) (all : List D) (found : List ℕ) (fault : FilledFault) (was now : D) → n ≡ place → place < length all → was ≡ slice_index_or all n was → FoundBelow m old
       place found all
-      → fault.disk ≡ place → GivesNoLength m fault.fault was now → OneGivesNoLength m fault old (slice_set all n now)
-  one_gives_none n place all found fault was now same low is before number why = subst (λ (i : ℕ). OneGivesNoLength m fault old (slice_set all i now)) (sym same) (record {
+      → fault.disk ≡ first + place → GivesNoLength m fault.fault was now → OneGivesNoLength m first fault old (slice_set all n now)
+  one_gives_none first n place all found fault was now same low is before number why = subst (λ (i : ℕ). OneGivesNoLength m first fault old (slice_set all i now)) (sym same) (record {
+    place = place;
+    number = number;
     places = length-set all place now ∙ before.places;
     before = λ id x below at_x. elim (but_set all place now id x at_x) [
-      | inl here ↦ absurd (omega (arith, below, number, here.0))
-      | inr there ↦ let it = before.each id x (omega (arith, below, number)) there.1 in (it.0, it.1, it.2.asked)
+      | inl here ↦ absurd (omega (arith, below, here.0))
+      | inr there ↦ let it = before.each id x below there.1 in (it.0, it.1, it.2.asked)
     ];
     was = was;
-    at_was = subst (λ (i : ℕ). IsAt old i was) (sym number) (before.others place was (omega arith) at);
+    at_was = before.others place was (omega arith) at;
     now = now;
-    at_now = subst (λ (i : ℕ). IsAt (slice_set all place now) i now) (sym number) (at_set all place was now at);
+    at_now = at_set all place was now at;
     why = why;
     others = λ id x above at_x. elim (but_set all place now id x at_x) [
-      | inl here ↦ absurd (omega (arith, above, number, here.0))
-      | inr there ↦ before.others id x (omega (arith, above, number)) there.1
+      | inl here ↦ absurd (omega (arith, above, here.0))
+      | inr there ↦ before.others id x (omega (arith, above)) there.1
     ];
   })
     where

@@ -74,6 +74,8 @@ module _ {S : Type 0} (tells : Type 0) (is_up : S → Type 0) (contents : S → 
         rose_since (fault_count was) (fault_count m.0) (fault_count now) (leaves.each disk was m.0 why.0 at_was m.1).never_falls (why.1 m.0 now m.1 at_now),
   )
   why_then new reopen.NoMemory places why = tt
+  why_then new (reopen.LostDisk disk) places why = absurd why
+  why_then new (reopen.Spent disk) places why = absurd why
 
 -- ---- one that is refused
 refused_by : {S : Type 0} (tells : Type 0) (contents : S → Contents) (may_leave : S → Left → Type 0) (fault_count : S → ℕ) (members : List ℕ) (old new : List S) (fault : RestoreFault)

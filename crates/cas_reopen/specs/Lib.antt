@@ -1,5 +1,10 @@
+pub mod Again
+pub mod Closed
 pub mod Faults
 pub mod Filled
 pub mod Floors
+pub mod Opened
+pub mod Ready
 pub mod Shelves
 pub mod Standing
+pub mod Starting

@@ -8,9 +8,14 @@ mod fault;
 mod floors;
 mod laws;
 mod lengths;
+mod rack;
+mod ready;
 mod shelves;
 
 pub use fault::ReopenFault;
-pub use laws::{closed_stores_go_on, settled_is_held_between, settled_stands_at_floors};
+pub use laws::{
+    closed_stores_go_on, reopened_stores_go_on, settled_is_held_between, settled_stands_at_floors,
+};
 pub use lengths::{FilledFault, filled};
+pub use rack::{first_members, open_rack};
 pub use shelves::{Restored, restore_shelves};

@@ -3,6 +3,7 @@
 ghost use Rattle.std.specs.Prelude.{◌≡◌, ◌≤◌, vec_len, IfOk, IfErr};
 ghost use Rattle.cas_reopen.specs.Faults.{IsWhyNotRestored, IsWhyNotSettled};
 ghost use Rattle.cas_reopen.specs.Shelves.{AreFoundOn, AreRestored, AreSettled, StopsWithinGiving, StaysWithin};
+ghost use Rattle.cas_reopen.specs.Ready.{OthersStay};
 ghost use Rattle.cas_restore.specs.Restored.{slots_of};
 ghost use Rattle.cas_survey.specs.Survey.{kept_on, AreUp};
 ghost use Rattle.cas_world.specs.Openings.OpeningOn.{openings_of, greatest_counter};
@@ -46,6 +47,7 @@ pub fn restore_shelves<S: Shelf>(
         S.fault_count members shelves.old.items shelves.new.items fault) }
     ensures stops { S.tells → StopsWithinGiving S.may_leave members
         shelves.old.items shelves.new.items }
+    ensures others { OthersStay members shelves.old.items shelves.new.items }
     ensures places { vec_len shelves.new ≡ vec_len shelves.old }
 {
     if let Err(fault) = take_up_members(shelves, members) {
@@ -70,6 +72,7 @@ fn settle<S: Shelf>(
         S.fault_count members shelves.old.items shelves.new.items fault) }
     ensures stops { S.tells → StaysWithin S.contents S.may_leave members
         shelves.old.items shelves.new.items }
+    ensures others { OthersStay members shelves.old.items shelves.new.items }
     ensures places { vec_len shelves.new ≡ vec_len shelves.old }
 {
     let found = survey(alloc, shelves, members)?;
@@ -95,6 +98,7 @@ fn give<S: Shelf>(
         S.fault_count members shelves.old.items shelves.new.items fault) }
     ensures stops { S.tells → StaysWithin S.contents S.may_leave members
         shelves.old.items shelves.new.items }
+    ensures others { OthersStay members shelves.old.items shelves.new.items }
     ensures places { vec_len shelves.new ≡ vec_len shelves.old }
 {
     let keys = found.slots.len();

@@ -58,3 +58,12 @@ returns-then-keys-gt-MOST_SLOTS-clause-err g c = record {
       (omega (arith, slot_count-entries c.args.found.now.slots.entries c.len-keys.ensures.ordered, c.len-keys.ensures.len)) c.try_from.ensures;
   many = omega (arith, slot_count-entries c.args.found.now.slots.entries c.len-keys.ensures.ordered, c.len-keys.ensures.len, c.if-keys-gt-MOST_SLOTS.true);
 }
+
+pub returns-in-Err-clause-others : goal.returns-in-Err-clause-others
+returns-in-Err-clause-others g c = c.restore_members.ensures.towards.others
+
+pub returns-in_err-floors_of-clause-others : goal.returns-in_err-floors_of-clause-others
+returns-in_err-floors_of-clause-others g c = c.restore_members.ensures.towards.others
+
+pub returns-clause-others : goal.returns-clause-others
+returns-clause-others g c = c.restore_members.ensures.towards.others

@@ -1,4 +1,4 @@
-use Rattle.std.proofs.Common.{arith}
+use Rattle.std.proofs.Common.{◌∙◌, arith}
 use Rattle.cas_reopen.proofs.Restoring.{if_ok, if_err, up_then, restored_then, stops_then, why_then, refused_then}
 use Rattle.cas_reopen.specs.Shelves.StopsWithinGiving.{before_giving}
 use Rattle.cas_reopen.proofs.shelves.restore_shelves.Goals as goal
@@ -32,3 +32,9 @@ pub returns-clause-stops : goal.returns-clause-stops
 returns-clause-stops g c = λ told. stops_then g.S.Shelf.tells g.S.Shelf.is_up g.S.Shelf.contents g.S.Shelf.may_leave g.S.Shelf.fault_count c.args.members c.args.shelves.now.items
     c.take_up_members.new.shelves.items
     c.take_up_members.ensures.leaves (c.in_default.ensures {u = tt}).ok _ told (c.settle.ensures.stops told)
+
+pub returns-in-Err-clause-others : goal.returns-in-Err-clause-others
+returns-in-Err-clause-others g c = c.take_up_members.ensures.leaves.others
+
+pub returns-clause-others : goal.returns-clause-others
+returns-clause-others g c = λ id other. c.settle.ensures.others id other ∙ c.take_up_members.ensures.leaves.others id other
