@@ -6,6 +6,7 @@ pub mod Exchanges
 pub mod Frames
 pub mod Happenings
 pub mod Loads
+pub mod MembersFrom
 pub mod Opened
 pub mod Others
 pub mod Outcomes

@@ -1,7 +1,8 @@
 -- A load: lines that a generator draws run one after another, over frames that a seeded fate decides of. Behind some of them an acceptor stops
 -- and starts again, and a key is collected.
-use Rattle.std.specs.Prelude.{◌≡◌, ◌≢◌, ◌+◌, ◌%◌, ◌/◌, ◌^◌, ◌≤◌, ℕ, nat_lt, nat_eq, if◌then◌else◌, List, [], ◌∷◌, ◌++◌, codes, decimal, length, Some, pos}
+use Rattle.std.specs.Prelude.{◌≡◌, ◌≢◌, ◌+◌, ◌%◌, ◌/◌, ◌^◌, ◌≤◌, ◌<◌, ℕ, nat_lt, nat_eq, if◌then◌else◌, List, [], ◌∷◌, ◌++◌, codes, decimal, length, slice_index_or, Some, pos}
 use Rattle.rand_pcg.specs.Lcg.{Lcg}
+use Rattle.cas_ballot.specs.Members.{IsMemberSet}
 use Rattle.cas_fate.specs.Generator.{drawn_line}
 use Rattle.cas_fate.specs.Seeded.{generator_of_seed}
 use Rattle.cas_fate.specs.declared.generator.Drawn.{Drawn}
@@ -61,11 +62,11 @@ pub record AnswersDrawn {S V : Type 0} (m : Meaning S V) (load : Load) (line : �
   pub change : IsChange m load.tries old.network asked.caller asked.key asked.program nowhere old.world answer new.network after new.world
   pub lines : new.lines ≡ (drawn_line load.proposers old.lines).1
 
--- the acceptor that stops behind it: one after another does, from 1 on
+-- the member that stops behind it: one after another does, in rising order
 abbrev pub stopping : Load → ℕ → ℕ
-stopping load line = 1 + line / 64 % load.acceptors
+stopping load line = slice_index_or load.members (line / 64 % length load.members) 0
 
--- behind each 64th line an acceptor crashes and is restarted
+-- behind each 64th line a member crashes and is restarted
 pub data StopsBehind {S V : Type 0} (m : Meaning S V) (load : Load) (line : ℕ) (old : View S V) : View S V → Type 0 where
   none : line % 64 ≢ 63 → StopsBehind m load line old old
   stops : {down new : View S V} {crashed restarted : EventAnswer} → line % 64 ≡ 63 → CrashesAcceptor m old (stopping load line) crashed down → RestartsAcceptor m down (stopping load line) restarted new → StopsBehind m load line old new
@@ -110,10 +111,11 @@ pub data LoadBreaksOff {S V : Type 0} (m : Meaning S V) (load : Load) (old new :
       → StopsBehind m load (length answers) answered.world new → length answers % 100 ≡ 99 → LoadBreaksOff m load old new
 
 -- ---- loads
--- as many acceptors, proposers and tries as a load may have
+-- as many members, proposers and tries as a load may have
 pub record IsLoad (load : Load) : Type 0 where
-  pub some_acceptors : 1 ≤ load.acceptors
-  pub few_acceptors : load.acceptors ≤ 9
+  pub member_set : IsMemberSet load.members
+  pub some_members : 0 < length load.members
+  pub few_members : length load.members ≤ 9
   pub some_proposers : 1 ≤ load.proposers
   pub few_proposers : load.proposers ≤ 16
   pub some_tries : 1 ≤ load.tries

@@ -1,6 +1,7 @@
 //! A load over a world: lines that a generator draws, over links that a seeded fate disturbs, with stops and collections between them.
 
-ghost use Rattle.std.specs.Prelude.{◌≡◌, ◌<◌, ◌%◌, IfOk, OnOk, OnErr};
+ghost use Rattle.std.specs.Prelude.{◌≡◌, ◌<◌, ◌%◌, Some, length, slice_get, IfOk, OnOk, OnErr};
+ghost use Rattle.cas_ballot.specs.Members.{IsMemberSet};
 ghost use Rattle.cas_model.specs.Council.{IsAtRest};
 ghost use Rattle.cas_model.specs.View.{meaning};
 ghost use Rattle.cas_world.specs.Calls.Beginning.{HasNoCall};
@@ -15,7 +16,7 @@ use crate::collect::collect;
 use crate::events::{crash_acceptor, restart_acceptor};
 use crate::halt::Halt;
 use crate::network::Network;
-use cas_ballot::AcceptorId;
+use cas_ballot::{AcceptorId, Members};
 use cas_change::{Key, Text};
 use cas_disk::Disk;
 use cas_fate::{Drawn, Generator};
@@ -38,8 +39,8 @@ const KEYS: u32 = 32;
 /// Which load is run: over how large a cluster, how often its callers try, and which lines are drawn.
 #[derive(Clone, Copy, Debug, PartialEq, Eq)]
 pub struct Load {
-    /// How many acceptors are members at first, from 1 to 9.
-    pub acceptors: u8,
+    /// The acceptors that are members at first: 1 to 9 of them.
+    pub members: Members,
     /// How many proposers of clients there are, from 1 to 16.
     pub proposers: u8,
     /// How many rounds a change has at most, from 1.
@@ -50,7 +51,7 @@ pub struct Load {
     pub lines: u32,
 }
 
-/// Runs the load over a world of as many members and proposers, in which no call is open: draws its lines and runs them one after
+/// Runs the load over a world of these members and as many proposers, in which no call is open: draws its lines and runs them one after
 /// another, and counts their answers. Only memory can fail, and some of the lines were run then.
 pub fn run_load<S: Shelf, V: Disk>(
     alloc: Global,
@@ -72,7 +73,7 @@ pub fn run_load<S: Shelf, V: Disk>(
     for line in 0..load.lines {
         let answer = answer_line(alloc, world, &mut network, &mut generator, load, line)?;
         summary.count(&answer);
-        stop_behind(world, load, line);
+        stop_behind(world, &load, line);
         collect_behind(alloc, world, &mut network, load, line)?;
     }
     Ok(summary)
@@ -128,17 +129,36 @@ fn answer_line<S: Shelf, V: Disk>(
     }
 }
 
-/// Behind each 64th line an acceptor crashes and is restarted, one after another.
-fn stop_behind<S: Shelf, V: Disk>(world: &mut World<S, V>, load: Load, line: u32)
-    requires { IsLoad load }
-    ensures { StopsBehind (meaning S.Shelf V.Disk) load line world.old world.new }
+/// Behind each 64th line a member crashes and is restarted, one after another.
+fn stop_behind<S: Shelf, V: Disk>(world: &mut World<S, V>, load: &Load, line: u32)
+    requires { IsLoad load.now }
+    ensures { StopsBehind (meaning S.Shelf V.Disk) load.now line world.old world.new }
 {
     if line % LINES_TO_A_STOP == LINES_TO_A_STOP - 1 {
-        let number = 1 + line / LINES_TO_A_STOP % u32::from(load.acceptors);
-        let id = AcceptorId::new(number as u8).unwrap();
+        let place = line / LINES_TO_A_STOP % load.members.count();
+        let id = member_at(load.members, place);
         crash_acceptor(world, id);
         restart_acceptor(world, id);
     }
+}
+
+/// The member at that place among them, in rising order from 0 on.
+fn member_at(members: Members, place: u32) -> AcceptorId
+    requires set { IsMemberSet members }
+    requires within { place < length members }
+    ensures { slice_get members place ≡ Some result }
+{
+    let mut left = place;
+    for number in 0..64 {
+        let id = AcceptorId::new(number).unwrap();
+        if members.has(id) {
+            if left == 0 {
+                return id;
+            }
+            left -= 1;
+        }
+    }
+    unreachable!()
 }
 
 /// Behind each 100th line a key is collected, one after another. After an `Err` it was due, and was not.
