@@ -6,8 +6,8 @@ use Rattle.cas_model.proofs.Safety.Parts.{low_at, at_low}
 use Rattle.cas_record.specs.declared.mark.Mark.{Mark}
 use Rattle.cas_turn.specs.Seen.{Begins}
 use Rattle.cas_turn.specs.Sitting.{Sitting, Turning, fresh_seats}
-use Rattle.cas_board_steps.specs.Mine.{mine, losses}
-use Rattle.cas_board.specs.Changes.{IsCounted}
+use Rattle.cas_turn.proofs.SeenLemmas.{begins_both}
+use Rattle.cas_board_steps.specs.Mine.{mine}
 use Rattle.cas_board.specs.Passes.{IsPassOf}
 use Rattle.cas_lines.specs.declared.lines.LineFault.{LineFault}
 use Rattle.casreg_tasks.specs.Tasks.{AreAllLines, bad_lines, tasks_of}
@@ -17,7 +17,7 @@ use Rattle.casreg_race.specs.declared.race.RaceFault.TheVariants as fault
 use Rattle.casreg_race.specs.declared.told.Told.{Told}
 use Rattle.casreg_race.specs.Race.{Raced, WroteRace}
 use Rattle.casreg_race.specs.Race.WroteRace.{whole, cut_off, not_run}
-use Rattle.casreg_race.specs.Runs.{HasRun, ArePassesOf, AreRaced}
+use Rattle.casreg_race.specs.Runs.{ArePassesOf, AreRaced}
 use Rattle.casreg_race.specs.Texts.{IsRaceText}
 use Rattle.casreg_race.proofs.Lined.{fresh_at}
 use Rattle.casreg_race.proofs.Racing.{ran_later}
@@ -41,30 +41,43 @@ module _ {V : Type 0} (board : Turning) (proposers : ℕ) (passes : List (Sittin
     pass_at : (n : ℕ) → n ≤ proposers → (pass : Sitting V Mark) × (slice_get passes n ≡ Some pass)
     pass_at n low = at_low passes n (let count = are.count in omega (arith, low, count))
 
-    pub raced_whole : (tells : Type 0) (tries : ℕ) (lines : List (List ℕ)) (harms harms_then : List ℕ) (answers : List (List Told)) → AreRaced tells tries proposers lines harms harms_then answers passes → Raced tells tries proposers lines harms harms_then answers marks
-    raced_whole tells tries lines harms harms_then answers raced = record {
+    pub raced_whole : (tells : Type 0) (tries : ℕ) (first : List Mark) (lines : List (List ℕ)) (harms harms_then : List ℕ) (answers : List (List Told)) → AreRaced tells tries proposers first lines harms harms_then answers passes
+        → Raced tells tries proposers first lines harms harms_then answers marks
+    raced_whole tells tries first lines harms harms_then answers raced = record {
       callers = raced.callers;
+      begins = (let pass = pass_at 0 (omega arith) in begins_both first pass.0.seen marks (raced.fronts 0 pass.0 pass.1) (later 0 pass.0 pass.1));
       runs = λ n of_caller at.
           let pass = pass_at n (let low = low_at answers n at in let count = raced.callers in omega (arith, low, count)) in
           let run = raced.runs n pass.0 of_caller pass.1 at in
-          (run.0, subst (λ (l : List Mark). HasRun tells marks tries n [] 0 (tasks_of proposers n lines) of_caller l run.0) (sym (own_at n pass.0 pass.1)) (ran_later tells pass.0.seen marks (later n pass.0 pass.1) tries n run.1));
-      counted = λ n before after low at_before at_after.
-          let pass = pass_at n low in
-          subst (λ (l : List Mark). IsCounted (losses l) before after) (sym (own_at n pass.0 pass.1)) (raced.counted n before after pass.0 pass.1 at_before at_after);
+          record {
+            own = run.own;
+            behind = own_at n pass.0 pass.1 ∙ run.behind;
+            counted = run.counted;
+            run = ran_later tells pass.0.seen marks (later n pass.0 pass.1) tries n run.run;
+            harmed = run.harmed;
+          };
     }
 
-    pub none_raced : passes ≡ fresh_seats board.id (proposers + 1) → (n : ℕ) → n ≤ proposers → mine n marks ≡ []
-    none_raced fresh n low =
+    seen_first : (first : List Mark) → passes ≡ fresh_seats board.id (proposers + 1) first → (n : ℕ) (pass : Sitting V Mark) → slice_get passes n ≡ Some pass → pass.seen ≡ first
+    seen_first first fresh n pass at = ap (λ (s : Sitting V Mark). s.seen) (fresh_at board.id (proposers + 1) first n pass (subst (λ (l : List (Sitting V Mark)). slice_get l n ≡ Some pass) fresh at))
+
+    pub none_raced : (first : List Mark) → passes ≡ fresh_seats board.id (proposers + 1) first → (n : ℕ) → n ≤ proposers → mine n marks ≡ mine n first
+    none_raced first fresh n low =
         let pass = pass_at n low in
-        own_at n pass.0 pass.1 ∙ ap (λ (s : Sitting V Mark). mine n s.seen) (fresh_at board.id (proposers + 1) n pass.0 (subst (λ (l : List (Sitting V Mark)). slice_get l n ≡ Some pass.0) fresh pass.1))
+        own_at n pass.0 pass.1 ∙ ap (mine n) (seen_first first fresh n pass.0 pass.1)
 
-    module _ (tells : Type 0) (tries : ℕ) (lines : List (List ℕ)) (harms harms_then : List ℕ) (answers : List (List Told)) (raced : AreRaced tells tries proposers lines harms harms_then answers passes)
+    begins_first : (first : List Mark) → passes ≡ fresh_seats board.id (proposers + 1) first → Begins first marks
+    begins_first first fresh =
+        let pass = pass_at 0 (omega arith) in
+        subst (λ (l : List Mark). Begins l marks) (seen_first first fresh 0 pass.0 pass.1) (later 0 pass.0 pass.1)
+
+    module _ (tells : Type 0) (tries : ℕ) (first : List Mark) (lines : List (List ℕ)) (harms harms_then : List ℕ) (answers : List (List Told)) (raced : AreRaced tells tries proposers first lines harms harms_then answers passes)
         (input old new : Option (List ℕ)) (all : AreAllLines input lines) (bad : List ℕ) (bad_are : bad ≡ bad_lines proposers 1 lines) where
-      pub wrote_whole : WroteText (IsRaceText bad answers (reverse marks)) old new → WroteRace tells tries proposers input old new harms harms_then marks (Ok tt)
-      wrote_whole wrote = whole lines answers all (raced_whole tells tries lines harms harms_then answers raced) (subst (λ (l : List ℕ). WroteText (IsRaceText l answers (reverse marks)) old new) bad_are wrote)
+      pub wrote_whole : WroteText (IsRaceText bad answers (reverse marks)) old new → WroteRace tells tries proposers first input old new harms harms_then marks (Ok tt)
+      wrote_whole wrote = whole lines answers all (raced_whole tells tries first lines harms harms_then answers raced) (subst (λ (l : List ℕ). WroteText (IsRaceText l answers (reverse marks)) old new) bad_are wrote)
 
-      pub wrote_front : (why : HistoryFault) → WroteFrontOf (IsRaceText bad answers (reverse marks)) old new → WroteRace tells tries proposers input old new harms harms_then marks (Err (fault.CutOff why))
-      wrote_front why wrote = cut_off why lines answers all (raced_whole tells tries lines harms harms_then answers raced) (subst (λ (l : List ℕ). WroteFrontOf (IsRaceText l answers (reverse marks)) old new) bad_are wrote)
+      pub wrote_front : (why : HistoryFault) → WroteFrontOf (IsRaceText bad answers (reverse marks)) old new → WroteRace tells tries proposers first input old new harms harms_then marks (Err (fault.CutOff why))
+      wrote_front why wrote = cut_off why lines answers all (raced_whole tells tries first lines harms harms_then answers raced) (subst (λ (l : List ℕ). WroteFrontOf (IsRaceText l answers (reverse marks)) old new) bad_are wrote)
 
-    pub wrote_nothing : (tells : Type 0) (tries : ℕ) (input held : Option (List ℕ)) (harms harms_then : List ℕ) (why : LineFault) → passes ≡ fresh_seats board.id (proposers + 1) → harms_then ≡ harms → WroteRace tells tries proposers input held held harms harms_then marks (Err (fault.NotRun why))
-    wrote_nothing tells tries input held harms harms_then why fresh same = not_run why (none_raced fresh) same refl
+    pub wrote_nothing : (tells : Type 0) (tries : ℕ) (first : List Mark) (input held : Option (List ℕ)) (harms harms_then : List ℕ) (why : LineFault) → passes ≡ fresh_seats board.id (proposers + 1) first → harms_then ≡ harms → WroteRace tells tries proposers first input held held harms harms_then marks (Err (fault.NotRun why))
+    wrote_nothing tells tries first input held harms harms_then why fresh same = not_run why (begins_first first fresh) (none_raced first fresh) same refl

@@ -8,6 +8,7 @@ use Rattle.std.proofs.lemmas.Option.{get_or_from_slice_get, slice_get-get_or}
 use Rattle.cas_model.proofs.Places.{some_is}
 use Rattle.cas_model.proofs.Safety.Parts.{low_at, at_low}
 use Rattle.cas_record.specs.declared.mark.Mark.{Mark}
+use Rattle.cas_turn.specs.Seen.{Begins}
 use Rattle.cas_turn.specs.Sitting.{Sitting, TurnId, Turning, fresh_seat, fresh_seats}
 use Rattle.cas_board_steps.specs.Mine.{mine, losses}
 use Rattle.cas_board_steps.specs.Calls.Open.{NothingIsOpen, rescanned_in}
@@ -16,7 +17,7 @@ use Rattle.cas_board.specs.Passes.{IsPassOf}
 use Rattle.casreg_tasks.specs.Tasks.{AreParted, tasks_of}
 use Rattle.casreg_tasks.specs.declared.tasks.Task.{Task}
 use Rattle.casreg_race.specs.declared.told.Told.{Told}
-use Rattle.casreg_race.specs.Runs.{IsMeantFor, IsReady, HasRoomForAnswers, HasRun, HasRaced, ArePassesOf, AreRaced}
+use Rattle.casreg_race.specs.Runs.{IsMeantFor, IsReady, HasRoomForAnswers, HasRun, HasRaced, RanBehind, ArePassesOf, AreRaced}
 use Rattle.casreg_race.proofs.Meant.{all_meant}
 use Rattle.cas_board.proofs.Passes.{still_pass}
 
@@ -55,30 +56,30 @@ range_at from zero n k at = absurd (cc at)
 range_at from (suc count) zero k at = let same = some_is at in omega (arith, same)
 range_at from (suc count) (suc n) k at = let later = range_at (from + 1) count n k at in omega (arith, later)
 
-pub fresh_at : {V : Type 0} (turn : TurnId) (count n : ℕ) (pass : Sitting V Mark) → slice_get (fresh_seats turn count) n ≡ Some pass → pass ≡ fresh_seat turn count n
-fresh_at turn count n pass at =
-    let found = at_mapped (fresh_seat turn count) (range_with_len 0 count) n pass at in
-    sym found.2 ∙ ap (fresh_seat turn count) (let k = range_at 0 count n found.0 found.1 in let e : found.0 ≡ n = omega (arith, k) in e)
+pub fresh_at : {V : Type 0} (turn : TurnId) (count : ℕ) (first : List Mark) (n : ℕ) (pass : Sitting V Mark) → slice_get (fresh_seats turn count first) n ≡ Some pass → pass ≡ fresh_seat turn count first n
+fresh_at turn count first n pass at =
+    let found = at_mapped (fresh_seat turn count first) (range_with_len 0 count) n pass at in
+    sym found.2 ∙ ap (fresh_seat turn count first) (let k = range_at 0 count n found.0 found.1 in let e : found.0 ≡ n = omega (arith, k) in e)
 
-seats_count : (V : Type 0) (board : TurnId) (proposers : ℕ) → length (fresh_seats {V = V} {I = Mark} board (proposers + 1)) ≡ suc proposers
-seats_count V board proposers =
-    let seats = length-map (range_with_len 0 (proposers + 1)) (fresh_seat {V = V} {I = Mark} board (proposers + 1)) in
+seats_count : (V : Type 0) (board : TurnId) (proposers : ℕ) (first : List Mark) → length (fresh_seats {V = V} {I = Mark} board (proposers + 1) first) ≡ suc proposers
+seats_count V board proposers first =
+    let seats = length-map (range_with_len 0 (proposers + 1)) (fresh_seat {V = V} {I = Mark} board (proposers + 1) first) in
     let range = length-range_with_len 0 (proposers + 1) in
     omega (arith, seats, range)
 
-pub count_of : {V : Type 0} (board : TurnId) (proposers : ℕ) (passes : List (Sitting V Mark)) → passes ≡ fresh_seats board (proposers + 1) → length passes ≡ suc proposers
-count_of {V} board proposers passes fresh = ap (λ (l : List (Sitting V Mark)). length l) fresh ∙ seats_count V board proposers
+pub count_of : {V : Type 0} (board : TurnId) (proposers : ℕ) (first : List Mark) (passes : List (Sitting V Mark)) → passes ≡ fresh_seats board (proposers + 1) first → length passes ≡ suc proposers
+count_of {V} board proposers first passes fresh = ap (λ (l : List (Sitting V Mark)). length l) fresh ∙ seats_count V board proposers first
 
-module _ {V : Type 0} (board : Turning) (proposers : ℕ) (passes : List (Sitting V Mark)) (fresh : passes ≡ fresh_seats board.id (proposers + 1)) (idle : All (λ pass. IsPassOf board pass × NothingIsOpen pass.own) passes) where
+module _ {V : Type 0} (board : Turning) (proposers : ℕ) (first : List Mark) (passes : List (Sitting V Mark)) (fresh : passes ≡ fresh_seats board.id (proposers + 1) first) (idle : All (λ pass. IsPassOf board pass × NothingIsOpen pass.own) passes) where
   pub idle_at : (n : ℕ) (pass : Sitting V Mark) → slice_get passes n ≡ Some pass → IsPassOf board pass × NothingIsOpen pass.own
   idle_at n pass at = subst (λ (p : Sitting V Mark). IsPassOf board p × NothingIsOpen p.own) (get_or_from_slice_get passes n pass pass at) (idle n pass (low_at passes n at))
 
   pub number_at : (n : ℕ) (pass : Sitting V Mark) → slice_get passes n ≡ Some pass → pass.number ≡ n
-  number_at n pass at = ap (λ (s : Sitting V Mark). s.number) (fresh_at board.id (proposers + 1) n pass (subst (λ (l : List (Sitting V Mark)). slice_get l n ≡ Some pass) fresh at))
+  number_at n pass at = ap (λ (s : Sitting V Mark). s.number) (fresh_at board.id (proposers + 1) first n pass (subst (λ (l : List (Sitting V Mark)). slice_get l n ≡ Some pass) fresh at))
 
-  -- those of a board on which nothing has happened
+  -- those of a new board
   pub new_passes : ArePassesOf board proposers passes
-  new_passes = record { count = count_of board.id proposers passes fresh; each = λ n pass at. ((idle_at n pass at).0, number_at n pass at) }
+  new_passes = record { count = count_of board.id proposers first passes fresh; each = λ n pass at. ((idle_at n pass at).0, number_at n pass at) }
 
   -- and so are those of the racers that are made of them
   pub racers_idle : {R : Type 0} (pass_of : R → Sitting V Mark) (racers : List R) → map pass_of racers ≡ passes → (n : ℕ) (r : R) → slice_get racers n ≡ Some r → IsPassOf board (pass_of r)
@@ -106,19 +107,19 @@ module _ {R Asks Says : Type 0} (tasks_in : R → Asks) (told_in : R → Says) (
         let here : slice_get (map asks tasks) n ≡ Some (asks (tasks_in r)) = map_at asks tasks n (tasks_in r) (tasks_at n r at) in
         sym (get_or_from_slice_get (map asks tasks) n (asks (tasks_in r)) [] here) ∙ parted.tasks_are n (let low = low_at (map asks tasks) n here in let callers = parted.callers in omega (arith, low, callers))
 
-    pub ready_all : {V : Type 0} (pass_of : R → Sitting V Mark) (board : Turning) (passes : List (Sitting V Mark)) → map pass_of racers ≡ passes → passes ≡ fresh_seats board.id (proposers + 1) → All (λ pass. IsPassOf board pass × NothingIsOpen pass.own) passes
+    pub ready_all : {V : Type 0} (pass_of : R → Sitting V Mark) (board : Turning) (first : List Mark) (passes : List (Sitting V Mark)) → map pass_of racers ≡ passes → passes ≡ fresh_seats board.id (proposers + 1) first → All (λ pass. IsPassOf board pass × NothingIsOpen pass.own) passes
         → ((n : ℕ) (of_caller : Asks) (of_answers : Says) → n < length tasks → HasRoomForAnswers (asks (slice_index_or tasks n of_caller)) (says (slice_index_or told n of_answers)) (room (slice_index_or told n of_answers)))
         → All (λ r. IsReady board (pass_of r) (asks (tasks_in r)) (says (told_in r)) (room (told_in r))) racers
-    ready_all {V} pass_of board passes passes_are fresh idle rooms k d low =
+    ready_all {V} pass_of board first passes passes_are fresh idle rooms k d low =
         let r = slice_index_or racers k d in
         let at : slice_get racers k ≡ Some r = slice_get-get_or racers k d low in
         let at_pass : slice_get passes k ≡ Some (pass_of r) = subst (λ (l : List (Sitting V Mark)). slice_get l k ≡ Some (pass_of r)) passes_are (map_at pass_of racers k r at) in
         let has = room_at rooms k r at in
-        let is = idle_at board proposers passes fresh idle k (pass_of r) at_pass in
+        let is = idle_at board proposers first passes fresh idle k (pass_of r) at_pass in
         record {
           is_pass = is.0;
           free = is.1;
-          meant = subst (λ (n : ℕ). All (IsMeantFor n) (asks (tasks_in r))) (sym (number_at board proposers passes fresh idle k (pass_of r) at_pass))
+          meant = subst (λ (n : ℕ). All (IsMeantFor n) (asks (tasks_in r))) (sym (number_at board proposers first passes fresh idle k (pass_of r) at_pass))
               (subst (λ (l : List Task). All (IsMeantFor k) l) (sym (asks_at k r at)) (all_meant proposers k lines));
           untold = has.none;
           enough = has.enough;
@@ -137,12 +138,12 @@ module _ {R V : Type 0} (pass_of : R → Sitting V Mark) (harms_of : R → ℕ) 
   before : (n : ℕ) (now : R) → slice_get new n ≡ Some now → (was : R) × (slice_get old n ≡ Some was)
   before n now at = at_low old n (let low = low_at new n at in omega (arith, low, as_many))
 
-  module _ (board : Turning) (proposers : ℕ) (fresh : map pass_of old ≡ fresh_seats board.id (proposers + 1)) where
+  module _ (board : Turning) (proposers : ℕ) (first : List Mark) (fresh : map pass_of old ≡ fresh_seats board.id (proposers + 1) first) where
     count_old : length old ≡ suc proposers
-    count_old = sym (length-map old pass_of) ∙ count_of board.id proposers (map pass_of old) fresh
+    count_old = sym (length-map old pass_of) ∙ count_of board.id proposers first (map pass_of old) fresh
 
-    pass_was : (n : ℕ) (was : R) → slice_get old n ≡ Some was → pass_of was ≡ fresh_seat board.id (proposers + 1) n
-    pass_was n was at = fresh_at board.id (proposers + 1) n (pass_of was) (subst (λ (l : List (Sitting V Mark)). slice_get l n ≡ Some (pass_of was)) fresh (map_at pass_of old n was at))
+    pass_was : (n : ℕ) (was : R) → slice_get old n ≡ Some was → pass_of was ≡ fresh_seat board.id (proposers + 1) first n
+    pass_was n was at = fresh_at board.id (proposers + 1) first n (pass_of was) (subst (λ (l : List (Sitting V Mark)). slice_get l n ≡ Some (pass_of was)) fresh (map_at pass_of old n was at))
 
     number_now : (n : ℕ) (was now : R) → slice_get old n ≡ Some was → slice_get new n ≡ Some now → (pass_of now).number ≡ n
     number_now n was now at_was at_now = ap (λ (s : Sitting V Mark). s.number) (ran_at n was now at_was at_now).pass ∙ ap (λ (s : Sitting V Mark). s.number) (pass_was n was at_was)
@@ -157,16 +158,16 @@ module _ {R V : Type 0} (pass_of : R → Sitting V Mark) (harms_of : R → ℕ) 
           (still_pass board (pass_of was.0) (pass_of now.0) (idle n was.0 was.1) (ran_at n was.0 now.0 was.1 now.1).pass, number_now n was.0 now.0 was.1 now.1);
     }
 
-    -- its front had none of its own
-    none_before : (n : ℕ) (was : R) → slice_get old n ≡ Some was → mine (pass_of was).number (pass_of was).seen ≡ []
-    none_before n was at = ap (λ (s : Sitting V Mark). mine s.number s.seen) (pass_was n was at)
+    -- its front was the first marks
+    first_before : (n : ℕ) (was : R) → slice_get old n ≡ Some was → mine (pass_of was).number (pass_of was).seen ≡ mine n first
+    first_before n was at = ap (λ (s : Sitting V Mark). mine s.number s.seen) (pass_was n was at)
 
     -- and nothing was under way
     none_counted : (n : ℕ) (was : R) → slice_get old n ≡ Some was → rescanned_in (pass_of was).own ≡ 0
     none_counted n was at = ap (λ (s : Sitting V Mark). rescanned_in s.own) (pass_was n was at)
 
     -- what the front of a caller has of its own
-    own_now : (n : ℕ) (was now : R) (at_was : slice_get old n ≡ Some was) (at_now : slice_get new n ≡ Some now) → mine n (pass_of now).seen ≡ (ran_at n was now at_was at_now).own
+    own_now : (n : ℕ) (was now : R) (at_was : slice_get old n ≡ Some was) (at_now : slice_get new n ≡ Some now) → mine n (pass_of now).seen ≡ mine n first ++ (ran_at n was now at_was at_now).own
     own_now n was now at_was at_now =
         let raced = ran_at n was now at_was at_now in
         let is = pass_was n was at_was in
@@ -174,34 +175,43 @@ module _ {R V : Type 0} (pass_of : R → Sitting V Mark) (harms_of : R → ℕ) 
         ∙ raced.front.own_marks
         ∙ ap (λ (s : Sitting V Mark). mine s.number s.seen ++ raced.own) is
 
+    front_now : (n : ℕ) (was now : R) → slice_get old n ≡ Some was → slice_get new n ≡ Some now → Begins first (pass_of now).seen
+    front_now n was now at_was at_now = subst (λ (s : Sitting V Mark). Begins s.seen (pass_of now).seen) (pass_was n was at_was) (ran_at n was now at_was at_now).front.begins
+
     module _ (lines : List (List ℕ)) (harms harms_then rest : List ℕ) (asks : (n : ℕ) (was : R) → slice_get old n ≡ Some was → asked_of was ≡ tasks_of proposers n lines)
         (harms_are : map harms_of old ++ rest ≡ harms) (harms_then_are : map harms_of new ++ rest ≡ harms_then) where
-      pub are_raced : AreRaced tells tries proposers lines harms harms_then (map told_of new) (map pass_of new)
+      ran_behind : (n : ℕ) (was now : R) → slice_get old n ≡ Some was → slice_get new n ≡ Some now → RanBehind tells (pass_of now).seen tries n first (tasks_of proposers n lines) (told_of now) harms harms_then (pass_of now).seen
+      ran_behind n was now at_was at_now =
+          let raced = ran_at n was now at_was at_now in
+          let all = (pass_of now).seen in
+          let next = rescanned_in (pass_of now).own in
+          let number : (pass_of was).number ≡ n = ap (λ (s : Sitting V Mark). s.number) (pass_was n was at_was) in
+          record {
+            own = raced.own;
+            behind = own_now n was now at_was at_now;
+            counted = next;
+            run = subst (λ (l : List Task). HasRun tells all tries n (mine n first) 0 l (told_of now) raced.own next) (asks n was at_was)
+                (subst (λ (l : List Mark). HasRun tells all tries n l 0 (asked_of was) (told_of now) raced.own next) (first_before n was at_was)
+                (subst (λ (k : ℕ). HasRun tells all tries n (mine (pass_of was).number (pass_of was).seen) k (asked_of was) (told_of now) raced.own next) (none_counted n was at_was)
+                (subst (λ (k : ℕ). HasRun tells all tries k (mine (pass_of was).number (pass_of was).seen) (rescanned_in (pass_of was).own) (asked_of was) (told_of now) raced.own next) number raced.run)));
+            harmed = λ before after at_before at_after.
+                let was_harms : harms_of was ≡ before = one_at harms n _ _ (subst (λ (l : List ℕ). slice_get l n ≡ Some (harms_of was)) harms_are (front_at (map harms_of old) rest n _ (map_at harms_of old n was at_was))) at_before in
+                let now_harms : harms_of now ≡ after = one_at harms_then n _ _ (subst (λ (l : List ℕ). slice_get l n ≡ Some (harms_of now)) harms_then_are (front_at (map harms_of new) rest n _ (map_at harms_of new n now at_now))) at_after in
+                subst (λ (k : ℕ). IsCounted (losses raced.own) before k) now_harms (subst (λ (k : ℕ). IsCounted (losses raced.own) k (harms_of now)) was_harms raced.counted);
+          }
+
+      pub are_raced : AreRaced tells tries proposers first lines harms harms_then (map told_of new) (map pass_of new)
       are_raced = record {
         callers = length-map new told_of ∙ as_many ∙ count_old;
+        fronts = λ n pass at_pass.
+            let now = at_mapped pass_of new n pass at_pass in
+            let was = before n now.0 now.1 in
+            subst (λ (p : Sitting V Mark). Begins first p.seen) now.2 (front_now n was.0 now.0 was.1 now.1);
         runs = λ n pass of_caller at_pass at_told.
             let now = at_mapped pass_of new n pass at_pass in
             let told = at_mapped told_of new n of_caller at_told in
             let was = before n now.0 now.1 in
-            let raced = ran_at n was.0 now.0 was.1 now.1 in
             let told_is : told_of now.0 ≡ of_caller = ap told_of (one_at new n now.0 told.0 now.1 told.1) ∙ told.2 in
-            let number : (pass_of was.0).number ≡ n = ap (λ (s : Sitting V Mark). s.number) (pass_was n was.0 was.1) in (
-              rescanned_in (pass_of now.0).own,
-              subst (λ (p : Sitting V Mark). HasRun tells p.seen tries n [] 0 (tasks_of proposers n lines) of_caller (mine n p.seen) (rescanned_in (pass_of now.0).own)) now.2
-                  (subst (λ (l : List Mark). HasRun tells (pass_of now.0).seen tries n [] 0 (tasks_of proposers n lines) of_caller l (rescanned_in (pass_of now.0).own)) (sym (own_now n was.0 now.0 was.1 now.1))
-                  (subst (λ (l : List Told). HasRun tells (pass_of now.0).seen tries n [] 0 (tasks_of proposers n lines) l raced.own (rescanned_in (pass_of now.0).own)) told_is
-                  (subst (λ (l : List Task). HasRun tells (pass_of now.0).seen tries n [] 0 l (told_of now.0) raced.own (rescanned_in (pass_of now.0).own)) (asks n was.0 was.1)
-                  (subst (λ (l : List Mark). HasRun tells (pass_of now.0).seen tries n l 0 (asked_of was.0) (told_of now.0) raced.own (rescanned_in (pass_of now.0).own)) (none_before n was.0 was.1)
-                  (subst (λ (k : ℕ). HasRun tells (pass_of now.0).seen tries n (mine (pass_of was.0).number (pass_of was.0).seen) k (asked_of was.0) (told_of now.0) raced.own (rescanned_in (pass_of now.0).own)) (none_counted n was.0 was.1)
-                  (subst (λ (k : ℕ). HasRun tells (pass_of now.0).seen tries k (mine (pass_of was.0).number (pass_of was.0).seen) (rescanned_in (pass_of was.0).own) (asked_of was.0) (told_of now.0) raced.own (rescanned_in (pass_of now.0).own)) number raced.run)))))),
-            );
-        counted = λ n first last pass at_pass at_first at_last.
-            let now = at_mapped pass_of new n pass at_pass in
-            let was = before n now.0 now.1 in
-            let raced = ran_at n was.0 now.0 was.1 now.1 in
-            let first_is : harms_of was.0 ≡ first = one_at harms n _ first (subst (λ (l : List ℕ). slice_get l n ≡ Some (harms_of was.0)) harms_are (front_at (map harms_of old) rest n _ (map_at harms_of old n was.0 was.1))) at_first in
-            let last_is : harms_of now.0 ≡ last = one_at harms_then n _ last (subst (λ (l : List ℕ). slice_get l n ≡ Some (harms_of now.0)) harms_then_are (front_at (map harms_of new) rest n _ (map_at harms_of new n now.0 now.1))) at_last in
-            subst (λ (p : Sitting V Mark). IsCounted (losses (mine n p.seen)) first last) now.2
-            (subst (λ (l : List Mark). IsCounted (losses l) first last) (sym (own_now n was.0 now.0 was.1 now.1))
-            (subst (λ (k : ℕ). IsCounted (losses raced.own) k last) first_is (subst (λ (k : ℕ). IsCounted (losses raced.own) (harms_of was.0) k) last_is raced.counted)));
+            subst (λ (p : Sitting V Mark). RanBehind tells p.seen tries n first (tasks_of proposers n lines) of_caller harms harms_then p.seen) now.2
+            (subst (λ (l : List Told). RanBehind tells (pass_of now.0).seen tries n first (tasks_of proposers n lines) l harms harms_then (pass_of now.0).seen) told_is (ran_behind n was.0 now.0 was.1 now.1));
       }

@@ -134,6 +134,15 @@ pub data HasRun (tells : Type 0) (all : List Mark) (tries n : ℕ) (first : List
   one_more : {tasks : List Task} {answers : List Told} {marks own : List Mark} {asked : Task} {told : Told} {before next : ℕ} → HasRun tells all tries n first counted tasks answers marks before → TaskIsAnswered tells all tries n (first ++ marks) asked told own → IsCountedOn before asked told own next
       → HasRun tells all tries n first counted (tasks ++ asked ∷ []) (answers ++ told ∷ []) (marks ++ own) next
 
+-- What a caller has run whose own marks stand behind its own of these first ones: they are those of its tasks, in their order, with these answers.
+-- At most as many tell of frames that were lost or made late as its fate's count of harms rose by.
+pub record RanBehind (tells : Type 0) (all : List Mark) (tries n : ℕ) (first : List Mark) (tasks : List Task) (answers : List Told) (harms harms_then : List ℕ) (marks : List Mark) : Type 0 where
+  pub own : List Mark
+  pub behind : mine n marks ≡ mine n first ++ own
+  pub counted : ℕ
+  pub run : HasRun tells all tries n (mine n first) 0 tasks answers own counted
+  pub harmed : (before after : ℕ) → slice_get harms n ≡ Some before → slice_get harms_then n ≡ Some after → IsCounted (losses own) before after
+
 -- ---- callers in their threads
 module _ {V : Type 0} where
   -- a caller can begin with these tasks, and has room for so many answers
@@ -168,11 +177,13 @@ module _ {V : Type 0} where
     pub count : length passes ≡ suc proposers
     pub each : (n : ℕ) (pass : Sitting V Mark) → slice_get passes n ≡ Some pass → IsPassOf board pass × (pass.number ≡ n)
 
-  -- the callers of these passes have run what the lines ask them for, with these answers, and as their fates count their harms
-  pub record AreRaced (tells : Type 0) (tries proposers : ℕ) (lines : List (List ℕ)) (harms harms_then : List ℕ) (answers : List (List Told)) (passes : List (Sitting V Mark)) : Type 0 where
+  -- the callers of these passes, which had seen these first marks, have run what the lines ask them for, with these answers, and as their fates
+  -- count their harms
+  pub record AreRaced (tells : Type 0) (tries proposers : ℕ) (first : List Mark) (lines : List (List ℕ)) (harms harms_then : List ℕ) (answers : List (List Told)) (passes : List (Sitting V Mark)) : Type 0 where
     pub callers : length answers ≡ suc proposers
-    pub runs : (n : ℕ) (pass : Sitting V Mark) (of_caller : List Told) → slice_get passes n ≡ Some pass → slice_get answers n ≡ Some of_caller → (counted : ℕ) × HasRun tells pass.seen tries n [] 0 (tasks_of proposers n lines) of_caller (mine n pass.seen) counted
-    pub counted : (n before after : ℕ) (pass : Sitting V Mark) → slice_get passes n ≡ Some pass → slice_get harms n ≡ Some before → slice_get harms_then n ≡ Some after → IsCounted (losses (mine n pass.seen)) before after
+    pub fronts : (n : ℕ) (pass : Sitting V Mark) → slice_get passes n ≡ Some pass → Begins first pass.seen
+    pub runs : (n : ℕ) (pass : Sitting V Mark) (of_caller : List Told) → slice_get passes n ≡ Some pass → slice_get answers n ≡ Some of_caller
+        → RanBehind tells pass.seen tries n first (tasks_of proposers n lines) of_caller harms harms_then pass.seen
 
 -- no answer yet, and room for one to each of the tasks
 pub record HasRoomForAnswers (tasks : List Task) (told : List Told) (room : ℕ) : Type 0 where

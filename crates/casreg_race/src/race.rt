@@ -52,7 +52,7 @@ struct Results {
     told: Vec<Vec<Told>>,
 }
 
-/// Runs a race of so many callers, beside the operator, on a board on which nothing has happened, and takes the board apart then. All lines are
+/// Runs a race of so many callers, beside the operator, on a board that was just opened, and takes the board apart then. All lines are
 /// read before any is run, and all have been run before anything is written: the answers to the bad lines in line order, then each caller's
 /// answers, callers in rising order, and then the settled history of each key that has one, the keys in byte order. Each caller runs its lines
 /// with the pass and the fate at the place of its number, in a thread of its own where one can be made. The fates come back in their places.
@@ -75,7 +75,8 @@ pub fn race_on<R: Threads + Wait + Sync, S: Source, K: Sink, D: Disk + Send + Dr
     requires proposers { proposers ≤ 16 }
     requires tries { 1 ≤ tries }
     requires seats { board.seats ≡ proposers + 1 }
-    requires passes { passes.items ≡ fresh_seats board.id (proposers + 1) }
+    requires passes { (first : List Mark)
+        × (passes.items ≡ fresh_seats board.id (proposers + 1) first) }
     requires idle { All (λ pass. IsPassOf board pass × NothingIsOpen pass.own) passes.items }
     requires room { vec_capacity passes ≡ proposers + 1 }
     requires fates { vec_len fates.old ≡ 17 }
@@ -86,7 +87,10 @@ pub fn race_on<R: Threads + Wait + Sync, S: Source, K: Sink, D: Disk + Send + Dr
         → AreKept D.may_leave (reverse result.1.book.marks) result.1.rack.acceptors.items }
     ensures deserved { AreDeserved D.fault_count result.1.rack.acceptors.items
         result.1.rack.vaults.items result.1.book.marks }
-    ensures raced { WroteRace D.tells tries proposers (S.remaining source.old)
+    // The marks that the passes had seen are the first ones of the record.
+    ensures raced { (first : List Mark)
+        → passes.items ≡ fresh_seats board.id (proposers + 1) first
+        → WroteRace D.tells tries proposers first (S.remaining source.old)
         (K.contents sink.old) (K.contents sink.new) (map F.harm_count fates.old.items)
         (map F.harm_count fates.new.items) result.1.book.marks result.0 }
     ensures read { OnOk result.0 (IsAtEnd (S.remaining source.new)) }
@@ -139,7 +143,8 @@ fn run_lines<R: Threads + Wait + Sync, S: Source, D: Disk + Send, F: Fate + Send
 ) -> Result<Results, LineFault>
     requires proposers { proposers ≤ 16 }
     requires tries { 1 ≤ tries }
-    requires passes { passes.old.items ≡ fresh_seats board.now.id (proposers + 1) }
+    requires passes { (first : List Mark)
+        × (passes.old.items ≡ fresh_seats board.now.id (proposers + 1) first) }
     requires idle { All (λ pass. IsPassOf board.now pass
         × NothingIsOpen pass.own) passes.old.items }
     requires room { vec_capacity passes.old ≡ proposers + 1 }
@@ -147,8 +152,10 @@ fn run_lines<R: Threads + Wait + Sync, S: Source, D: Disk + Send, F: Fate + Send
     ensures raced { IfOk result (λ results. (lines : List (List ℕ))
         × AreAllLines (S.remaining source.old) lines
         × (results.bad.items ≡ bad_lines proposers 1 lines)
-        × AreRaced D.tells tries proposers lines (map F.harm_count fates.old.items)
-        (map F.harm_count fates.new.items) (map vec_items results.told.items) passes.new.items) }
+        × ((first : List Mark)
+        → passes.old.items ≡ fresh_seats board.now.id (proposers + 1) first
+        → AreRaced D.tells tries proposers first lines (map F.harm_count fates.old.items)
+        (map F.harm_count fates.new.items) (map vec_items results.told.items) passes.new.items)) }
     ensures not_run { OnErr result ((passes.new ≡ passes.old) × (fates.new ≡ fates.old)) }
     ensures passes { ArePassesOf board.now proposers passes.new.items }
     ensures fates { vec_len fates.new ≡ 17 }
