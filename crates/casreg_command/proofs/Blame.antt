@@ -1,6 +1,5 @@
 -- A status that names a disk comes by what became of that disk.
-use Rattle.std.proofs.Common.{suc, zero, ◌≡◌, ◌⊎◌, inl, inr, ◌+◌, ◌<◌, ◌≤◌, ℕ, List, Option, sym, subst, ◌∙◌, arith}
-use Rattle.cas_base.specs.Faults.{Rose}
+use Rattle.std.proofs.Common.{suc, zero, ◌≡◌, ◌⊎◌, inl, inr, ◌+◌, ◌≤◌, ℕ, List, [], ◌∷◌, ◌++◌, length, Option, sym, subst, ◌∙◌, arith}
 use Rattle.cas_model.specs.View.{Meaning, View, IsAt}
 use Rattle.cas_disk_shelf.specs.declared.shelf.DiskShelf.{DiskShelf}
 use Rattle.cas_store.specs.Rack.{RackMeaning, AreFoundEmptyBelow, IsWhyNot, IsAllEmpty, IsNotEmpty, an_acceptor, a_vault}
@@ -11,12 +10,16 @@ use Rattle.cas_store.specs.declared.rack.RackFault.TheVariants as rack_fault
 use Rattle.cas_world.specs.Openings.Opening.{IsFaultOf}
 use Rattle.cas_world.specs.declared.fault.OpenFault.{OpenFault}
 use Rattle.cas_world.specs.declared.fault.OpenFault.TheVariants as opening
+use Rattle.cas_reopen.specs.Closed.{IsWhyClosed}
+use Rattle.cas_reopen.specs.Filled.{disks_in}
+use Rattle.cas_reopen.specs.declared.fault.ReopenFault.{ReopenFault}
+use Rattle.cas_reopen.specs.declared.fault.ReopenFault.TheVariants as reopening
 use Rattle.casreg_script.specs.Script.{State}
 use Rattle.casreg_script.specs.declared.load.Load.{Load}
 use Rattle.casreg_command.specs.Records.{WroteFinding}
 use Rattle.casreg_command.proofs.Marked.{behind_blamed, low_or_high, rose_later}
-use Rattle.casreg_command.specs.Causes.{IsDisk, of_acceptor, of_vault, AreDisksToBlame, WentIn, CameOut, NothingRan, WroteIn, WroteBy, Wrote, no_words_read, not_empty, not_opened, no_board, WroteSummary, whole, sink_failed, no_text, broke_off}
-use Rattle.casreg_command.specs.Words.{acceptors_of, proposers_of}
+use Rattle.casreg_command.specs.Causes.{IsDisk, of_acceptor, of_vault, AreDisksToBlame, WentIn, CameOut, NothingRan, WroteIn, WroteBy, Wrote, no_words_read, not_opened, not_empty, not_begun, no_board, WroteSummary, whole, sink_failed, no_text, broke_off}
+use Rattle.casreg_command.specs.Words.{members_of}
 use Rattle.casreg_command.specs.declared.words.Request.{Request}
 use Rattle.casreg_command.specs.declared.words.Request.TheVariants as request
 use Rattle.std.specs.Prelude.{Result, Ok, Err}
@@ -24,7 +27,7 @@ use Rattle.cas_lines.specs.declared.lines.LineFault.TheVariants as fault
 use Rattle.casreg_race.specs.declared.race.RaceFault.{RaceFault}
 use Rattle.casreg_race.specs.declared.race.RaceFault.TheVariants as race
 use Rattle.casreg_tasks.specs.declared.histories.HistoryFault.TheVariants as text
-use Rattle.casreg_command.specs.Status.{status_of_rack, status_of_opening, status_of_race}
+use Rattle.casreg_command.specs.Status.{status_of_rack, status_of_opening, status_of_race, status_of_reopening}
 use Rattle.casreg_command.specs.declared.status.Status.{Status}
 use Rattle.casreg_command.specs.declared.status.Status.TheVariants as status
 
@@ -92,6 +95,37 @@ opening_blamed m count last_proposer rack asked back fault empty (a_vault_fails 
     opening_by m rack asked back (64 + one.place) before.was one.was one.now fault (of_vault one.place before.was before.at_was) before.never_falls (of_vault one.place one.now one.at_now)
     one.cause
 
+-- ---- stores that were not opened over their disks
+-- a disk of two lists that stand one behind the other
+by_place : {D : Type 0} (first later : List D) (number : ℕ) (disk : D) → IsAt (first ++ later) number disk → IsAt first number disk ⊎ ((place : ℕ) × (number ≡ length first + place) × IsAt later place disk)
+by_place [] later number disk at = inr (number, omega arith, at)
+by_place (d ∷ first) later zero disk at = inl at
+by_place (d ∷ first) later (suc number) disk at = elim (by_place first later number disk at) [
+  | inl here ↦ inl here
+  | inr there ↦ inr (there.0, (let same = there.1 in omega (arith, same)), there.2)
+]
+
+disk_of_rack : {D : Type 0} (rack : Rack D) (number : ℕ) (disk : D) → length rack.acceptors.items ≡ 64 → IsAt (disks_in rack) number disk → IsDisk rack number disk
+disk_of_rack {D} rack number disk all at = elim (by_place rack.acceptors.items rack.vaults.items number disk at) [
+  | inl here ↦ of_acceptor number disk here
+  | inr there ↦ subst (λ (n : ℕ). IsDisk rack n disk) (let same = there.1 in omega (arith, same, all)) (of_vault there.0 disk there.2)
+]
+
+closed_blamed : {D : Type 0} (m : RackMeaning D) (members : List ℕ) (rack back : Rack D) (fault : ReopenFault) → length rack.acceptors.items ≡ 64 → length back.acceptors.items ≡ 64 → IsWhyClosed m members rack back fault
+    → AreDisksToBlame m rack back (status_of_reopening fault)
+closed_blamed m members rack back (reopening.LostDisk disk) all all_back why = tt
+closed_blamed m members rack back (reopening.Foreign disk at) all all_back why = tt
+closed_blamed m members rack back (reopening.TooManyKeys keys) all all_back why = tt
+closed_blamed m members rack back (reopening.Spent disk) all all_back why = tt
+closed_blamed m members rack back (reopening.DiskFault disk) all all_back why = record {
+  was = why.0;
+  is_was = disk_of_rack rack disk why.0 all why.2;
+  now = why.1;
+  is_now = disk_of_rack back disk why.1 all_back why.3;
+  rose = why.4;
+}
+closed_blamed m members rack back reopening.NoMemory all all_back why = tt
+
 -- ---- all of it
 -- a run that began ends with no status that names a disk
 ran_blamed : {D : Type 0} (meant : Meaning (DiskShelf D) D) (m : RackMeaning D) (tries : ℕ) (P : List (List ℕ) → Type 0) (input old new : Option (List ℕ)) (first last : State (DiskShelf D) D) (rack back : Rack D) (result : Status)
@@ -101,6 +135,10 @@ ran_blamed meant m tries P input old new first last rack back status.Usage wrote
 ran_blamed meant m tries P input old new first last rack back status.ReadFault wrote = tt
 ran_blamed meant m tries P input old new first last rack back status.WriteFault wrote = tt
 ran_blamed meant m tries P input old new first last rack back (status.NotEmpty disk) wrote = absurd wrote
+ran_blamed meant m tries P input old new first last rack back (status.Foreign disk at) wrote = absurd wrote
+ran_blamed meant m tries P input old new first last rack back (status.TooManyKeys keys) wrote = absurd wrote
+ran_blamed meant m tries P input old new first last rack back (status.LostDisk disk) wrote = absurd wrote
+ran_blamed meant m tries P input old new first last rack back (status.Spent disk) wrote = absurd wrote
 ran_blamed meant m tries P input old new first last rack back (status.DiskFault disk) wrote = absurd wrote
 ran_blamed meant m tries P input old new first last rack back status.TooManyLines wrote = tt
 ran_blamed meant m tries P input old new first last rack back status.NoMemory wrote = tt
@@ -131,19 +169,25 @@ audit_blamed m rack back input old new status.Usage wrote = tt
 audit_blamed m rack back input old new status.ReadFault wrote = tt
 audit_blamed m rack back input old new status.WriteFault wrote = tt
 audit_blamed m rack back input old new (status.NotEmpty disk) wrote = absurd wrote
+audit_blamed m rack back input old new (status.Foreign disk at) wrote = absurd wrote
+audit_blamed m rack back input old new (status.TooManyKeys keys) wrote = absurd wrote
+audit_blamed m rack back input old new (status.LostDisk disk) wrote = absurd wrote
+audit_blamed m rack back input old new (status.Spent disk) wrote = absurd wrote
 audit_blamed m rack back input old new (status.DiskFault disk) wrote = absurd wrote
 audit_blamed m rack back input old new status.TooManyLines wrote = tt
 audit_blamed m rack back input old new status.NoMemory wrote = tt
 audit_blamed m rack back input old new (status.Endless line) wrote = tt
 
 -- where nothing ran
-nothing_blamed : {D : Type 0} (m : RackMeaning D) (asked : Request) (given : WentIn D) (out : CameOut D) → NothingRan m asked given out
+nothing_blamed : {D : Type 0} (m : RackMeaning D) (asked : Request) (given : WentIn D) (out : CameOut D) → length given.rack.acceptors.items ≡ 64 → length out.rack.acceptors.items ≡ 64 → NothingRan m asked given out
     → AreDisksToBlame m given.rack out.rack out.status
-nothing_blamed m asked given out (no_words_read is same) = subst (λ (s : Status). AreDisksToBlame m given.rack out.rack s) (sym is) tt
-nothing_blamed m asked given out (not_empty fault uses not is) = subst (λ (s : Status). AreDisksToBlame m given.rack out.rack s) (sym is) (rack_blamed m given.rack out.rack fault not)
-nothing_blamed m asked given out (not_opened empty fault uses are closed is) =
-    subst (λ (s : Status). AreDisksToBlame m given.rack out.rack s) (sym is) (opening_blamed m (acceptors_of asked) (proposers_of asked) given.rack empty out.rack fault are closed)
-nothing_blamed m asked given out (no_board options empty race are is) = subst (λ (s : Status). AreDisksToBlame m given.rack out.rack s) (sym is) tt
+nothing_blamed m asked given out all all_back (no_words_read is same) = subst (λ (s : Status). AreDisksToBlame m given.rack out.rack s) (sym is) tt
+nothing_blamed m asked given out all all_back (not_opened fault goes closed stops is) =
+    subst (λ (s : Status). AreDisksToBlame m given.rack out.rack s) (sym is) (closed_blamed m (members_of asked) given.rack out.rack fault all all_back closed)
+nothing_blamed m asked given out all all_back (not_empty options fault race not is) = subst (λ (s : Status). AreDisksToBlame m given.rack out.rack s) (sym is) (rack_blamed m given.rack out.rack fault not)
+nothing_blamed m asked given out all all_back (not_begun options empty fault race are closed is) =
+    subst (λ (s : Status). AreDisksToBlame m given.rack out.rack s) (sym is) (opening_blamed m options.acceptors options.proposers given.rack empty out.rack fault are closed)
+nothing_blamed m asked given out all all_back (no_board options empty race are is) = subst (λ (s : Status). AreDisksToBlame m given.rack out.rack s) (sym is) tt
 
 by_request : {D : Type 0} (meant : Meaning (DiskShelf D) D) (m : RackMeaning D) (asked : Request) (given : WentIn D) (out : CameOut D) → WroteBy meant m asked given out
     → AreDisksToBlame m given.rack out.rack out.status
@@ -154,7 +198,7 @@ by_request meant m (request.Load options) given out by =
     (load_blamed meant m options.load given.written by.loaded.between by.world by.loaded.loaded.last given.rack out.rack by.loaded.before by.loaded.loaded.wrote)
 by_request meant m request.Audit given out by = audit_blamed m given.rack out.rack given.input given.written out.written out.status by.wrote
 
-pub blamed : {D : Type 0} (meant : Meaning (DiskShelf D) D) (m : RackMeaning D) (asked : Request) (given : WentIn D) (out : CameOut D) → Wrote meant m asked given out
+pub blamed : {D : Type 0} (meant : Meaning (DiskShelf D) D) (m : RackMeaning D) (asked : Request) (given : WentIn D) (out : CameOut D) → length given.rack.acceptors.items ≡ 64 → length out.rack.acceptors.items ≡ 64 → Wrote meant m asked given out
     → AreDisksToBlame m given.rack out.rack out.status
-blamed meant m asked given out (inl nothing) = nothing_blamed m asked given out nothing.why
-blamed meant m asked given out (inr by) = by_request meant m asked given out by
+blamed meant m asked given out all all_back (inl nothing) = nothing_blamed m asked given out all all_back nothing.why
+blamed meant m asked given out all all_back (inr by) = by_request meant m asked given out by

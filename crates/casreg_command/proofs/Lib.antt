@@ -1,6 +1,7 @@
 pub mod Along
 pub mod Blame
 pub mod Marked
+pub mod Opened
 pub mod Parsers
 pub mod Runs
 pub mod Scripts

@@ -1,5 +1,5 @@
 -- One fate more.
-use Rattle.std.proofs.Common.{◌≡◌, ℕ, suc, ◌+◌, List, [], ◌∷◌, ◌++◌, length, subst, arith}
+use Rattle.std.proofs.Common.{ℕ, suc, ◌+◌, List, [], ◌∷◌, ◌++◌, length, subst, arith}
 use Rattle.cas_fate.specs.declared.seeded.Seeded.{Seeded}
 use Rattle.casreg_command.specs.Seeds.{IsSeededBy, AreSeeded}
 

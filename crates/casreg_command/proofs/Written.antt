@@ -22,17 +22,15 @@ use Rattle.cas_world.specs.Openings.Opening.{disks_of}
 use Rattle.cas_world.specs.declared.fault.OpenFault.{OpenFault}
 use Rattle.cas_world.specs.declared.fault.OpenFault.TheVariants as opening
 use Rattle.cas_store.specs.Kept.{AreHeld, AreKept}
-use Rattle.cas_store.specs.Rack.{RackMeaning, IsAllEmpty, IsNotEmpty}
+use Rattle.cas_store.specs.Rack.{RackMeaning, IsAllEmpty}
 use Rattle.cas_store.specs.Store.{acceptor_disks, StaysClosed}
-use Rattle.cas_store.specs.declared.rack.RackFault.{RackFault}
 use Rattle.cas_store.specs.declared.rack.Rack.{Rack}
 use Rattle.casreg_script.specs.Stage.{Stage}
 use Rattle.casreg_script.specs.declared.load.Load.{Load}
-use Rattle.casreg_command.specs.Causes.{AnswersTo, AreFirstLines, WroteIn, EndsIn, IsOfDisk, IsRackOf, Ran, RanLeaving, LoadedLeaving, LoadedOver, WroteSummary, UsesDisks, WentIn, CameOut, NothingRan, WroteBy, Wrote, not_opened, no_board, status_of, LoadEnds, whole, sink_failed, no_text, broke_off}
+use Rattle.casreg_command.specs.Causes.{AnswersTo, AreFirstLines, WroteIn, EndsIn, TellsWhyClosed, IsRackOf, Ran, RanLeaving, LoadedLeaving, LoadedOver, WroteSummary, WentIn, CameOut, NothingRan, WroteBy, Wrote, no_words_read, not_opened, not_empty, not_begun, no_board, status_of, LoadEnds, whole, sink_failed, no_text, broke_off}
 use Rattle.cas_model.specs.View.{Meaning}
 use Rattle.casreg_script.specs.Script.{State, opening_state, AnswersLine, RanOrNot, not_run, ran, one_more, text_of, transcript_of}
-use Rattle.casreg_command.specs.Status.{status_of_fault, status_of_rack, status_of_opening}
-use Rattle.casreg_command.specs.Words.{AreWords, acceptors_of, proposers_of}
+use Rattle.casreg_command.specs.Status.{status_of_fault, status_of_opening}
 use Rattle.casreg_command.specs.declared.words.LoadOptions.{LoadOptions}
 use Rattle.casreg_command.specs.declared.words.Options.{Options}
 use Rattle.casreg_command.specs.declared.words.Request.{Request}
@@ -187,17 +185,21 @@ fault_ends gives meant tries first start source input left old new reader world 
 fault_ends gives meant tries first start source input left old new reader world fault.NoMemory at many endless TooMany is = absurd cc
 fault_ends gives meant tries first start source input left old new reader world fault.NoMemory at many endless (TooLong line) is = absurd cc
 
--- a run that nothing hinders ends by its input, or finds no memory, or a disk is not as it must be
+-- a run that nothing hinders ends by its input, or finds no memory, or its store was not opened
 pub completes_of : (input : Option (List ℕ)) (result : Status) (read wrote : Type 0) → (result ≡ status.Usage → ⊥) → (result ≡ status.ReadFault → read)
     → (result ≡ status.WriteFault → wrote)
     → ((ending : Ending) → result ≡ status_of ending → IfSome input (λ bytes. ending_of bytes ≡ ending)) → (read → ⊥) → (wrote → ⊥)
-    → IfSome input (λ bytes. (result ≡ status_of (ending_of bytes)) ⊎ (result ≡ status.NoMemory) ⊎ IsOfDisk result)
+    → IfSome input (λ bytes. (result ≡ status_of (ending_of bytes)) ⊎ (result ≡ status.NoMemory) ⊎ TellsWhyClosed result)
 completes_of None result read wrote usage read_fault write_fault ends no_read no_write = tt
 completes_of (Some bytes) status.Ok read wrote u r w ends no_read no_write = inl (ap status_of (sym (ends Whole refl)))
 completes_of (Some bytes) status.Usage read wrote u r w ends no_read no_write = absurd (u refl)
 completes_of (Some bytes) status.ReadFault read wrote u r w ends no_read no_write = absurd (no_read (r refl))
 completes_of (Some bytes) status.WriteFault read wrote u r w ends no_read no_write = absurd (no_write (w refl))
 completes_of (Some bytes) (status.NotEmpty disk) read wrote u r w ends no_read no_write = inr (inr tt)
+completes_of (Some bytes) (status.Foreign disk at) read wrote u r w ends no_read no_write = inr (inr tt)
+completes_of (Some bytes) (status.TooManyKeys keys) read wrote u r w ends no_read no_write = inr (inr tt)
+completes_of (Some bytes) (status.LostDisk disk) read wrote u r w ends no_read no_write = inr (inr tt)
+completes_of (Some bytes) (status.Spent disk) read wrote u r w ends no_read no_write = inr (inr tt)
 completes_of (Some bytes) (status.DiskFault disk) read wrote u r w ends no_read no_write = inr (inr tt)
 completes_of (Some bytes) status.TooManyLines read wrote u r w ends no_read no_write = inl (ap status_of (sym (ends TooMany refl)))
 completes_of (Some bytes) status.NoMemory read wrote u r w ends no_read no_write = inr (inl refl)
@@ -210,17 +212,21 @@ no_end TooMany is = cc is
 no_end (TooLong line) is = cc is
 
 pub no_memory_completes : (input : Option (List ℕ))
-    → IfSome input (λ bytes. (status.NoMemory ≡ status_of (ending_of bytes)) ⊎ (status.NoMemory ≡ status.NoMemory) ⊎ IsOfDisk status.NoMemory)
+    → IfSome input (λ bytes. (status.NoMemory ≡ status_of (ending_of bytes)) ⊎ (status.NoMemory ≡ status.NoMemory) ⊎ TellsWhyClosed status.NoMemory)
 no_memory_completes None = tt
 no_memory_completes (Some bytes) = inr (inl refl)
 
 -- and so does a load, which has no input
-pub load_completes_of : (result : Status) → LoadEnds result → (result ≡ status.WriteFault → ⊥) → (result ≡ status.Ok) ⊎ (result ≡ status.NoMemory) ⊎ IsOfDisk result
+pub load_completes_of : (result : Status) → LoadEnds result → (result ≡ status.WriteFault → ⊥) → (result ≡ status.Ok) ⊎ (result ≡ status.NoMemory) ⊎ TellsWhyClosed result
 load_completes_of status.Ok ends no_write = inl refl
 load_completes_of status.Usage ends no_write = absurd ends
 load_completes_of status.ReadFault ends no_write = absurd ends
 load_completes_of status.WriteFault ends no_write = absurd (no_write refl)
-load_completes_of (status.NotEmpty disk) ends no_write = inr (inr tt)
+load_completes_of (status.NotEmpty disk) ends no_write = absurd ends
+load_completes_of (status.Foreign disk at) ends no_write = inr (inr tt)
+load_completes_of (status.TooManyKeys keys) ends no_write = inr (inr tt)
+load_completes_of (status.LostDisk disk) ends no_write = inr (inr tt)
+load_completes_of (status.Spent disk) ends no_write = inr (inr tt)
 load_completes_of (status.DiskFault disk) ends no_write = inr (inr tt)
 load_completes_of status.TooManyLines ends no_write = absurd ends
 load_completes_of status.NoMemory ends no_write = inr (inl refl)
@@ -301,32 +307,36 @@ pub wrote_nothing : {D : Type 0} (meant : Meaning (DiskShelf D) D) (m : RackMean
     → out.written ≡ given.written → Wrote meant m asked given out
 wrote_nothing meant m asked given out why same = inl (record { why = why; unwritten = same })
 
--- the store did not open
-pub closed_still : {D : Type 0} (m : RackMeaning D) (asked : Request) (given : WentIn D) (out : CameOut D) (empty : Rack D) (fault : OpenFault) (acceptors proposers : ℕ)
-    → UsesDisks asked → acceptors ≡ acceptors_of asked → proposers ≡ proposers_of asked → out.status ≡ status_of_opening fault
-    → IsAllEmpty m given.rack empty → StaysClosed m.faults acceptors proposers empty.acceptors.items empty.vaults.items fault out.rack.acceptors.items out.rack.vaults.items
-    → NothingRan m asked given out
-closed_still m asked given out empty fault acceptors proposers uses are_acceptors are_proposers is are_empty closed =
-    not_opened empty fault uses are_empty
-    (subst (λ (n : ℕ). StaysClosed m.faults (acceptors_of asked) n empty.acceptors.items empty.vaults.items fault out.rack.acceptors.items out.rack.vaults.items) are_proposers
-    (subst (λ (n : ℕ). StaysClosed m.faults n proposers empty.acceptors.items empty.vaults.items fault out.rack.acceptors.items out.rack.vaults.items) are_acceptors closed))
-    is
-
 -- the board of a race did not open, or there was no memory for it
 pub no_race : {D : Type 0} (m : RackMeaning D) (asked : Request) (given : WentIn D) (out : CameOut D) (options : Options) (empty : Rack D) (fault : OpenFault) (acceptors proposers : ℕ)
-    → acceptors ≡ acceptors_of asked → proposers ≡ proposers_of asked → asked ≡ request.Race options
-    → out.status ≡ status_of_opening fault → IsAllEmpty m given.rack empty
+    → acceptors ≡ options.acceptors → proposers ≡ options.proposers → asked ≡ request.Race options → out.status ≡ status_of_opening fault → IsAllEmpty m given.rack empty
     → (fault ≡ opening.NoMemory) ⊎ StaysClosed m.faults acceptors proposers empty.acceptors.items empty.vaults.items fault out.rack.acceptors.items out.rack.vaults.items
     → NothingRan m asked given out
 no_race m asked given out options empty fault acceptors proposers are_acceptors are_proposers is_race is are_empty (inl none) = no_board options empty is_race are_empty (is ∙ ap status_of_opening none)
 no_race m asked given out options empty fault acceptors proposers are_acceptors are_proposers is_race is are_empty (inr closed) =
-    closed_still m asked given out empty fault acceptors proposers (subst UsesDisks (sym is_race) tt) are_acceptors are_proposers is are_empty closed
+    not_begun options empty fault is_race are_empty
+    (subst (λ (n : ℕ). StaysClosed m.faults options.acceptors n empty.acceptors.items empty.vaults.items fault out.rack.acceptors.items out.rack.vaults.items) are_proposers
+    (subst (λ (n : ℕ). StaysClosed m.faults n proposers empty.acceptors.items empty.vaults.items fault out.rack.acceptors.items out.rack.vaults.items) are_acceptors closed))
+    is
 
 -- ---- by what was asked for
 pub wrote_by : {D : Type 0} (meant : Meaning (DiskShelf D) D) (m : RackMeaning D) (asked other : Request) (given : WentIn D) (out : CameOut D) → asked ≡ other
     → WroteBy meant m other given out
     → Wrote meant m asked given out
 wrote_by meant m asked other given out is wrote = inr (subst (λ (r : Request). WroteBy meant m r given out) (sym is) wrote)
+
+-- a load reads nothing, so it does not matter which lines had ended
+pub load_told : {D : Type 0} (meant : Meaning (DiskShelf D) D) (m : RackMeaning D) (options : LoadOptions) (given : WentIn D) (out : CameOut D) (H : List (List ℕ) → Type 0)
+    → Wrote meant m (request.Load options) given (record out { HadEnded = H }) → Wrote meant m (request.Load options) given out
+load_told {D} meant m options given out H (inl nothing) = inl (record { why = why nothing.why; unwritten = nothing.unwritten })
+  where
+    why : NothingRan m (request.Load options) given (record out { HadEnded = H }) → NothingRan m (request.Load options) given out
+    why (no_words_read is same) = no_words_read is same
+    why (not_opened fault goes closed stops is) = not_opened fault goes closed stops is
+    why (not_empty other fault race not is) = not_empty other fault race not is
+    why (not_begun other empty fault race are closed is) = not_begun other empty fault race are closed is
+    why (no_board other empty race are is) = no_board other empty race are is
+load_told meant m options given out H (inr by) = inr (record { world = by.world; over = by.over; loaded = by.loaded })
 
 -- the same command by another name
 pub wrote_of : {D : Type 0} (meant : Meaning (DiskShelf D) D) (m : RackMeaning D) {given : WentIn D} {out : CameOut D} (asked other : Request) → asked ≡ other

@@ -1,8 +1,6 @@
 -- When each status comes, and what was written by then.
-use Rattle.std.specs.Prelude.{◌≡◌, ◌≢◌, [], ◌⊎◌, ◌+◌, ℕ, suc, true, false, List, ◌++◌, ⊤, length, reverse, take, Option, IfSome, Result}
+use Rattle.std.specs.Prelude.{◌≡◌, ◌≢◌, [], ◌⊎◌, ◌+◌, ℕ, suc, List, ◌++◌, ⊤, length, reverse, take, Option, IfSome, Result}
 use Rattle.std.specs.Io.KnownBytes.{Appends}
-use Rattle.cas_acceptor.specs.Acceptor.{AcceptorView}
-use Rattle.cas_ballot.specs.Members.{has_member}
 use Rattle.cas_base.specs.Faults.{Rose}
 use Rattle.cas_disk_shelf.specs.declared.shelf.DiskShelf.{DiskShelf}
 use Rattle.cas_lines.specs.declared.lines.TheConstants.{MOST_LINES}
@@ -12,15 +10,16 @@ use Rattle.cas_record.specs.declared.mark.Mark.{Mark}
 use Rattle.casreg_race.specs.Race.{WroteRace}
 use Rattle.casreg_race.specs.declared.race.RaceFault.{RaceFault}
 use Rattle.cas_model_causes.specs.Eras.Tellings.{AreTellingsSo}
-use Rattle.cas_model.specs.SafeLaws.{HasPlaces}
-use Rattle.cas_model.specs.Step.{IsOpening}
-use Rattle.cas_world.specs.Openings.Opening.{members_to, disks_of, AreDesksBelow}
+use Rattle.cas_world.specs.Openings.Opening.{members_to, disks_of}
 use Rattle.cas_world.specs.declared.fault.OpenFault.{OpenFault}
 use Rattle.cas_store.specs.Kept.{AreHeld, AreKept}
 use Rattle.cas_store.specs.Rack.{RackMeaning, IsAllEmpty, IsNotEmpty}
-use Rattle.cas_store.specs.Store.{acceptor_disks, AreReached, StaysClosed}
+use Rattle.cas_store.specs.Store.{acceptor_disks, StaysClosed}
 use Rattle.cas_store.specs.declared.rack.Rack.{Rack}
 use Rattle.cas_store.specs.declared.rack.RackFault.{RackFault}
+use Rattle.cas_reopen.specs.Closed.{IsWhyClosed, StopsWithinOpening}
+use Rattle.cas_reopen.specs.Opened.{IsOpenedOver}
+use Rattle.cas_reopen.specs.declared.fault.ReopenFault.{ReopenFault}
 use Rattle.cas_model.specs.View.{Meaning, View, IsAt}
 use Rattle.cas_board_world.specs.Blame.{AreDeserved}
 use Rattle.casreg_script.specs.Script.{State, LineAnswer, ScriptRun, IsInState, opening_state, transcript_of}
@@ -30,7 +29,7 @@ use Rattle.casreg_command.specs.declared.status.Status.{Status}
 use Rattle.casreg_command.specs.declared.status.Status.TheVariants as status
 use Rattle.casreg_command.specs.declared.words.LoadOptions.{LoadOptions}
 use Rattle.casreg_command.specs.declared.words.Options.{Options}
-use Rattle.casreg_command.specs.Status.{status_of_rack, status_of_opening, status_of_race}
+use Rattle.casreg_command.specs.Status.{status_of_rack, status_of_opening, status_of_race, status_of_reopening}
 use Rattle.cas_lines.specs.Sink.{AppendsFront}
 use Rattle.cas_lines.specs.Summary.{summary_line}
 use Rattle.cas_lines.specs.declared.summary.Summary.{Summary}
@@ -39,7 +38,7 @@ use Rattle.casreg_script.specs.declared.load.Load.{Load}
 use Rattle.casreg_command.specs.declared.words.Request.{Request}
 use Rattle.casreg_command.specs.declared.words.Request.TheVariants as request
 use Rattle.casreg_command.specs.Records.{WroteFinding, EndsBehindMarks}
-use Rattle.casreg_command.specs.Words.{AreWords, acceptors_of, proposers_of}
+use Rattle.casreg_command.specs.Words.{AreWords, members_of}
 
 -- ---- causes
 -- the status of a run that nothing hinders, by where its input ends
@@ -48,13 +47,17 @@ status_of Whole = status.Ok
 status_of TooMany = status.TooManyLines
 status_of (TooLong line) = status.Endless line
 
--- the statuses of a load that opened, or whose disks were not empty or failed
+-- the statuses of a load that opened, or whose store was not opened
 abbrev pub LoadEnds : Status → Type 0
 LoadEnds status.Ok = ⊤
 LoadEnds status.Usage = ⊥
 LoadEnds status.ReadFault = ⊥
 LoadEnds status.WriteFault = ⊤
-LoadEnds (status.NotEmpty disk) = ⊤
+LoadEnds (status.NotEmpty disk) = ⊥
+LoadEnds (status.Foreign disk at) = ⊤
+LoadEnds (status.TooManyKeys keys) = ⊤
+LoadEnds (status.LostDisk disk) = ⊤
+LoadEnds (status.Spent disk) = ⊤
 LoadEnds (status.DiskFault disk) = ⊤
 LoadEnds status.TooManyLines = ⊥
 LoadEnds status.NoMemory = ⊤
@@ -67,11 +70,15 @@ ReadsLines (request.Race options) = ⊤
 ReadsLines (request.Load options) = ⊥
 ReadsLines request.Audit = ⊤
 
--- a status that names a disk
-abbrev pub IsOfDisk : Status → Type 0
-IsOfDisk (status.NotEmpty disk) = ⊤
-IsOfDisk (status.DiskFault disk) = ⊤
-IsOfDisk other = ⊥
+-- a status that tells why a store was not opened
+abbrev pub TellsWhyClosed : Status → Type 0
+TellsWhyClosed (status.NotEmpty disk) = ⊤
+TellsWhyClosed (status.Foreign disk at) = ⊤
+TellsWhyClosed (status.TooManyKeys keys) = ⊤
+TellsWhyClosed (status.LostDisk disk) = ⊤
+TellsWhyClosed (status.Spent disk) = ⊤
+TellsWhyClosed (status.DiskFault disk) = ⊤
+TellsWhyClosed other = ⊥
 
 -- ---- what goes in and what comes out
 -- what a command is given: what its source has still to give and what its sink holds, where they tell it, their counts of faults, how many
@@ -105,9 +112,9 @@ pub record Causes {D : Type 0} (words : List (List ℕ)) (given : WentIn D) (out
   -- with the right words and no fault of source and sink one of these comes, unless there is no memory, or a disk is not empty or fails
   -- as the store is opened
   pub completes : (asked : Request) → ReadsLines asked → AreWords words asked → (Rose given.source_faults out.source_faults → ⊥) → (Rose given.sink_faults out.sink_faults → ⊥)
-      → IfSome given.input (λ bytes. (out.status ≡ status_of (ending_of bytes)) ⊎ (out.status ≡ status.NoMemory) ⊎ IsOfDisk out.status)
+      → IfSome given.input (λ bytes. (out.status ≡ status_of (ending_of bytes)) ⊎ (out.status ≡ status.NoMemory) ⊎ TellsWhyClosed out.status)
   -- and so does 0 of a load, which reads nothing
-  pub load_completes : (options : LoadOptions) → AreWords words (request.Load options) → (Rose given.sink_faults out.sink_faults → ⊥) → (out.status ≡ status.Ok) ⊎ (out.status ≡ status.NoMemory) ⊎ IsOfDisk out.status
+  pub load_completes : (options : LoadOptions) → AreWords words (request.Load options) → (Rose given.sink_faults out.sink_faults → ⊥) → (out.status ≡ status.Ok) ⊎ (out.status ≡ status.NoMemory) ⊎ TellsWhyClosed out.status
 
 -- ---- disks
 -- the disk of that number: those of acceptors are numbered from 0 on, and those of vaults from 64 on
@@ -129,7 +136,7 @@ pub record DiskHasFailed {D : Type 0} (m : RackMeaning D) (rack back : Rack D) (
   pub is_now : IsDisk back number now
   pub rose : Rose (m.faults was) (m.faults now)
 
--- a status that names a disk comes only by what became of that disk
+-- the status of a disk that was not empty or that failed comes only by what became of that disk
 abbrev pub AreDisksToBlame : {D : Type 0} → RackMeaning D → Rack D → Rack D → Status → Type 0
 AreDisksToBlame m rack back (status.NotEmpty disk) = WasNotEmpty m rack disk
 AreDisksToBlame m rack back (status.DiskFault disk) = DiskHasFailed m rack back disk
@@ -168,6 +175,10 @@ WroteIn meant tries HadEnded input old new first world status.Usage = ⊥
 WroteIn meant tries HadEnded input old new first world status.ReadFault = AnswersTo meant tries HadEnded input old new first world
 WroteIn meant tries HadEnded input old new first world status.WriteFault = AnswersFront meant tries input old new first world
 WroteIn meant tries HadEnded input old new first world (status.NotEmpty disk) = ⊥
+WroteIn meant tries HadEnded input old new first world (status.Foreign disk at) = ⊥
+WroteIn meant tries HadEnded input old new first world (status.TooManyKeys keys) = ⊥
+WroteIn meant tries HadEnded input old new first world (status.LostDisk disk) = ⊥
+WroteIn meant tries HadEnded input old new first world (status.Spent disk) = ⊥
 WroteIn meant tries HadEnded input old new first world (status.DiskFault disk) = ⊥
 WroteIn meant tries HadEnded input old new first world status.TooManyLines = AnswersTo meant tries (λ lines. length lines ≡ MOST_LINES) input old new first world
 WroteIn meant tries HadEnded input old new first world status.NoMemory = AnswersFront meant tries input old new first world
@@ -180,16 +191,6 @@ pub record EndsIn {S V : Type 0} (meant : Meaning S V) (tries : ℕ) (HadEnded :
   pub wrote : WroteIn meant tries HadEnded input old new first last result
 
 -- ---- the world of a run
--- A world of so many acceptors and proposers in which nothing has happened, over the disks of a rack: each acceptor and each proposer on
--- the disk at the place of its number, of which those of the members and of the proposers were started. The members are up.
-pub record IsNewOver {D : Type 0} (meant : Meaning (DiskShelf D) D) (acceptors proposers : ℕ) (rack : Rack D) (world : View (DiskShelf D) D) : Type 0 where
-  pub opening : IsOpening meant (members_to acceptors) world
-  pub places : HasPlaces world
-  pub last_proposer : world.last_proposer ≡ proposers
-  pub shelves : AreReached meant.disks.faults 1 (acceptors + 1) rack.acceptors.items (acceptor_disks world.acceptors)
-  pub vaults : AreDesksBelow meant.disks meant.disks.faults rack.vaults.items (proposers + 1) world.desks
-  pub up : (id : ℕ) (acceptor : AcceptorView (DiskShelf D)) → IsAt world.acceptors id acceptor → has_member (members_to acceptors) id ≡ true → acceptor.down ≡ false
-
 -- the rack that comes back holds the disks of the world, each at its place
 pub record IsRackOf {D : Type 0} (world : View (DiskShelf D) D) (rack : Rack D) : Type 0 where
   pub acceptors : rack.acceptors.items ≡ acceptor_disks world.acceptors
@@ -258,7 +259,7 @@ pub record RacedTo {D : Type 0} (m : RackMeaning D) (options : Options) (input o
   pub tellings : m.tells → AreTellingsSo (options.proposers + 1) (reverse marks)
   pub kept : m.tells → AreKept m.may_leave (reverse marks) back.acceptors.items
   pub deserved : AreDeserved m.faults back.acceptors.items back.vaults.items marks
-  pub wrote : WroteRace m.tells options.tries options.proposers input old new harms harms_then marks ended
+  pub wrote : WroteRace m.tells options.tries options.proposers [] input old new harms harms_then marks ended
 
 -- what a race wrote with its record behind all else: how it had ended before, and what was written by then
 pub record RacedOver {D : Type 0} (m : RackMeaning D) (options : Options) (input old new : Option (List ℕ)) (harms harms_then : List ℕ) (result : Status) (back : Rack D) : Type 0 where
@@ -277,6 +278,10 @@ AreDoneAlong status.Usage by = ⊥
 AreDoneAlong {meant = meant} status.ReadFault by = AreDoneWhereReady meant by.wrote.run
 AreDoneAlong {meant = meant} status.WriteFault by = AreDoneWhereReady meant by.wrote.run
 AreDoneAlong (status.NotEmpty disk) by = ⊥
+AreDoneAlong (status.Foreign disk at) by = ⊥
+AreDoneAlong (status.TooManyKeys keys) by = ⊥
+AreDoneAlong (status.LostDisk disk) by = ⊥
+AreDoneAlong (status.Spent disk) by = ⊥
 AreDoneAlong (status.DiskFault disk) by = ⊥
 AreDoneAlong {meant = meant} status.TooManyLines by = AreDoneWhereReady meant by.wrote.run
 AreDoneAlong {meant = meant} status.NoMemory by = AreDoneWhereReady meant by.wrote.run
@@ -290,6 +295,10 @@ AreReadSoAlong status.Usage by = ⊥
 AreReadSoAlong {meant = meant} status.ReadFault by = AreSoWhereRead meant by.wrote.run
 AreReadSoAlong {meant = meant} status.WriteFault by = AreSoWhereRead meant by.wrote.run
 AreReadSoAlong (status.NotEmpty disk) by = ⊥
+AreReadSoAlong (status.Foreign disk at) by = ⊥
+AreReadSoAlong (status.TooManyKeys keys) by = ⊥
+AreReadSoAlong (status.LostDisk disk) by = ⊥
+AreReadSoAlong (status.Spent disk) by = ⊥
 AreReadSoAlong (status.DiskFault disk) by = ⊥
 AreReadSoAlong {meant = meant} status.TooManyLines by = AreSoWhereRead meant by.wrote.run
 AreReadSoAlong {meant = meant} status.NoMemory by = AreSoWhereRead meant by.wrote.run
@@ -303,13 +312,22 @@ UsesDisks (request.Race options) = ⊤
 UsesDisks (request.Load options) = ⊤
 UsesDisks request.Audit = ⊥
 
--- why a command whose words are right runs nothing: there was no memory, a disk is not known to be empty, the store did not open, or there was
--- no memory for the board of a race
+-- a command that goes on from what stands on its disks; a race takes empty ones alone
+abbrev pub GoesOnWithDisks : Request → Type 0
+GoesOnWithDisks (request.Script options) = ⊤
+GoesOnWithDisks (request.Race options) = ⊥
+GoesOnWithDisks (request.Load options) = ⊤
+GoesOnWithDisks request.Audit = ⊥
+
+-- Why a command whose words are right runs nothing. There was no memory. Or its store was not opened over the disks, and what was settled stands
+-- on the members' disks still. Or of a race a disk is not known to be empty, its store was not opened, or there was no memory for its board.
 pub data NothingRan {D : Type 0} (m : RackMeaning D) (asked : Request) (given : WentIn D) (out : CameOut D) : Type 0 where
   no_words_read : out.status ≡ status.NoMemory → out.rack ≡ given.rack → NothingRan m asked given out
-  not_empty : (fault : RackFault) → UsesDisks asked → IsNotEmpty m given.rack fault out.rack → out.status ≡ status_of_rack fault → NothingRan m asked given out
-  not_opened : (empty : Rack D) (fault : OpenFault) → UsesDisks asked → IsAllEmpty m given.rack empty
-      → StaysClosed m.faults (acceptors_of asked) (proposers_of asked) empty.acceptors.items empty.vaults.items fault out.rack.acceptors.items out.rack.vaults.items → out.status ≡ status_of_opening fault → NothingRan m asked given out
+  not_opened : (fault : ReopenFault) → GoesOnWithDisks asked → IsWhyClosed m (members_of asked) given.rack out.rack fault → (m.tells → StopsWithinOpening m (members_of asked) given.rack out.rack)
+      → out.status ≡ status_of_reopening fault → NothingRan m asked given out
+  not_empty : (options : Options) (fault : RackFault) → asked ≡ request.Race options → IsNotEmpty m given.rack fault out.rack → out.status ≡ status_of_rack fault → NothingRan m asked given out
+  not_begun : (options : Options) (empty : Rack D) (fault : OpenFault) → asked ≡ request.Race options → IsAllEmpty m given.rack empty
+      → StaysClosed m.faults options.acceptors options.proposers empty.acceptors.items empty.vaults.items fault out.rack.acceptors.items out.rack.vaults.items → out.status ≡ status_of_opening fault → NothingRan m asked given out
   no_board : (options : Options) (empty : Rack D) → asked ≡ request.Race options → IsAllEmpty m given.rack empty → out.status ≡ status.NoMemory → NothingRan m asked given out
 
 -- then nothing is written
@@ -317,23 +335,19 @@ pub record WroteNothing {D : Type 0} (m : RackMeaning D) (asked : Request) (give
   pub why : NothingRan m asked given out
   pub unwritten : out.written ≡ given.written
 
--- What a script wrote: all disks were empty, a new world opened over them, and the script ran from that world to one whose record is legal.
--- Along it was done what nothing stood against, and reads were answered what is so.
+-- What a script wrote: a store was opened over the rack, and the script ran from its world to one whose record is legal. Along it was done what
+-- nothing stood against, and reads were answered what is so.
 pub record WroteScript {D : Type 0} (meant : Meaning (DiskShelf D) D) (m : RackMeaning D) (options : Options) (given : WentIn D) (out : CameOut D) : Type 0 where
-  pub rack : Rack D
-  pub empty : IsAllEmpty m given.rack rack
   pub world : View (DiskShelf D) D
-  pub over : IsNewOver meant options.acceptors options.proposers rack world
+  pub over : IsOpenedOver meant m options.acceptors options.proposers (members_to options.acceptors) given.rack world
   pub ran : RanOver meant m.tells options out.HadEnded given.input given.written out.written world out.status out.rack
   pub done : AreDoneAlong ran.before ran.ran
   pub read : m.tells → AreReadSoAlong ran.before ran.ran
 
--- what a load wrote, from a new world over empty disks to one whose record is legal
+-- what a load wrote, from the world of a store that was opened over the rack to one whose record is legal
 pub record WroteLoad {D : Type 0} (meant : Meaning (DiskShelf D) D) (m : RackMeaning D) (options : LoadOptions) (given : WentIn D) (out : CameOut D) : Type 0 where
-  pub rack : Rack D
-  pub empty : IsAllEmpty m given.rack rack
   pub world : View (DiskShelf D) D
-  pub over : IsNewOver meant options.load.acceptors options.load.proposers rack world
+  pub over : IsOpenedOver meant m (length options.load.members) options.load.proposers options.load.members given.rack world
   pub loaded : LoadedOver meant m.tells options given.written out.written world out.status out.rack
 
 -- what a race wrote over empty disks

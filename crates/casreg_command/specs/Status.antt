@@ -11,6 +11,8 @@ use Rattle.casreg_race.specs.declared.race.RaceFault.TheVariants as race
 use Rattle.casreg_tasks.specs.declared.histories.HistoryFault.TheVariants as text
 use Rattle.cas_store.specs.declared.rack.RackFault.{RackFault}
 use Rattle.cas_store.specs.declared.rack.RackFault.TheVariants as rack
+use Rattle.cas_reopen.specs.declared.fault.ReopenFault.{ReopenFault}
+use Rattle.cas_reopen.specs.declared.fault.ReopenFault.TheVariants as reopening
 use Rattle.cas_world.specs.declared.fault.OpenFault.{OpenFault}
 use Rattle.cas_world.specs.declared.fault.OpenFault.TheVariants as opening
 use Rattle.casreg_command.specs.declared.status.Status.{Status}
@@ -27,6 +29,10 @@ number_of (status.DiskFault disk) = 6
 number_of status.TooManyLines = 7
 number_of status.NoMemory = 8
 number_of (status.Endless line) = 9
+number_of (status.Foreign disk at) = 10
+number_of (status.TooManyKeys keys) = 11
+number_of (status.LostDisk disk) = 12
+number_of (status.Spent disk) = 13
 
 -- how a run ends whose next line could not be read
 abbrev pub status_of_fault : LineFault → Status
@@ -41,7 +47,16 @@ status_of_rack (rack.NotEmpty disk) = status.NotEmpty disk
 status_of_rack (rack.DiskFault disk) = status.DiskFault disk
 status_of_rack rack.NoMemory = status.NoMemory
 
--- how a run ends whose store was not opened
+-- how a run ends whose store was not opened over its disks
+abbrev pub status_of_reopening : ReopenFault → Status
+status_of_reopening (reopening.LostDisk disk) = status.LostDisk disk
+status_of_reopening (reopening.Foreign disk at) = status.Foreign disk at
+status_of_reopening (reopening.TooManyKeys keys) = status.TooManyKeys keys
+status_of_reopening (reopening.Spent disk) = status.Spent disk
+status_of_reopening (reopening.DiskFault disk) = status.DiskFault disk
+status_of_reopening reopening.NoMemory = status.NoMemory
+
+-- how a race ends whose store was not opened
 abbrev pub status_of_opening : OpenFault → Status
 status_of_opening (opening.DiskFault disk) = status.DiskFault disk
 status_of_opening (opening.Foreign disk at) = status.NotEmpty disk

@@ -10,6 +10,7 @@ use Rattle.clap.specs.Words.{App, Rule, Text, new_app, new_rule, with_rule, with
 use Rattle.clap.specs.declared.builder.action.ArgAction.TheVariants.{Set}
 use Rattle.clap.specs.declared.builder.value_parser.ValueParser.{ValueParser}
 use Rattle.clap.specs.declared.builder.value_parser.ValueParser.TheVariants.{Unsigned, String}
+use Rattle.cas_world.specs.Openings.Opening.{members_to}
 use Rattle.casreg_script.specs.Load.{IsLoad}
 use Rattle.casreg_script.specs.declared.load.Load.{Load}
 use Rattle.casreg_command.specs.declared.words.LoadOptions.{LoadOptions}
@@ -128,7 +129,7 @@ pub record HasNumbers (given : Option (Text × List Row)) (options : Options) : 
 
 -- the numbers that the options of a load have, and what `--marks` says
 pub record HasLoad (given : Option (Text × List Row)) (options : LoadOptions) : Type 0 where
-  pub acceptors : number_of (codes "acceptors") given ≡ Some options.load.acceptors
+  pub members : option_map members_to (number_of (codes "acceptors") given) ≡ Some options.load.members
   pub proposers : number_of (codes "proposers") given ≡ Some options.load.proposers
   pub tries : number_of (codes "tries") given ≡ Some options.load.tries
   pub seed : number_of (codes "seed") given ≡ Some options.load.seed
@@ -167,12 +168,12 @@ IsInRange (request.Race options) = AreOptionsInRange options
 IsInRange (request.Load options) = IsLoadInRange options.load
 IsInRange request.Audit = ⊤
 
--- how large a cluster is asked for; none of an audit
-abbrev pub acceptors_of : Request → ℕ
-acceptors_of (request.Script options) = options.acceptors
-acceptors_of (request.Race options) = options.acceptors
-acceptors_of (request.Load options) = options.load.acceptors
-acceptors_of request.Audit = 0
+-- who the members are that are asked for; nobody of an audit
+abbrev pub members_of : Request → List ℕ
+members_of (request.Script options) = members_to options.acceptors
+members_of (request.Race options) = members_to options.acceptors
+members_of (request.Load options) = options.load.members
+members_of request.Audit = []
 
 abbrev pub proposers_of : Request → ℕ
 proposers_of (request.Script options) = options.proposers

@@ -1,6 +1,6 @@
 //! The top call: a command over the store, from the bytes in to the bytes out.
 
-ghost use Rattle.std.specs.Prelude.{◌≡◌, ◌≢◌, ◌≤◌, ◌↔◌, IsTrue, List, ℕ, map, string_bytes, vec_len, OnOk, IfErr, IfSome, IsErrOf};
+ghost use Rattle.std.specs.Prelude.{◌≡◌, ◌≢◌, ◌≤◌, ⊤, List, ℕ, map, string_bytes, Option, vec_len, OnOk, IfErr, IfSome, IsErrOf};
 ghost use Rattle.std.specs.Io.KnownBytes.{IsAtEnd};
 ghost use Rattle.cas_base.specs.Faults.{Rose};
 ghost use Rattle.cas_lines.specs.Lines.{Ending, Whole, ending_of, FailsBehind};
@@ -10,8 +10,8 @@ ghost use Rattle.cas_model.specs.View.{meaning};
 ghost use Rattle.cas_store.specs.Rack.{rack_meaning};
 ghost use Rattle.casreg_script.specs.Script.{State, IsInState};
 ghost use Rattle.casreg_script.specs.Stage.{AllIdle};
-ghost use Rattle.casreg_command.specs.Causes.{EndsIn, LoadEnds, RanCommand, RanLeaving, RanOver, ReadsLines, UsesDisks, Wrote, status_of};
-ghost use Rattle.casreg_command.specs.Words.{AreWords, AreOptionsInRange, IsInRange, acceptors_of, proposers_of};
+ghost use Rattle.casreg_command.specs.Causes.{EndsIn, LoadEnds, RanCommand, RanLeaving, RanOver, ReadsLines, Wrote, status_of};
+ghost use Rattle.casreg_command.specs.Words.{AreWords, AreOptionsInRange, IsInRange, IsLoadInRange};
 ghost use Rattle.casreg_command.specs.declared.words.LoadOptions.{LoadOptions as ALoadOptions};
 ghost use Rattle.casreg_command.specs.declared.words.Options.{Options as ScriptOptions};
 ghost use Rattle.casreg_command.specs.declared.words.Request.{Request as ARequest};
@@ -30,6 +30,7 @@ use cas_lines::lines::Lines;
 use cas_lines::sink::{Sink, put_all};
 use cas_lines::source::Source;
 use cas_record::Record;
+use cas_reopen::{first_members, open_rack};
 use cas_slot::Shelf;
 use cas_store::{Rack, Store};
 use cas_world::Config;
@@ -56,12 +57,15 @@ use std::thread::Threads;
 /// - `--marks`: `yes` or `no`, or `no`.
 /// - `--seed` of `load`: any `u64`, or 1; `--lines` of it: up to 100,000, or 1,000.
 ///
-/// Then all disks are asked for their lengths in the order of their numbers, and each must be empty. Then the members' and the proposers'
-/// disks are started in that order. A line of a script asks for a change or for an event, or is a remark, which has no answer. Any other
-/// line is answered as bad, with the reason. In a race an event's line is bad. The statuses say how the run ended:
+/// Then all disks are asked for their lengths in the order of their numbers. If all are empty, the members' and the proposers' disks are
+/// started in that order. Otherwise a script and a load go on from what stands on the members' disks, as [`open_rack`] says, and a race ends.
+/// A line of a script asks for a change or for an event, or is a remark, which has no answer. Any other line is answered as bad, with the
+/// reason. In a race an event's line is bad. The statuses say how the run ended:
 ///
-/// - [`Status::NotEmpty`] comes only of a disk that was not empty, if disks tell what they keep.
-/// - [`Status::DiskFault`] comes only of one whose count of faults rose.
+/// - [`Status::LostDisk`], [`Status::Foreign`], [`Status::TooManyKeys`] and [`Status::Spent`] tell why a script's or a load's store was not
+///   opened.
+/// - [`Status::NotEmpty`] comes only of a race with a disk that was not empty, if disks tell what they keep.
+/// - [`Status::DiskFault`] comes only of a disk whose count of faults rose.
 pub fn cluster<R: Threads + Wait + Sync, S: Source, K: Sink, D: Disk + Send + Drop, F: Fate + Send>(
     rt: &R,
     alloc: Global,
@@ -74,8 +78,9 @@ pub fn cluster<R: Threads + Wait + Sync, S: Source, K: Sink, D: Disk + Send + Dr
     requires acceptors { vec_len rack.acceptors ≡ 64 }
     requires vaults { vec_len rack.vaults ≡ 17 }
     requires fates { vec_len fates.old ≡ 17 }
-    // What was written, command by command. A script and a load ran in a new world over the rack's disks, whose members are up. What is
-    // said of records and of disks that come back holds if disks tell what they keep.
+    // What was written, command by command. A script and a load ran in a store that was opened over the rack: a new one if all disks were
+    // empty, and else one that goes on from what stood on the members' disks. What is said of records and of disks that come back holds if
+    // disks tell what they keep.
     // - Script: the transcript of a script run over the lines of the input. The record of that run is legal. Along it each change line that
     //   nothing stood against was answered done, or that there was no memory, if the members and its proposer were up after it. What each
     //   read was answered is so. The rack that comes back holds the disks of its last world. If the source failed, the lines are all that
@@ -131,7 +136,7 @@ fn run<R: Threads + Wait + Sync, S: Source, K: Sink, D: Disk + Send + Drop, F: F
     request: Request,
     source: &mut S,
     sink: &mut K,
-    mut rack: Rack<D>,
+    rack: Rack<D>,
     fates: &mut Vec<F>,
 ) -> (Status, Rack<D>)
     requires acceptors { vec_len rack.acceptors ≡ 64 }
@@ -173,83 +178,185 @@ fn run<R: Threads + Wait + Sync, S: Source, K: Sink, D: Disk + Send + Drop, F: F
     ensures all_vaults { vec_len result.1.vaults ≡ 17 }
     ensures all_fates { vec_len fates.new ≡ 17 }
 {
-    if !uses_disks(request) {
-        return (audit_input(alloc, source, sink), rack);
-    }
-    if let Err(fault) = rack.expect_empty() {
-        return (Status::from(fault), rack);
-    }
-    let config = config_of(request);
     match request {
-        Request::Script(options) => match Store::open(alloc, config, rack) {
-            Ok(store) => run_script(alloc, options, source, sink, store),
-            Err((fault, rack)) => (Status::from(fault), rack),
-        },
-        Request::Race(options) => match Board::open(alloc, config, rack) {
-            Ok((board, passes)) => {
-                race_board(rt, alloc, options, source, sink, board, passes, fates)
-            }
-            Err((fault, rack)) => (Status::from(fault), rack),
-        },
-        Request::Load(options) => match Store::open(alloc, config, rack) {
-            Ok(store) => load_store(alloc, options, sink, store),
-            Err((fault, rack)) => (Status::from(fault), rack),
-        },
-        Request::Audit => unreachable!(),
-    }
-}
-
-/// Whether a command runs over acceptors and proposers.
-fn uses_disks(request: Request) -> bool
-    ensures { IsTrue result ↔ UsesDisks request }
-{
-    match request {
-        Request::Script(_) | Request::Race(_) | Request::Load(_) => true,
-        Request::Audit => false,
+        Request::Script(options) => start_script(alloc, options, source, sink, rack),
+        Request::Race(options) => start_race(rt, alloc, options, source, sink, rack, fates),
+        Request::Load(options) => start_load(alloc, options, sink, rack),
+        Request::Audit => (audit_input(alloc, source, sink), rack),
     }
 }
 
 /// How large a cluster is asked for.
-fn config_of(request: Request) -> Config
-    ensures acceptors { result.acceptors ≡ acceptors_of request }
-    ensures proposers { result.proposers ≡ proposers_of request }
+fn config_of(options: Options) -> Config
+    ensures acceptors { result.acceptors ≡ options.acceptors }
+    ensures proposers { result.proposers ≡ options.proposers }
 {
-    match request {
-        Request::Script(
-            Options {
-                acceptors,
-                proposers,
-                ..
-            },
-        )
-        | Request::Race(
-            Options {
-                acceptors,
-                proposers,
-                ..
-            },
-        )
-        | Request::Load(
-            LoadOptions {
-                load: Load {
-                    acceptors,
-                    proposers,
-                    ..
-                },
-                ..
-            },
-        ) => Config {
-            acceptors,
-            proposers,
-        },
-        Request::Audit => Config {
-            acceptors: 0,
-            proposers: 0,
-        },
+    Config {
+        acceptors: options.acceptors,
+        proposers: options.proposers,
     }
 }
 
-/// Runs the script in a store in which nothing has happened, and takes the store apart then. The record is
+/// Opens a store over the rack, and runs the script in it.
+fn start_script<S: Source, K: Sink, D: Disk + Drop>(
+    alloc: Global,
+    options: Options,
+    source: &mut S,
+    sink: &mut K,
+    rack: Rack<D>,
+) -> (Status, Rack<D>)
+    requires acceptors { vec_len rack.acceptors ≡ 64 }
+    requires vaults { vec_len rack.vaults ≡ 17 }
+    requires range { AreOptionsInRange options }
+    ensures wrote { (harms harms_then : List ℕ) → Wrote
+        (meaning ⟦<DiskShelf<D> as Shelf>⟧ D.Disk) (rack_meaning D.Disk) (Request.Script options)
+        (record {
+          input = S.remaining source.old;
+          written = K.contents sink.old;
+          source_faults = S.faults_of source.old;
+          sink_faults = K.faults_of sink.old;
+          harms = harms;
+          rack = rack;
+        })
+        (record {
+          status = result.0;
+          HadEnded = FailsBehind S.take_gives source.old source.new;
+          written = K.contents sink.new;
+          source_faults = S.faults_of source.new;
+          sink_faults = K.faults_of sink.new;
+          harms = harms_then;
+          rack = result.1;
+        }) }
+    ensures usage { result.0 ≢ Status.Usage }
+    ensures read_fault { result.0 ≡ Status.ReadFault
+        → Rose (S.faults_of source.old) (S.faults_of source.new) }
+    ensures write_fault { result.0 ≡ Status.WriteFault
+        → Rose (K.faults_of sink.old) (K.faults_of sink.new) }
+    ensures ends { (ending : Ending) → result.0 ≡ status_of ending
+        → IfSome (S.remaining source.old) (λ input. ending_of input ≡ ending) }
+    ensures read { result.0 ≡ Status.Ok → IsAtEnd (S.remaining source.new) }
+    ensures all_acceptors { vec_len result.1.acceptors ≡ 64 }
+    ensures all_vaults { vec_len result.1.vaults ≡ 17 }
+{
+    let members = first_members(options.acceptors);
+    match open_rack(alloc, config_of(options), members, rack) {
+        Ok(store) => run_script(alloc, options, source, sink, store),
+        Err((fault, rack)) => (Status::from(fault), rack),
+    }
+}
+
+/// Opens a store over the rack, and runs the load in it.
+fn start_load<K: Sink, D: Disk + Drop>(
+    alloc: Global,
+    options: LoadOptions,
+    sink: &mut K,
+    rack: Rack<D>,
+) -> (Status, Rack<D>)
+    requires acceptors { vec_len rack.acceptors ≡ 64 }
+    requires vaults { vec_len rack.vaults ≡ 17 }
+    requires range { IsLoadInRange options.load }
+    // It reads nothing, so no lines had ended.
+    ensures wrote { (input : Option (List ℕ)) (faults : ℕ) (harms harms_then : List ℕ)
+        → Wrote (meaning ⟦<DiskShelf<D> as Shelf>⟧ D.Disk) (rack_meaning D.Disk)
+        (Request.Load options)
+        (record {
+          input = input;
+          written = K.contents sink.old;
+          source_faults = faults;
+          sink_faults = K.faults_of sink.old;
+          harms = harms;
+          rack = rack;
+        })
+        (record {
+          status = result.0;
+          HadEnded = λ lines. ⊤;
+          written = K.contents sink.new;
+          source_faults = faults;
+          sink_faults = K.faults_of sink.new;
+          harms = harms_then;
+          rack = result.1;
+        }) }
+    ensures usage { result.0 ≢ Status.Usage }
+    ensures read_fault { result.0 ≢ Status.ReadFault }
+    ensures write_fault { result.0 ≡ Status.WriteFault
+        → Rose (K.faults_of sink.old) (K.faults_of sink.new) }
+    ensures ends { LoadEnds result.0 }
+    ensures all_acceptors { vec_len result.1.acceptors ≡ 64 }
+    ensures all_vaults { vec_len result.1.vaults ≡ 17 }
+{
+    let LoadOptions { load, marks: _ } = options;
+    let Load {
+        members,
+        proposers,
+        ..
+    } = load;
+    let config = Config {
+        acceptors: members.count() as u8,
+        proposers,
+    };
+    match open_rack(alloc, config, members, rack) {
+        Ok(store) => load_store(alloc, options, sink, store),
+        Err((fault, rack)) => (Status::from(fault), rack),
+    }
+}
+
+/// Runs the race over the rack, whose disks have to be empty.
+fn start_race<R: Threads + Wait + Sync, S: Source, K: Sink, D: Disk + Send + Drop, F: Fate + Send>(
+    rt: &R,
+    alloc: Global,
+    options: Options,
+    source: &mut S,
+    sink: &mut K,
+    mut rack: Rack<D>,
+    fates: &mut Vec<F>,
+) -> (Status, Rack<D>)
+    requires acceptors { vec_len rack.acceptors ≡ 64 }
+    requires vaults { vec_len rack.vaults ≡ 17 }
+    requires fates { vec_len fates.old ≡ 17 }
+    requires range { AreOptionsInRange options }
+    ensures wrote { Wrote (meaning ⟦<DiskShelf<D> as Shelf>⟧ D.Disk) (rack_meaning D.Disk)
+        (Request.Race options)
+        (record {
+          input = S.remaining source.old;
+          written = K.contents sink.old;
+          source_faults = S.faults_of source.old;
+          sink_faults = K.faults_of sink.old;
+          harms = map F.harm_count fates.old.items;
+          rack = rack;
+        })
+        (record {
+          status = result.0;
+          HadEnded = FailsBehind S.take_gives source.old source.new;
+          written = K.contents sink.new;
+          source_faults = S.faults_of source.new;
+          sink_faults = K.faults_of sink.new;
+          harms = map F.harm_count fates.new.items;
+          rack = result.1;
+        }) }
+    ensures usage { result.0 ≢ Status.Usage }
+    ensures read_fault { result.0 ≡ Status.ReadFault
+        → Rose (S.faults_of source.old) (S.faults_of source.new) }
+    ensures write_fault { result.0 ≡ Status.WriteFault
+        → Rose (K.faults_of sink.old) (K.faults_of sink.new) }
+    ensures ends { (ending : Ending) → result.0 ≡ status_of ending
+        → IfSome (S.remaining source.old) (λ input. ending_of input ≡ ending) }
+    ensures read { result.0 ≡ Status.Ok → IsAtEnd (S.remaining source.new) }
+    ensures all_acceptors { vec_len result.1.acceptors ≡ 64 }
+    ensures all_vaults { vec_len result.1.vaults ≡ 17 }
+    ensures all_fates { vec_len fates.new ≡ 17 }
+{
+    if let Err(fault) = rack.expect_empty() {
+        return (Status::from(fault), rack);
+    }
+    match Board::open(alloc, config_of(options), rack) {
+        Ok((board, passes)) => {
+            race_board(rt, alloc, options, source, sink, board, passes, fates)
+        }
+        Err((fault, rack)) => (Status::from(fault), rack),
+    }
+}
+
+/// Runs the script in a store in which no call is open, and takes the store apart then. The record is
 /// written behind the answers where that is asked for.
 fn run_script<S: Source, K: Sink, D: Disk + Drop>(
     alloc: Global,
@@ -283,7 +390,7 @@ fn run_script<S: Source, K: Sink, D: Disk + Drop>(
     )
 }
 
-/// Runs the script in a store in which nothing has happened, and takes the store apart then, into its record and its disks.
+/// Runs the script in a store in which no call is open, and takes the store apart then, into its record and its disks.
 fn answer_script<S: Source, K: Sink, D: Disk + Drop>(
     alloc: Global,
     options: Options,

@@ -1,6 +1,6 @@
 //! A race over the store: how it ends.
 
-ghost use Rattle.std.specs.Prelude.{◌≡◌, ◌≢◌, ◌≤◌, ◌+◌, map, vec_len, vec_capacity, All, IfSome};
+ghost use Rattle.std.specs.Prelude.{◌≡◌, ◌≢◌, ◌≤◌, ◌+◌, [], map, vec_len, vec_capacity, All, IfSome};
 ghost use Rattle.std.specs.Io.KnownBytes.{IsAtEnd};
 ghost use Rattle.cas_model.specs.Exchanges.Tellings.{AreWritable};
 ghost use Rattle.cas_base.specs.Faults.{Rose};
@@ -46,7 +46,7 @@ pub(crate) fn race_board<
 ) -> (Status, Rack<D>)
     requires range { AreOptionsInRange options }
     requires seats { board.seats ≡ options.proposers + 1 }
-    requires passes { passes.items ≡ fresh_seats board.id (options.proposers + 1) }
+    requires passes { passes.items ≡ fresh_seats board.id (options.proposers + 1) [] }
     requires idle { All (λ pass. IsPassOf board pass × NothingIsOpen pass.own) passes.items }
     requires room { vec_capacity passes ≡ options.proposers + 1 }
     requires fates { vec_len fates.old ≡ 17 }
@@ -87,7 +87,7 @@ fn race_lines<R: Threads + Wait + Sync, S: Source, K: Sink, D: Disk + Send + Dro
 ) -> (Status, Closed<D>)
     requires range { AreOptionsInRange options }
     requires seats { board.seats ≡ options.proposers + 1 }
-    requires passes { passes.items ≡ fresh_seats board.id (options.proposers + 1) }
+    requires passes { passes.items ≡ fresh_seats board.id (options.proposers + 1) [] }
     requires idle { All (λ pass. IsPassOf board pass × NothingIsOpen pass.own) passes.items }
     requires room { vec_capacity passes ≡ options.proposers + 1 }
     requires fates { vec_len fates.old ≡ 17 }

@@ -7,6 +7,7 @@ ghost use Rattle.casreg_command.specs.declared.status.Status.TheVariants.{WriteF
 use cas_audit::AuditFault;
 use cas_lines::lines::LineFault;
 use cas_lines::source::Failed;
+use cas_reopen::ReopenFault;
 use cas_store::RackFault;
 use cas_world::OpenFault;
 use casreg_marks::MarksFault;
@@ -26,7 +27,7 @@ pub enum Status {
     /// The sink failed. It has a front of the answers.
     WriteFault,
     /// The disk of this number was not empty, and no disk before it failed: 0 to 63 for those of the acceptors, 64 to 80 for those of the
-    /// vaults. Nothing was read or written, and each disk keeps what it held.
+    /// vaults. It comes of a race alone. Nothing was read or written, and each disk keeps what it held.
     NotEmpty { disk: u8 },
     /// The disk of this number failed as the store was opened, numbered likewise. Nothing was read or written.
     DiskFault { disk: u8 },
@@ -36,6 +37,18 @@ pub enum Status {
     NoMemory,
     /// The line of this number has more than 65,536 bytes. The answers to the lines before were written; of a race nothing was.
     Endless { line: u32 },
+    /// What stands on the disk of this number is none of a store: the byte at this place is the first that is not as the format demands.
+    /// No line was read, and nothing was written. What was settled stands on the members' disks still.
+    Foreign { disk: u8, at: u64 },
+    /// The members hold so many keys with a state, and a store takes 4,096. No line was read, and nothing was written. What was settled stands
+    /// on the members' disks still.
+    TooManyKeys { keys: u32 },
+    /// The disk of this number is empty, though others are not: that of a member, or that of the vault of proposer 0. It is the least such
+    /// number. No line was read, nothing was written, and each disk keeps what it held.
+    LostDisk { disk: u8 },
+    /// The age of the vault on the disk of this number is at its end. No line was read, and nothing was written. What was settled stands on the
+    /// members' disks still.
+    Spent { disk: u8 },
 }
 
 impl Status {
@@ -53,6 +66,10 @@ impl Status {
             Status::TooManyLines => 7,
             Status::NoMemory => 8,
             Status::Endless { .. } => 9,
+            Status::Foreign { .. } => 10,
+            Status::TooManyKeys { .. } => 11,
+            Status::LostDisk { .. } => 12,
+            Status::Spent { .. } => 13,
         }
     }
 }
@@ -138,7 +155,26 @@ impl From<RackFault> for Status {
     }
 }
 
-/// Why the store was not opened.
+/// Why a store was not opened over its disks.
+impl From<ReopenFault> for Status {
+    ghost use Rattle.std.specs.Prelude.{◌≡◌};
+    ghost use Rattle.casreg_command.specs.Status.{status_of_reopening};
+
+    ghost from_gives = { λ fault status. status ≡ status_of_reopening fault };
+
+    fn from(fault: ReopenFault) -> Status {
+        match fault {
+            ReopenFault::LostDisk { disk } => Status::LostDisk { disk },
+            ReopenFault::Foreign { disk, at } => Status::Foreign { disk, at },
+            ReopenFault::TooManyKeys { keys } => Status::TooManyKeys { keys },
+            ReopenFault::Spent { disk } => Status::Spent { disk },
+            ReopenFault::DiskFault { disk } => Status::DiskFault { disk },
+            ReopenFault::NoMemory => Status::NoMemory,
+        }
+    }
+}
+
+/// Why the store of a race was not opened.
 impl From<OpenFault> for Status {
     ghost use Rattle.std.specs.Prelude.{◌≡◌};
     ghost use Rattle.casreg_command.specs.Status.{status_of_opening};

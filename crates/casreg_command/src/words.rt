@@ -5,10 +5,12 @@ ghost use Rattle.clap.specs.Matches.{found_of};
 ghost use Rattle.clap.specs.Simple.{app_of, subcommand_rows_of};
 ghost use Rattle.clap.specs.Walk.{first_of, one_of, rows_of, rule_of};
 ghost use Rattle.clap.specs.declared.builder.command.Command.TheViews.{out-Command};
+ghost use Rattle.cas_world.specs.Openings.Opening.{members_to};
 ghost use Rattle.casreg_command.specs.Words.{option_of, over_cluster, script, race, load, audit, running, casreg, command_line, faults_of, number_in, marks_word};
 ghost use Rattle.casreg_command.specs.Words.{IsNumberIn, HasOptions, HasMarks, SaysNeither, HasDrawing, HasCommand, AsksFor, AreWords, AreOptionsInRange, IsLoadInRange, IsInRange};
 ghost use Rattle.casreg_command.specs.declared.words.Request.{Request as ARequest};
 
+use cas_reopen::first_members;
 use casreg_script::Load;
 use clap::builder::ValueParser;
 use clap::error::ErrorKind;
@@ -138,9 +140,9 @@ fn load_of(given: &ArgMatches<'_>) -> Option<LoadOptions>
     requires options { HasOptions (rows_of (found_of given.now)) }
     requires marks { HasMarks (rows_of (found_of given.now)) }
     requires drawing { HasDrawing (rows_of (found_of given.now)) }
-    ensures acceptors { IfSome result (λ options. option_map number_in
-        (one_of (codes "acceptors") (rows_of (found_of given.now)))
-        ≡ Some options.load.acceptors) }
+    ensures members { IfSome result (λ options. option_map members_to (option_map number_in
+        (one_of (codes "acceptors") (rows_of (found_of given.now))))
+        ≡ Some options.load.members) }
     ensures proposers { IfSome result (λ options. option_map number_in
         (one_of (codes "proposers") (rows_of (found_of given.now)))
         ≡ Some options.load.proposers) }
@@ -158,7 +160,7 @@ fn load_of(given: &ArgMatches<'_>) -> Option<LoadOptions>
     let marks = marks_of(given)?;
     Some(LoadOptions {
         load: Load {
-            acceptors: number_of(given, "acceptors", 9),
+            members: first_members(number_of(given, "acceptors", 9)),
             proposers: number_of(given, "proposers", 16),
             tries: number_of(given, "tries", 64),
             seed: seed_of(given),

@@ -13,6 +13,8 @@ mod reading;
 #[cfg(test)]
 mod records;
 #[cfg(test)]
+mod reopening;
+#[cfg(test)]
 mod rows;
 #[cfg(test)]
 mod words;

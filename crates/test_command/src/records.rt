@@ -147,7 +147,7 @@ fn an_audit_looks_at_no_disk(rt: HostRuntime) -> Result<(), Fail> {
         ..FINE
     };
     let refused = run(&rt, SCRIPT, b"1 add a 5\n", outside)?;
-    assert_eq!(rt; refused.status, Status::NotEmpty { disk: 3 });
+    assert_eq!(rt; refused.status, Status::LostDisk { disk: 1 });
     let audited = run(&rt, "audit", b"record 0\n", outside)?;
     assert_eq!(rt; audited.status, Status::Ok);
     assert_eq!(rt; audited.written.as_slice(), b"legal\n".as_slice());

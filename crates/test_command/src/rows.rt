@@ -1,8 +1,8 @@
 //! The worked rows of the program, over disks in memory.
 
-ghost use Rattle.std.specs.Prelude.{◌≡◌, vec_len, IfOk};
+ghost use Rattle.std.specs.Prelude.{◌≡◌, length, vec_len, IfOk};
 
-use cas_disk::{Image, MemoryDisk, Trouble};
+use cas_disk::{Disk, Image, MemoryDisk, Trouble};
 use cas_fate::{Fate, Links};
 use cas_lines::sink::MemorySink;
 use cas_lines::source::MemorySource;
@@ -45,7 +45,7 @@ fn disk(alloc: Global, number: u8, odd: &Odd<'_>) -> Result<MemoryDisk, AllocErr
     Ok(MemoryDisk::new(alloc, bytes, troubles, odd.image))
 }
 
-fn disks(alloc: Global, count: u8, odd: &Odd<'_>) -> Result<Vec<MemoryDisk>, AllocError>
+fn make_disks(alloc: Global, count: u8, odd: &Odd<'_>) -> Result<Vec<MemoryDisk>, AllocError>
     ensures { IfOk result (λ disks. vec_len disks ≡ count) }
 {
     let mut disks = Vec::new(alloc);
@@ -55,13 +55,79 @@ fn disks(alloc: Global, count: u8, odd: &Odd<'_>) -> Result<Vec<MemoryDisk>, All
     Ok(disks)
 }
 
-fn rack(alloc: Global, odd: &Odd<'_>, odd_vault: &Odd<'_>) -> Result<Rack<MemoryDisk>, AllocError>
-    ensures acceptors { IfOk result (λ rack. vec_len rack.acceptors ≡ 64) }
-    ensures vaults { IfOk result (λ rack. vec_len rack.vaults ≡ 17) }
+/// Disks with what these hold. The odd one has its trouble, and leaves its image.
+fn copies(alloc: Global, disks: &[MemoryDisk], odd: &Odd<'_>) -> Result<Vec<MemoryDisk>, AllocError>
+    ensures { IfOk result (λ copies. vec_len copies ≡ length disks.now) }
 {
-    let acceptors = disks(alloc, ACCEPTORS, odd)?;
-    let vaults = disks(alloc, VAULTS, odd_vault)?;
-    Ok(Rack { acceptors, vaults })
+    let mut copies = Vec::with_capacity(alloc, disks.len())?;
+    for (number, disk) in disks.iter().enumerate() {
+        let bytes = disk.bytes().to_vec(alloc)?;
+        let call = if number == usize::from(odd.number) {
+            odd.call
+        } else {
+            0
+        };
+        let troubles = [(call, odd.trouble)].to_vec(alloc)?;
+        copies.push_reserved(MemoryDisk::new(alloc, bytes, troubles, odd.image));
+    }
+    Ok(copies)
+}
+
+/// The disks that runs leave to one another.
+#[derive(Drop)]
+pub struct Disks {
+    rack: Rack<MemoryDisk>,
+    ghost acceptors: { vec_len rack.acceptors ≡ 64 },
+    ghost vaults: { vec_len rack.vaults ≡ 17 },
+}
+
+impl Disks {
+    /// Empty ones, but for the odd ones.
+    pub fn new(alloc: Global, odd: &Odd<'_>, odd_vault: &Odd<'_>) -> Result<Disks, AllocError> {
+        let acceptors = make_disks(alloc, ACCEPTORS, odd)?;
+        let vaults = make_disks(alloc, VAULTS, odd_vault)?;
+        Ok(Disks {
+            rack: Rack { acceptors, vaults },
+        })
+    }
+
+    /// Others with what these hold, of which one of an acceptor and one of a vault may have trouble.
+    pub fn copied(
+        &self,
+        alloc: Global,
+        odd: &Odd<'_>,
+        odd_vault: &Odd<'_>,
+    ) -> Result<Disks, AllocError> {
+        let acceptors = copies(alloc, &self.rack.acceptors, odd)?;
+        let vaults = copies(alloc, &self.rack.vaults, odd_vault)?;
+        Ok(Disks {
+            rack: Rack { acceptors, vaults },
+        })
+    }
+
+    /// Others with what a crash of all of these left. They have no trouble.
+    pub fn crashed(self, alloc: Global) -> Result<Disks, AllocError> {
+        let Disks { rack } = self;
+        let Rack {
+            mut acceptors,
+            mut vaults,
+        } = rack;
+        crash_all(&mut acceptors);
+        crash_all(&mut vaults);
+        let acceptors = copies(alloc, &acceptors, &NONE_ODD)?;
+        let vaults = copies(alloc, &vaults, &NONE_ODD)?;
+        Ok(Disks {
+            rack: Rack { acceptors, vaults },
+        })
+    }
+}
+
+fn crash_all(disks: &mut Vec<MemoryDisk>)
+    ensures { vec_len disks.new ≡ vec_len disks.old }
+{
+    for disk in disks.iter_mut() {
+        disk.crash();
+    }
 }
 
 /// A run over memory that has finished: how it ended, what was written, and the length of each acceptor's disk.
@@ -116,6 +182,21 @@ pub fn run_with<R: AllocGlobal + Threads + Wait + Sync, F: Fate + Send>(
 ) -> Result<Finished, AllocError>
     requires { vec_len fates.old ≡ 17 }
 {
+    let disks = Disks::new(rt.alloc(), &outside.odd, &outside.odd_vault)?;
+    Ok(run_over(rt, words, input, outside, fates, disks)?.0)
+}
+
+/// Runs the words over the input and these disks, with these fates, which are 17. The disks come back.
+pub fn run_over<R: AllocGlobal + Threads + Wait + Sync, F: Fate + Send>(
+    rt: &R,
+    words: &str,
+    input: &[u8],
+    outside: Outside<'_>,
+    fates: &mut Vec<F>,
+    disks: Disks,
+) -> Result<(Finished, Disks), AllocError>
+    requires { vec_len fates.old ≡ 17 }
+{
     let alloc = rt.alloc();
     let mut list = Vec::new(alloc);
     for word in words.split_whitespace() {
@@ -125,17 +206,18 @@ pub fn run_with<R: AllocGlobal + Threads + Wait + Sync, F: Fate + Send>(
     let piece = outside.piece.max(1);
     let mut source = MemorySource::new(bytes, piece, [outside.source_fails].to_vec(alloc)?);
     let mut sink = MemorySink::new(alloc, piece, [outside.sink_fails].to_vec(alloc)?);
-    let rack = rack(alloc, &outside.odd, &outside.odd_vault)?;
+    let Disks { rack } = disks;
     let (status, rack) = cluster(rt, alloc, &list, &mut source, &mut sink, rack, fates);
     let mut lengths = Vec::new(alloc);
     for disk in &rack.acceptors {
         lengths.push(disk.bytes().len())?;
     }
-    Ok(Finished {
+    let finished = Finished {
         status,
         written: sink.bytes().to_vec(alloc)?,
         lengths,
-    })
+    };
+    Ok((finished, Disks { rack }))
 }
 
 #[test]
@@ -327,15 +409,16 @@ fn stops_where_the_outside_fails(rt: HostRuntime) -> Result<(), Fail> {
     Ok(())
 }
 
+/// One disk is not empty, and the least member's is.
 #[test]
-fn takes_empty_disks_alone(rt: HostRuntime) -> Result<(), Fail> {
+fn tells_the_least_disk_that_is_lost(rt: HostRuntime) -> Result<(), Fail> {
     let odd = Odd {
         number: 2,
         bytes: b"x",
         ..NONE_ODD
     };
     let run = run(&rt, SCRIPT, b"1 add a 5\n", Outside { odd, ..FINE })?;
-    assert_eq!(rt; run.status, Status::NotEmpty { disk: 2 });
+    assert_eq!(rt; run.status, Status::LostDisk { disk: 1 });
     assert_eq!(rt; run.written.as_slice(), b"".as_slice());
     assert_eq!(rt; run.lengths.get(2).copied(), Some(1));
     Ok(())

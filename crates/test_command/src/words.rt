@@ -1,5 +1,6 @@
 //! The words of the command line.
 
+use cas_ballot::{AcceptorId, Members};
 use casreg_command::{LoadOptions, Options, Request, read_words};
 use casreg_script::Load;
 use std::test::Fail;
@@ -38,8 +39,14 @@ fn loads_with_marks(
     lines: u32,
     marks: bool,
 ) -> Option<Request> {
+    let mut members = Members::new();
+    for number in 1..=acceptors {
+        if let Some(id) = AcceptorId::new(number) {
+            members.insert(id);
+        }
+    }
     let load = Load {
-        acceptors,
+        members,
         proposers,
         tries,
         seed,

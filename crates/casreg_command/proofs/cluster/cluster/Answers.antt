@@ -36,7 +36,7 @@ returns-in-Ok-Some-clause-ran g c = record {
     load_completes = λ options words no_write.
         load_completes_of c.run.result.0 (c.run.ensures.loads options (only_one g c (request.Load options) words)).1 (λ is. no_write (c.run.ensures.write_fault is));
   };
-  disks = blamed (stored g.D.Disk) (rack_meaning g.D.Disk) c.in-Ok-Some.request _ _ c.run.ensures.wrote;
+  disks = blamed (stored g.D.Disk) (rack_meaning g.D.Disk) c.in-Ok-Some.request _ _ (sym c.args.rack.acceptors.ok.0 ∙ c.requires.acceptors) (sym c.run.result.1.acceptors.ok.0 ∙ c.run.ensures.all_acceptors) c.run.ensures.wrote;
 }
 
 -- ---- nothing is asked for

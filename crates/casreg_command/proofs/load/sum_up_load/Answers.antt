@@ -1,6 +1,4 @@
 use Rattle.std.proofs.Common.{Err, ap}
-use Rattle.cas_model.specs.View.{meaning}
-use Rattle.cas_disk_shelf.specs.declared.shelf.DiskShelf.{DiskShelf}
 use Rattle.casreg_command.specs.declared.status.Status.{Status}
 use Rattle.casreg_command.specs.declared.status.Status.TheVariants as status
 use Rattle.cas_store.proofs.Keeping.{stored}

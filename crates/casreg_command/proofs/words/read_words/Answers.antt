@@ -93,18 +93,21 @@ same_options given a b x y =
     ∙ ap (λ (n : ℕ). record { acceptors = b.acceptors; proposers = b.proposers; tries = n; marks = a.marks }) (same_number _ _ _ x.tries y.tries)
     ∙ ap (λ (m : Bool). record { acceptors = b.acceptors; proposers = b.proposers; tries = b.tries; marks = m }) (says_same _ _ _ x.marks y.marks)
 
+same_members : (o : Option (List ℕ)) (a b : List ℕ) → o ≡ Some a → o ≡ Some b → a ≡ b
+same_members o a b x y = let e : Some a ≡ Some b = sym x ∙ y in cc e
+
 -- these options of a load
-abbrev loading : ℕ → ℕ → ℕ → ℕ → ℕ → Bool → LoadOptions
-loading acceptors proposers tries seed lines marks = record { load = record { acceptors = acceptors; proposers = proposers; tries = tries; seed = seed; lines = lines }; marks = marks }
+abbrev loading : List ℕ → ℕ → ℕ → ℕ → ℕ → Bool → LoadOptions
+loading members proposers tries seed lines marks = record { load = record { members = members; proposers = proposers; tries = tries; seed = seed; lines = lines }; marks = marks }
 
 same_load : (given : Option (Text × List Row)) (a b : LoadOptions) → HasLoad given a → HasLoad given b → a ≡ b
 same_load given a b x y =
-    ap (λ (n : ℕ). loading n a.load.proposers a.load.tries a.load.seed a.load.lines a.marks) (same_number _ _ _ x.acceptors y.acceptors)
-    ∙ ap (λ (n : ℕ). loading b.load.acceptors n a.load.tries a.load.seed a.load.lines a.marks) (same_number _ _ _ x.proposers y.proposers)
-    ∙ ap (λ (n : ℕ). loading b.load.acceptors b.load.proposers n a.load.seed a.load.lines a.marks) (same_number _ _ _ x.tries y.tries)
-    ∙ ap (λ (n : ℕ). loading b.load.acceptors b.load.proposers b.load.tries n a.load.lines a.marks) (same_number _ _ _ x.seed y.seed)
-    ∙ ap (λ (n : ℕ). loading b.load.acceptors b.load.proposers b.load.tries b.load.seed n a.marks) (same_number _ _ _ x.lines y.lines)
-    ∙ ap (λ (m : Bool). loading b.load.acceptors b.load.proposers b.load.tries b.load.seed b.load.lines m) (says_same _ _ _ x.marks y.marks)
+    ap (λ (l : List ℕ). loading l a.load.proposers a.load.tries a.load.seed a.load.lines a.marks) (same_members _ _ _ x.members y.members)
+    ∙ ap (λ (n : ℕ). loading b.load.members n a.load.tries a.load.seed a.load.lines a.marks) (same_number _ _ _ x.proposers y.proposers)
+    ∙ ap (λ (n : ℕ). loading b.load.members b.load.proposers n a.load.seed a.load.lines a.marks) (same_number _ _ _ x.tries y.tries)
+    ∙ ap (λ (n : ℕ). loading b.load.members b.load.proposers b.load.tries n a.load.lines a.marks) (same_number _ _ _ x.seed y.seed)
+    ∙ ap (λ (n : ℕ). loading b.load.members b.load.proposers b.load.tries b.load.seed n a.marks) (same_number _ _ _ x.lines y.lines)
+    ∙ ap (λ (m : Bool). loading b.load.members b.load.proposers b.load.tries b.load.seed b.load.lines m) (says_same _ _ _ x.marks y.marks)
 
 -- a subcommand has one name
 one_name : (given : Option (Text × List Row)) (name other : Text) (A : Type 0) → (name ≡ other → ⊥) → IsNamed name given → IsNamed other given → A
