@@ -33,7 +33,8 @@ use Rattle.cas_session.specs.declared.attempts.Ending.{Ending}
 use Rattle.cas_session.specs.declared.attempts.Ending.TheVariants.{Ends, Again}
 use Rattle.cas_session.specs.Calls.{Call, Changes, is_answered, is_refused, CallIsAnswered, MakesCalls, none, first}
 use Rattle.cas_session.specs.Request.{Request, value_after, decided, decided_by, decided_new, decided_next, reply_to, change_to}
-use Rattle.cas_session.specs.Serving.{may_follow, ends_by, ends_with, without_memory, AttemptGoesOn, finds_no_memory, finds_no_session, finds_answer, changes, Attempts, has_no_memory, reads_nothing, reads_state, ServesRequest, is_answered as answers, is_tired, tries_again, WasServed}
+use Rattle.cas_session.specs.Serving.{may_follow, ends_by, ends_with, without_memory, AttemptGoesOn, finds_no_memory, finds_no_session, finds_answer, changes}
+use Rattle.cas_session.specs.Serving.{Attempts, has_no_memory, reads_nothing, reads_state, ServesRequest, is_answered as answers, is_tired, tries_again, WasServed}
 use Rattle.cas_session_laws.specs.History.{IsRequest, IsOfSession, IsSessionKey, ActsFor, HasActed, Acting}
 use Rattle.cas_session_laws.specs.Laws.{OpensWith, IsDone}
 use Rattle.cas_session_laws.proofs.Histories.{FoundRequests, found, Explained, was_told, has_acted, explained, reply_of-caller}
@@ -257,7 +258,8 @@ stood_by caller key program state took ballot old new legal (is_refused r) = eli
 ]
 
 -- ---- the entries of a session's key
-each_of_session : (key : List ℕ) (marks : List Mark) → IsLegal marks → IsSessionKey key marks → (front history : List Entry) → settled_of key marks ≡ front ++ history → AllByRecursion IsOfSession history
+each_of_session : (key : List ℕ) (marks : List Mark) → IsLegal marks → IsSessionKey key marks → (front history : List Entry) → settled_of key marks ≡ front ++ history
+    → AllByRecursion IsOfSession history
 each_of_session key marks legal session front [] e = tt
 each_of_session key marks legal session front (entry ∷ rest) e = (one, each_of_session key marks legal session (front ++ entry ∷ []) rest (e ∙ sym (append_assoc front (entry ∷ []) rest)))
   where
@@ -300,7 +302,8 @@ opens_empty request reply start e o =
     let nothing : reply_of request.caller no_requests.replies ≡ Some (reply_to request reply) = ap (λ (c : SessionContents). reply_of request.caller c.replies) (sym none_yet) ∙ o.told in
     absurd (cc (nothing))
 
-done_by_change : (request : Request) (reply : ℤ) (fresh : Bool) (key : List ℕ) (marks : List Mark) → HasActed request reply (opening_state key marks) (settled_of key marks) → IsDone request reply fresh key marks
+done_by_change : (request : Request) (reply : ℤ) (fresh : Bool) (key : List ℕ) (marks : List Mark) → HasActed request reply (opening_state key marks) (settled_of key marks)
+    → IsDone request reply fresh key marks
 done_by_change request reply fresh key marks h = record {
   fresh_acted = λ e. h;
   acted_or_opened = inl (request.act, h);
@@ -308,7 +311,8 @@ done_by_change request reply fresh key marks h = record {
 }
 
 done_by_read : (request : Request) (reply : ℤ) (fresh : Bool) (key : List ℕ) (marks : List Mark) → fresh ≡ false
-    → ((act : SessionAct) × HasActed (record { caller = request.caller; number = request.number; act = act }) reply (opening_state key marks) (settled_of key marks)) ⊎ OpensWith request reply (opening_state key marks)
+    → ((act : SessionAct) × HasActed (record { caller = request.caller; number = request.number; act = act }) reply (opening_state key marks) (settled_of key marks))
+    ⊎ OpensWith request reply (opening_state key marks)
     → IsDone request reply fresh key marks
 done_by_read request reply fresh key marks not_fresh known = record {
   fresh_acted = λ e. absurd (cc (e, not_fresh));

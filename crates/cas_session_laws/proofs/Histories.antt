@@ -44,11 +44,13 @@ above_more told replies rises (request ∷ requests) each = (one, above_more tol
     one : IsAbove replies request
     one = elim (cases_eq told.caller request.caller) [
       | inl same ↦
-          let last : last_number (reply_of request.caller (with_reply told replies)) ≡ told.number = ap (λ c. last_number (reply_of c (with_reply told replies))) (sym same) ∙ ap last_number (reply_of-told told replies) in
+          let last : last_number (reply_of request.caller (with_reply told replies)) ≡ told.number = ap (λ c. last_number (reply_of c (with_reply told replies))) (sym same)
+          ∙ ap last_number (reply_of-told told replies) in
           let before : last_number (reply_of request.caller replies) ≡ last_number (reply_of told.caller replies) = ap (λ c. last_number (reply_of c replies)) (sym same) in
           omega (arith, each.0, last, before, rises)
       | inr other ↦
-          let last : last_number (reply_of request.caller (with_reply told replies)) ≡ last_number (reply_of request.caller replies) = ap last_number (reply_of-other told replies request.caller other) in
+          let last : last_number (reply_of request.caller (with_reply told replies)) ≡ last_number (reply_of request.caller replies) = ap last_number
+          (reply_of-other told replies request.caller other) in
           omega (arith, each.0, last)
     ]
 
@@ -130,7 +132,8 @@ pub data Explained (caller : ℕ) (told : LastReply) (start : State) (history : 
   was_told : (contents : SessionContents) → StandsFor start contents → reply_of caller contents.replies ≡ Some told → Explained caller told start history
   has_acted : {request : Request} {left : ℤ} → reply_to request left ≡ told → HasActed request left start history → Explained caller told start history
 
-later_acted : {request : Request} {left : ℤ} (state : State) (entry : Entry) (later : List Entry) → HasActed request left (outcome_of entry.program state).state later → HasActed request left state (entry ∷ later)
+later_acted : {request : Request} {left : ℤ} (state : State) (entry : Entry) (later : List Entry) → HasActed request left (outcome_of entry.program state).state later
+    → HasActed request left state (entry ∷ later)
 later_acted state entry later h = record {
   before = entry ∷ h.before;
   entry = h.entry;

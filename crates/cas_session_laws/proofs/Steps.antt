@@ -64,7 +64,8 @@ next-new request value last left e = elim (cases_Bool (request.number == (last +
       absurd (cc (step))
 ]
 
-next-by : (request : Request) (value : ℤ) (last : Option LastReply) (left : ℤ) → decided_by request value last ≡ Proposes left → (request.number ≡ last_number last + 1) × (value_after request.act value ≡ Some left)
+next-by : (request : Request) (value : ℤ) (last : Option LastReply) (left : ℤ) → decided_by request value last ≡ Proposes left
+    → (request.number ≡ last_number last + 1) × (value_after request.act value ≡ Some left)
 next-by request value None left e = next-new request value 0 left e
 next-by request value (Some last) left e =
     let older : Decision = cond (nat_lt request.number last.number) (Answered (Stale last.number)) (decided_new request value last.number) in
@@ -212,7 +213,8 @@ pub data Step (state : State) (entry : Entry) : Type 0 where
   acted : {request : Request} {left : ℤ} → ActsFor request state left entry → Step state entry
 
 -- where the guard of a change holds, it acts
-acts_put : {request : Request} {made : State} {contents : SessionContents} {left : ℤ} (state : State) (entry : Entry) → request.caller ≡ entry.caller → IsChangeFor request made contents left entry.program
+acts_put : {request : Request} {made : State} {contents : SessionContents} {left : ℤ} (state : State) (entry : Entry) → request.caller ≡ entry.caller
+    → IsChangeFor request made contents left entry.program
     → holds (guard_for made) state ≡ true → (outcome_of entry.program state).took ≡ ByClause 0 → ActsFor request state left entry
 acts_put {request} {made} {contents} {left} state entry same change guard took =
     let stands = guard_stands made state contents change.stands_for guard in
@@ -230,7 +232,8 @@ acts_put {request} {made} {contents} {left} state entry same change guard took =
 
 pub step_of : (state : State) (entry : Entry) → IsOfSession entry → Step state entry
 step_of state entry (keeps e) = kept (ap (λ (p : List Clause). (outcome_of p state).state) e)
-step_of state entry (changes {request = request} {state = made} {contents = contents} {left = left} same change) = by_outcome (makes-change made (contents_text (after_reply (reply_to request left) contents)) state)
+step_of state entry (changes {request = request} {state = made} {contents = contents} {left = left} same change) = by_outcome
+    (makes-change made (contents_text (after_reply (reply_to request left) contents)) state)
   where
     by_outcome : MakesOfState made (contents_text (after_reply (reply_to request left) contents)) state (outcome_of (change_to made (after_reply (reply_to request left) contents)) state)
         → Step state entry
@@ -243,7 +246,8 @@ pub acts_where_taken : (request : Request) (made state : State) (contents : Sess
     → IsChangeFor request made contents left entry.program → (outcome_of entry.program state).took ≡ ByClause clause → ActsFor request state left entry
 acts_where_taken request made state contents left entry clause same change took = by_outcome (makes-change made (contents_text (after_reply (reply_to request left) contents)) state)
   where
-    by_outcome : MakesOfState made (contents_text (after_reply (reply_to request left) contents)) state (outcome_of (change_to made (after_reply (reply_to request left) contents)) state) → ActsFor request state left entry
+    by_outcome : MakesOfState made (contents_text (after_reply (reply_to request left) contents)) state (outcome_of (change_to made (after_reply (reply_to request left) contents)) state)
+        → ActsFor request state left entry
     by_outcome (stays same_state none) = absurd (none clause (ap (λ (p : List Clause). (outcome_of p state).took) (sym change.change) ∙ took))
     by_outcome (puts guard after put outcome) =
         acts_put state entry same change guard (ap (λ (p : List Clause). (outcome_of p state).took) change.change ∙ ap (λ (o : Outcome). o.took) outcome)

@@ -26,7 +26,8 @@ use Rattle.cas_session.specs.declared.attempts.Ending.{Ending}
 use Rattle.cas_session.specs.declared.attempts.Ending.TheVariants.{Ends, Again}
 use Rattle.cas_session.specs.Calls.{Call}
 use Rattle.cas_session.specs.Request.{Request, decided, reply_to, guard_for, change_to, one_clause}
-use Rattle.cas_session.specs.Serving.{is_done, ends_by, ends_with, without_memory, reads, proposes, AttemptGoesOn, finds_no_memory, finds_no_session, finds_answer, changes, Attempts, has_no_memory, reads_nothing, reads_state, ServesRequest, is_answered, is_tired, tries_again}
+use Rattle.cas_session.specs.Serving.{is_done, ends_by, ends_with, without_memory, reads, proposes, AttemptGoesOn, finds_no_memory, finds_no_session}
+use Rattle.cas_session.specs.Serving.{finds_answer, changes, Attempts, has_no_memory, reads_nothing, reads_state, ServesRequest, is_answered, is_tired, tries_again}
 use Rattle.cas_session_laws.specs.Laws.{MayPut, IsDoneOn, done_on, no_memory, RequestIsDoneOrNoMemory, was_done, has_none}
 use Rattle.cas_session_laws.proofs.Steps.{stands_once, outcome_held}
 
@@ -42,7 +43,8 @@ may_put (Held version body) text may =
     ap (λ b. (outcome_by 0 (Held version body) (cond b (Some next) None)).took) (lt-ltb version (2 ^ 64 - 1) may)
 
 -- a change of the state that it was made for acts
-acts_on_own : (state : State) (contents : SessionContents) (text : List ℕ) → StandsFor state contents → MayPut state → (outcome_of (one_clause (guard_for state) (PutText text)) state).took ≡ ByClause 0
+acts_on_own : (state : State) (contents : SessionContents) (text : List ℕ) → StandsFor state contents → MayPut state
+    → (outcome_of (one_clause (guard_for state) (PutText text)) state).took ≡ ByClause 0
 acts_on_own state contents text s may = ap (λ (o : Outcome). o.took) (outcome_held state text state (own_guard state contents s)) ∙ may_put state text may
 
 pub record IsRequestOver (left : ℤ) (ending : Ending) : Type 0 where
@@ -53,7 +55,8 @@ pub record IsRequestOver (left : ℤ) (ending : Ending) : Type 0 where
 with_done : (left : ℤ) (state : State) (took : Took) (ballot : Ballot) (pending : Bool) → took ≡ ByClause 0 → ends_with left (answer.Done state took ballot) pending ≡ Ends (Done left true)
 with_done left state took ballot pending e = ap (λ (t : Took). ends_with left (answer.Done state t ballot) pending) e
 
-changed : (left : ℤ) (state : State) (program : List Clause) (told : Answer) (pending : Bool) → (outcome_of program state).took ≡ ByClause 0 → IsDoneOn state (record { program = program; answer = told })
+changed : (left : ℤ) (state : State) (program : List Clause) (told : Answer) (pending : Bool) → (outcome_of program state).took ≡ ByClause 0
+    → IsDoneOn state (record { program = program; answer = told })
     → IsRequestOver left (ends_with left told pending)
 changed left state program told pending took (done_on {ballot} e) =
     record {
@@ -68,7 +71,8 @@ changed left state program told pending took (no_memory {proposed} e) =
       done = has_none refl;
     }
 
-goes_on : (request : Request) (pending : Bool) (state : State) (contents : SessionContents) (left : ℤ) {more : List Call} {ending : Ending} → StandsFor state contents → MayPut state → decided request contents ≡ Proposes left
+goes_on : (request : Request) (pending : Bool) (state : State) (contents : SessionContents) (left : ℤ) {more : List Call} {ending : Ending}
+    → StandsFor state contents → MayPut state → decided request contents ≡ Proposes left
     → AttemptGoesOn request pending state more ending → ((front back : List Call) (call : Call) → more ≡ front ++ call ∷ back → IsDoneOn state call) → IsRequestOver left ending
 goes_on request pending state contents left s may d finds_no_memory each = record { told = Stopped (answer.NoMemory false) pending; ends = refl; done = has_none refl }
 goes_on request pending state contents left s may d (finds_no_session n) each = absurd (n contents s)
@@ -84,7 +88,8 @@ goes_on request pending state contents left s may d (changes other {left = l} {t
     subst (λ (v : ℤ). IsRequestOver v (ends_with l told pending)) value
     (changed l state program told pending (acts_on_own state contents (contents_text (after_reply (reply_to request l) other)) s may) (each [] [] (proposes program told) refl))
 
-tried : (request : Request) (pending : Bool) (state : State) (contents : SessionContents) (left : ℤ) {calls : List Call} {ending : Ending} → StandsFor state contents → MayPut state → decided request contents ≡ Proposes left
+tried : (request : Request) (pending : Bool) (state : State) (contents : SessionContents) (left : ℤ) {calls : List Call} {ending : Ending}
+    → StandsFor state contents → MayPut state → decided request contents ≡ Proposes left
     → Attempts request pending calls ending → ((front back : List Call) (call : Call) → calls ≡ front ++ call ∷ back → IsDoneOn state call) → IsRequestOver left ending
 tried request pending state contents left s may d has_no_memory each = record { told = Stopped (answer.NoMemory false) pending; ends = refl; done = has_none refl }
 tried request pending state contents left s may d (reads_nothing {told} n) each = by_call (each [] [] (reads told) refl)
@@ -103,7 +108,8 @@ tried request pending state contents left s may d (reads_state {state = seen} {t
         (λ front back call e2. each (reads (answer.Done seen took ballot) ∷ front) back call (ap (λ (cs : List Call). reads (answer.Done seen took ballot) ∷ cs) e2))
     by_call (no_memory e) = absurd (cc (e))
 
-pub undisturbed : (request : Request) (state : State) (contents : SessionContents) (left : ℤ) {tries : ℕ} {pending : Bool} {calls : List Call} {told : SessionAnswer} → StandsFor state contents → MayPut state
+pub undisturbed : (request : Request) (state : State) (contents : SessionContents) (left : ℤ) {tries : ℕ} {pending : Bool} {calls : List Call} {told : SessionAnswer}
+    → StandsFor state contents → MayPut state
     → decided request contents ≡ Proposes left → ServesRequest request tries pending calls told
     → ((front back : List Call) (call : Call) → calls ≡ front ++ call ∷ back → IsDoneOn state call) → RequestIsDoneOrNoMemory left told
 undisturbed request state contents left s may d (is_answered {pending = pending} {told = told} a) each =
@@ -114,5 +120,6 @@ undisturbed request state contents left s may d (is_tired {pending = pending} a)
     let over = tried request pending state contents left s may d a each in
     absurd (cc (over.ends))
 undisturbed request state contents left s may d (tries_again {pending = pending} {calls = calls} {more = more} a rest) each =
-    let over = tried request pending state contents left s may d a (λ front back call e. each front (back ++ more) call (ap (λ (cs : List Call). cs ++ more) e ∙ append_assoc front (call ∷ back) more)) in
+    let over = tried request pending state contents left s may d a (λ front back call e. each front (back ++ more) call
+    (ap (λ (cs : List Call). cs ++ more) e ∙ append_assoc front (call ∷ back) more)) in
     absurd (cc (over.ends))
