@@ -96,7 +96,7 @@ refused_well ballot world id told room (refusals.no_memory fits) = tt
 pub lines_are_done : {S V : Type 0} (m : Meaning S V) → ReadyLinesAreDone m
 lines_are_done {S} {V} m tries old new asked told safe ready runs up =
     in_change (subst (λ (h : Halt). IsChangeByRules m tries old.rules asked.caller asked.key asked.program h old.world told runs.after new.world)
-        (at_one old.halts asked.caller runs.at_halt ready.goes_on)
+    (at_one old.halts asked.caller runs.at_halt ready.goes_on)
     (change_by m tries old.rules _ asked.caller asked.key asked.program runs.halt runs.after old.world new.world told runs.change))
   where
     ballot : Ballot
